@@ -7,13 +7,14 @@ use Rattle.value_store.specs.Labels.{member_name}
 use Rattle.value_text.specs.LineParts.{LeadsBy, here, further}
 use Rattle.value_text.specs.PathText.{field_step}
 use Rattle.value_text.specs.PathText as line
-use Rattle.value_text.specs.SmallParts.{HasFewMembers, HaveFewMembers}
+use Rattle.value_text.specs.SmallParts.{HasFewMembers}
 use Rattle.command_words.specs.declared.path.Step.{Step}
 use Rattle.command_words.specs.declared.path.Step.TheVariants.{Field, Place, Element}
 use Rattle.command_words.specs.Paths.{PathStep, ToField, ToNameless, ToElement, step_of, steps_of, IsName, IsStep, AreSteps, step_text, steps_text, path_text, IsPath}
 use Rattle.command_words.proofs.PatternTexts.{one_path}
 use Rattle.poke_batch.specs.PathParts.{is_array, is_named, place_named, member_there, step_to, part_from, part_of}
-use Rattle.poke_batch.specs.PathLaws.{HasClearNames, HasClearPaths, HaveClearPaths, PathsLeadToParts}
+use Rattle.poke_batch.specs.PathLaws.{HasClearNames, HasClearPaths, PathsLeadToParts}
+use Rattle.poke_batch.proofs.AllMembers.{clear_each, few_each, member_has}
 use Rattle.poke_batch.proofs.PartsFound.{found_there, found_later}
 
 -- ---- the step to a member
@@ -123,28 +124,8 @@ record Reading (text : List ℕ) : Type 0 where
   are : AreSteps steps
   is : steps_text steps ≡ text
 
-member_clear : (members : Members) (place : ℕ) (part : Value) → HaveClearPaths members → member_at members place ≡ Some part → HasClearPaths part
-member_clear NoMembers place part h e = cc
-member_clear (MemberThen value rest) zero part h e = let same : value ≡ part = cc in subst HasClearPaths same h.0
-member_clear (MemberThen value rest) (suc place) part h e = member_clear rest place part h.1 e
-member_clear (AbsentThen rest) zero part h e = cc
-member_clear (AbsentThen rest) (suc place) part h e = member_clear rest place part h e
-
-part_clear : (value : Value) (place : ℕ) (part : Value) → HasClearPaths value → member_at (members_of value) place ≡ Some part → HasClearPaths part
-part_clear (Mapped label start end members) place part h e = member_clear members place part h.1 e
-
 names_clear : (value : Value) → HasClearPaths value → HasClearNames (label_of value)
 names_clear (Mapped label start end parts) h = h.0
-
-member_few : (members : Members) (place : ℕ) (part : Value) → HaveFewMembers members → member_at members place ≡ Some part → HasFewMembers part
-member_few NoMembers place part h e = cc
-member_few (MemberThen value rest) zero part h e = let same : value ≡ part = cc in subst HasFewMembers same h.0
-member_few (MemberThen value rest) (suc place) part h e = member_few rest place part h.1 e
-member_few (AbsentThen rest) zero part h e = cc
-member_few (AbsentThen rest) (suc place) part h e = member_few rest place part h e
-
-part_few : (value : Value) (place : ℕ) (part : Value) → HasFewMembers value → member_at (members_of value) place ≡ Some part → HasFewMembers part
-part_few (Mapped label start end members) place part h e = member_few members place part h.1 e
 
 count_few : (value : Value) → HasFewMembers value → member_count (members_of value) < 2 ^ 64
 count_few (Mapped label start end parts) h = h.0
@@ -155,7 +136,7 @@ steps_read {value} clear few (further {part = part} {steps = steps} place parted
     let label = label_of value in
     let names = names_clear value clear in
     let small : place < 2 ^ 64 = omega (arith, member_inside (members_of value) place part at, count_few value few) in
-    let more = steps_read (part_clear value place part clear at) (part_few value place part few at) rest in
+    let more = steps_read (member_has clear_each value part place clear at) (member_has few_each value part place few at) rest in
     record {
       steps = step_at label place ∷ more.steps;
       are = (is_step (is_array label) (member_name label place) place (λ word e. names.words place word e) small, more.are);
@@ -180,7 +161,7 @@ steps_lead clear few here (step ∷ read) e = absurd (no_step e)
 steps_lead clear few (further place parted at rest) [] e = absurd (no_step (sym e))
 steps_lead {value} {found} clear few (further {part = part} place parted at rest) (step ∷ read) e =
     ap (part_from read) (leads_there step value part place (names_clear value clear) at (head_same e))
-    ∙ steps_lead (part_clear value place part clear at) (part_few value place part few at) rest read (tail_same e)
+    ∙ steps_lead (member_has clear_each value part place clear at) (member_has few_each value part place few at) rest read (tail_same e)
 
 -- ---- the whole path
 

@@ -1,7 +1,6 @@
 -- The fields of a type of a pickle have names that differ, and each name is a word.
 use Rattle.std.proofs.Common.{◌≡◌, ℕ, zero, suc, ◌+◌, inl, inr, Bool, true, false, List, [], ◌∷◌, ◌++◌, Option, Some, None, refl, sym, ap, subst, arith}
 use Rattle.std.specs.Prelude.{slice_get}
-use Rattle.std.specs.Str.{bytes_eq}
 use Rattle.std.proofs.lemmas.Bool.{cases_Bool}
 use Rattle.std.proofs.lemmas.Slice.Eq.{bytes_eq-Decides}
 use Rattle.pickle_tree.specs.Tree.{TreeReference, FieldParts, FormTree, FieldTrees, DeclarationTree}
@@ -16,6 +15,7 @@ use Rattle.pickle_meaning.specs.Values.{Naming}
 use Rattle.pickle_meaning.specs.Means.{field_names, part_names}
 use Rattle.run_parts.specs.Accepted.{IsAccepted}
 use Rattle.command_words.specs.Paths.{IsName}
+use Rattle.poke_batch.proofs.NamedTypes.{OfEach, found_is, one_more_is}
 use Rattle.poke_batch.proofs.SmallTypes.{IsWord, HasNames, HaveNames, DeclareNames, accepted_names}
 
 -- ---- names
@@ -99,24 +99,6 @@ abbrev mutual
   AreClearTypes NoParts = Unit {0}
   AreClearTypes (PartThen name order type constraint rest) = IsClearType type × AreClearTypes rest
 
-abbrev AreClearNames : Names → Type 0
-AreClearNames [] = Unit {0}
-AreClearNames (d ∷ ds) = IsClearType d.1 × AreClearNames ds
-
-found_clear : (word : List ℕ) (names : Names) (t : PokeType) → AreClearNames names → find_type word names ≡ Some t → IsClearType t
-found_clear word [] t h e = cc
-found_clear word (d ∷ ds) t h e = elim (cases_Bool (bytes_eq word d.0)) [
-  | inl hit ↦ (let is : Some d.1 ≡ Some t = rw hit at e in subst IsClearType (some_same d.1 t is) h.0)
-  | inr miss ↦ found_clear word ds t h.1 (rw miss at e)
-]
-  where
-    some_same : (x y : PokeType) → Some x ≡ Some y → x ≡ y
-    some_same x y e = cc
-
-one_more_clear : (names : Names) (word : List ℕ) (t : PokeType) → AreClearNames names → IsClearType t → AreClearNames (names ++ (word, t) ∷ [])
-one_more_clear [] word t h clear = (clear, tt)
-one_more_clear (d ∷ ds) word t h clear = (h.0, one_more_clear ds word t h.1 clear)
-
 -- ---- what forms mean
 
 -- a name that was before isn't among the names of the fields
@@ -174,11 +156,11 @@ parts_types : (fields : Fields) → AreClearFields fields → AreClearTypes (par
 parts_types NoFields h = tt
 parts_types (FieldThen name order type constraint label condition rest) h = (h.0, parts_types rest h.1)
 
-module _ (names : Names) (clear : AreClearNames names) where
+module _ (names : Names) (clear : OfEach IsClearType names) where
   refers_clear : (r : TreeReference) (t : PokeType) → Refers names r t → IsClearType t
   refers_clear _ _ (Refers.signed some most) = tt
   refers_clear _ _ (Refers.unsigned some most) = tt
-  refers_clear _ _ (Refers.called {word} {t} is) = found_clear word names t clear is
+  refers_clear _ _ (Refers.called {word} {t} is) = found_is IsClearType word names t clear is
 
   mutual
     form_clear : (seen : List Visible) (levels : ℕ) (title : Option (List ℕ)) (form : FormTree) (t : PokeType) → HasNames form → Means names seen levels title form t → IsClearType t
@@ -198,15 +180,15 @@ module _ (names : Names) (clear : AreClearNames names) where
     fields_clear here seen levels before _ _ named (FieldsMean.field {form = form} {rest = rest} {t = t} {fs = fs} is stands fresh label condition constraint are) =
         (form_clear seen (levels + 1) None form t named.1 is, fields_clear here _ levels _ rest fs named.2 are)
 
-declared_clear : (names : Names) (ds : List DeclarationTree) (all : Names) → AreClearNames names → DeclareNames ds → Declares names ds all → AreClearNames all
+declared_clear : (names : Names) (ds : List DeclarationTree) (all : Names) → OfEach IsClearType names → DeclareNames ds → Declares names ds all → OfEach IsClearType all
 declared_clear names _ _ clear named Declares.none = clear
 declared_clear names _ all clear named (Declares.more {d = d} {ds = ds} {t = t} fresh is deep rest) =
-    declared_clear (names ++ (d.name, t) ∷ []) ds all (one_more_clear names d.name t clear (form_clear names clear [] 0 (Some d.name) d.form t named.0 is)) named.1 rest
+    declared_clear (names ++ (d.name, t) ∷ []) ds all (one_more_is IsClearType names d.name t clear (form_clear names clear [] 0 (Some d.name) d.form t named.0 is)) named.1 rest
 
-predeclared_clear : AreClearNames predeclared
+predeclared_clear : OfEach IsClearType predeclared
 predeclared_clear = search (arith)
 
 -- each type of an accepted pickle has clear names
 pub accepted_clear : (pickle : List ℕ) (declarations : List DeclarationTree) (types : Names) (name : List ℕ) (type : PokeType) → IsAccepted pickle declarations types → find_type name types ≡ Some type → IsClearType type
 accepted_clear pickle declarations types name type accepted found =
-    found_clear name types type (declared_clear predeclared declarations types predeclared_clear (accepted_names pickle declarations types accepted) accepted.declares) found
+    found_is IsClearType name types type (declared_clear predeclared declarations types predeclared_clear (accepted_names pickle declarations types accepted) accepted.declares) found

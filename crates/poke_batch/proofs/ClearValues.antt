@@ -1,12 +1,13 @@
 -- The values that fit types with clear names have clear names.
-use Rattle.std.proofs.Common.{◌≡◌, ℕ, zero, suc, ◌+◌, inl, inr, Bool, List, [], ◌∷◌, ◌++◌, Option, Some, None, refl, sym, subst}
+use Rattle.std.proofs.Common.{◌≡◌, ℕ, zero, suc, ◌+◌, inl, inr, Bool, List, Option, Some, None, refl, sym, subst}
 use Rattle.std.specs.Prelude.{slice_get, unwrap_or}
 use Rattle.pickle_types.specs.Types.{PokeType, IntegerOf, OffsetOf, StringOf, ArrayOf, StructOf, IntegralOf, UnionOf, Fields, NoFields, FieldThen, Parts, NoParts, PartThen}
 use Rattle.pickle_meaning.specs.Values.{Naming, Label, ArrayLabel, StructLabel, UnionLabel, Value, Levels, pushed, opened, top_of, gathered}
 use Rattle.pickle_meaning.specs.Means.{field_names, part_names, Taken}
-use Rattle.pickle_meaning.specs.Fits.{ElementsFit, no_more_fit, one_more_fits, FitsNumber, DigitsFit, Fits, FieldsFit, AlternativeFits}
+use Rattle.pickle_meaning.specs.Fits.{FitsNumber, DigitsFit, Fits, FieldsFit, AlternativeFits}
 use Rattle.value_store.specs.Labels.{member_name, only_name}
 use Rattle.poke_batch.specs.PathLaws.{HasClearNames, HasClearPaths, HaveClearPaths, MappedPathsAreClear, MappedMembersAreFew}
+use Rattle.poke_batch.proofs.AllMembers.{clear_each, some_pushed, none_pushed, elements_have}
 use Rattle.poke_batch.proofs.SmallTypes.{IsWord, accepted_small}
 use Rattle.poke_batch.proofs.FewMembers.{value_few}
 use Rattle.poke_batch.proofs.ClearTypes.{AreWords, AreClear, IsClearType, AreClearFields, AreClearTypes, one_place, word_there, accepted_clear}
@@ -53,29 +54,6 @@ union_names name index alternative is = record {
 abbrev HasClearTop : Levels → Type 0
 HasClearTop levels = HaveClearPaths (gathered (top_of levels))
 
-some_gathered : (top : List (Option Value)) (v : Value) → HaveClearPaths (gathered top) → HasClearPaths v → HaveClearPaths (gathered (top ++ Some v ∷ []))
-some_gathered [] v h clear = (clear, tt)
-some_gathered (None ∷ top) v h clear = some_gathered top v h clear
-some_gathered (Some u ∷ top) v h clear = (h.0, some_gathered top v h.1 clear)
-
-none_gathered : (top : List (Option Value)) → HaveClearPaths (gathered top) → HaveClearPaths (gathered (top ++ None ∷ []))
-none_gathered [] h = tt
-none_gathered (None ∷ top) h = none_gathered top h
-none_gathered (Some u ∷ top) h = (h.0, none_gathered top h.1)
-
-some_pushed : (levels : Levels) (v : Value) → HasClearTop levels → HasClearPaths v → HasClearTop (pushed levels (Some v))
-some_pushed [] v h clear = (clear, tt)
-some_pushed (top ∷ outer) v h clear = some_gathered top v h clear
-
-none_pushed : (levels : Levels) → HasClearTop levels → HasClearTop (pushed levels None)
-none_pushed [] h = tt
-none_pushed (top ∷ outer) h = none_gathered top h
-
-elements_clear : (Fit : Levels → ℕ → Value → Type 0) → ((levels : Levels) (at : ℕ) (v : Value) → Fit levels at v → HasClearPaths v)
-    → {inside : Levels} {end n : ℕ} {levels : Levels} {place i : ℕ} → ElementsFit Fit inside end n levels place i → HasClearTop levels → HasClearTop inside
-elements_clear Fit each no_more_fit h = h
-elements_clear Fit each {levels = levels} {place = place} (one_more_fits v fit lt rest) h = elements_clear Fit each rest (some_pushed levels v h (each levels place v fit))
-
 -- ---- the types
 
 mutual
@@ -95,7 +73,7 @@ mutual
   digits_clear : (parts : Parts) (levels : Levels) (s : ℕ) (inside : Levels) → AreClearTypes parts → HasClearTop levels → DigitsFit parts levels s inside → HasClearTop inside
   digits_clear NoParts levels s inside clear top h = subst HasClearTop (sym h) top
   digits_clear (PartThen name order ty c rest) levels s inside clear top h =
-      digits_clear rest (pushed levels (Some h.0)) s inside clear.1 (some_pushed levels h.0 top (number_clear ty levels s h.0 clear.0 h.1)) h.3
+      digits_clear rest (pushed levels (Some h.0)) s inside clear.1 (some_pushed clear_each levels h.0 top (number_clear ty levels s h.0 clear.0 h.1)) h.3
 
 mutual
   unfolding Fits
@@ -106,7 +84,7 @@ mutual
   value_clear m StringOf levels s v clear h = let is = h.2 in rw is (bare_names _ (λ i. refl), tt)
   value_clear m (ArrayOf element bound) levels s v clear h =
       let is = h.8 in
-      rw is (bare_names ArrayLabel (λ i. refl), elements_clear (Fits m element) (λ l at u fit. value_clear m element l at u clear fit) h.5 tt)
+      rw is (bare_names ArrayLabel (λ i. refl), elements_have clear_each (Fits m element) (λ l at u fit. value_clear m element l at u clear fit) h.5 tt)
   value_clear m (StructOf name pinned fields) levels s v clear h =
       let is = h.4 in
       rw is (struct_names name (field_names fields) clear.0, fields_clear m pinned s fields (opened levels) s s h.0 h.1 clear.1 tt h.2)
@@ -120,9 +98,9 @@ mutual
       → FieldsFit m pinned s fields levels behind top inside end → HasClearTop inside
   fields_clear m pinned s NoFields levels behind top inside end clear before h = subst HasClearTop (sym h.0) before
   fields_clear m pinned s (FieldThen name order ty c label when rest) levels behind top inside end clear before (inl h) =
-      fields_clear m pinned s rest (pushed levels None) behind top inside end clear.1 (none_pushed levels before) h.1
+      fields_clear m pinned s rest (pushed levels None) behind top inside end clear.1 (none_pushed clear_each levels before) h.1
   fields_clear m pinned s (FieldThen name order ty c label when rest) levels behind top inside end clear before (inr h) =
-      fields_clear m pinned s rest (pushed levels (Some h.4)) _ _ inside end clear.1 (some_pushed levels h.4 before (value_clear m ty levels h.1 h.4 clear.0 h.5)) h.7
+      fields_clear m pinned s rest (pushed levels (Some h.4)) _ _ inside end clear.1 (some_pushed clear_each levels h.4 before (value_clear m ty levels h.1 h.4 clear.0 h.5)) h.7
 
   alternative_clear : (m : ℕ) (parts : Parts) (index : ℕ) (levels : Levels) (s : ℕ) (t : Taken) → AreWords (part_names parts) → AreClearTypes parts → AlternativeFits m parts index levels s t
       → IsWord t.name × HasClearPaths t.value

@@ -1,5 +1,7 @@
 pub mod FileLines
 pub mod FileObjects
+pub mod AllMembers
+pub mod NamedTypes
 pub mod SmallTypes
 pub mod SmallValues
 pub mod FewMembers
@@ -13,6 +15,8 @@ pub mod Mappings
 pub mod UnderTerms
 pub mod PartsFound
 pub mod PartsKept
+pub mod PartTexts
+pub mod Items
 pub mod SelectedLaws
 pub mod SelectedTexts
 mod Refused

@@ -1,5 +1,5 @@
 -- The objects of files read back.
-use Rattle.std.proofs.Common.{◌≡◌, ℕ, suc, pos, ◌+◌, ◌-◌, ◌*◌, ◌/◌, ◌%◌, ◌^◌, ◌<◌, ◌≤◌, Bool, true, false, List, [], ◌∷◌, ◌++◌, Option, Some, None, Ok, take, length, length-append, refl, sym, ◌∙◌, ap, subst, inl, inr, arith}
+use Rattle.std.proofs.Common.{◌≡◌, ℕ, pos, ◌-◌, ◌*◌, ◌/◌, ◌%◌, ◌^◌, ◌<◌, Bool, true, false, List, [], ◌∷◌, ◌++◌, Some, None, Ok, take, length, length-append, refl, sym, ◌∙◌, ap, subst, inl, inr, arith}
 use Rattle.std.specs.Prelude.{◌==◌, nat_lt, if◌then◌else◌, codes}
 use Rattle.std.specs.Fmt.{digits}
 use Rattle.std.specs.Io.KnownBytes.{Appends}
@@ -44,9 +44,9 @@ use Rattle.poke_batch.specs.ObjectLaws.{strings_of, why_entries, done_object, Do
 use Rattle.poke_batch.specs.PathParts.{part_at}
 use Rattle.poke_batch.specs.RunLaws.{part_json}
 use Rattle.poke_batch.specs.Runs.{IsAsked, HasAnswer}
-use Rattle.poke_batch.specs.RunsUnder.{MapsUnder, requested, part_text}
-use Rattle.poke_batch.specs.Selected.{text_in, selected_text}
-use Rattle.poke_batch.proofs.RunLaws.{parts_small, type_small, part_small, part_few, part_node, under_said}
+use Rattle.poke_batch.specs.RunsUnder.{MapsUnder, part_text}
+use Rattle.poke_batch.proofs.RunLaws.{parts_small, type_small, part_small, part_few, under_said}
+use Rattle.poke_batch.proofs.PartTexts.{part_node, json_part}
 use Rattle.poke_batch.proofs.FewMembers.{value_few}
 
 -- ---- bytes
@@ -224,7 +224,7 @@ module _ (pickle : List ℕ) (ask : Ask) (terms : Terms) (before : SpaceView) (k
     fits = fits;
     part = part;
     found = found;
-    reads = subst (λ t. Reads (file_object name kept.outcome t reasons) object_is) (sym (h ∙ same))
+    reads = subst (λ t. Reads (file_object name kept.outcome t reasons) object_is) (sym (h ∙ json_part table id ask terms mapped part json_mode none all))
         (subst (λ o. Reads (file_object name o (text ++ codes "\n") reasons) object_is) (sym done)
         (object_reads name text reasons (part_json table id terms mapped part) n r
         (styled_text_reads (nodes_of table) (char_node_of table) (part_node table id terms mapped) terms.style part (part_small terms.part mapped part small found) (part_few terms.part mapped part few found))));
@@ -235,12 +235,6 @@ module _ (pickle : List ℕ) (ask : Ask) (terms : Terms) (before : SpaceView) (k
 
       text : List ℕ
       text = styled_json terms.style (with_chars terms.style.chars (nodes_of table) (char_node_of table) (part_node table id terms mapped) part)
-
-      same : part_text table id ask terms mapped part ≡ text_in None terms.style Json (nodes_of table) (char_node_of table) (part_node table id terms mapped) part
-      same =
-          ap (λ selection. selected_text (nodes_of table) (char_node_of table) terms.look terms.style ask.mode selection (requested table id terms mapped part)) all
-          ∙ ap (λ look. text_in look terms.style ask.mode (nodes_of table) (char_node_of table) (part_node table id terms mapped) part) none
-          ∙ ap (λ m. text_in None terms.style m (nodes_of table) (char_node_of table) (part_node table id terms mapped) part) json_mode
 
       small : HasSmallParts mapped
       small = parts_small pickle ask.name.now (8 * before.len) type no_values ask.start mapped asked fits

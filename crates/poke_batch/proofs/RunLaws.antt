@@ -1,12 +1,17 @@
 -- The laws of what runs write.
-use Rattle.std.proofs.Common.{◌≡◌, ◌*◌, ◌^◌, ◌<◌, ℕ, zero, suc, Bool, true, false, List, Option, Some, None, Ok, length, codes, inl, inr, refl, sym, ap, ◌∙◌, subst, arith}
+use Rattle.std.proofs.Common.{◌≡◌, ◌*◌, ◌^◌, ◌<◌, ℕ, Bool, true, false, List, Option, Some, None, Ok, length, codes, inl, inr, refl, sym, ap, ◌∙◌, subst, arith}
 use Rattle.std.specs.Prelude.{nat_le, if◌then◌else◌}
 use Rattle.std.specs.Io.KnownBytes.{Appends}
 use Rattle.bit_space.specs.SpaceView.{SpaceView}
 use Rattle.pickle_types.specs.Types.{PokeType}
 use Rattle.pickle_meaning.specs.Fits.{Fits}
-use Rattle.pickle_meaning.specs.Values.{Value, Mapped, Members, NoMembers, MemberThen, AbsentThen, member_at, members_of, end_of, no_values}
+use Rattle.pickle_meaning.specs.Values.{Value, end_of, no_values}
+use Rattle.run_parts.specs.declared.accept.Refusal.{Refusal}
 use Rattle.run_parts.specs.declared.accept.Refusal.TheVariants as refusal
+use Rattle.run_parts.specs.declared.outcome.Outcome.TheVariants as outcome
+use Rattle.run_parts.specs.Accepted.{refusal_saying}
+use Rattle.run_parts.specs.Outcomes.{status_said}
+use Rattle.run_parts.proofs.Sayings.{outcome_lines}
 use Rattle.command_words.specs.declared.ask.Ask.{Ask}
 use Rattle.text_forms.specs.declared.mode.Mode.TheVariants.{Json}
 use Rattle.command_words.specs.declared.path.Path.{Path}
@@ -16,23 +21,23 @@ use Rattle.command_words.specs.declared.terms.Terms.{Terms}
 use Rattle.value_text.specs.Json.{Reads}
 use Rattle.value_text.specs.JsonValue.{json_of}
 use Rattle.run_parts.specs.Lines.{fault_line, fault_at_line}
-use Rattle.poke_batch.specs.PathParts.{part_at, node_at}
+use Rattle.poke_batch.specs.PathParts.{part_at}
 use Rattle.value_text.specs.Printed.{printed}
 use Rattle.poke_batch.specs.RunLaws.{MappedPartsAreSmall, part_json, WritesJson, WritesStyledJson, MappedJsonReadsBack, PartJsonReadsBack, StyledPartJsonReadsBack}
 use Rattle.poke_batch.specs.Runs.{IsAsked, HasAnswer, MapsAs, value, stops, device, unknown, refused_map, no_memory}
-use Rattle.poke_batch.specs.Selected.{text_in, selected_text}
-use Rattle.poke_batch.specs.RunsUnder.{text_saying, is_left, part_saying, requested, part_text, part_has, kept_saying, value_saying, MapsUnder, mapped_under, ended_under, slots_under}
-use Rattle.value_text.specs.SmallParts.{HasSmallParts, AreSmallParts, HasFewMembers, HaveFewMembers}
+use Rattle.poke_batch.specs.RunsUnder.{text_saying, is_left, part_saying, part_text, part_has, kept_saying, value_saying, MapsUnder, mapped_under, ended_under, slots_under}
+use Rattle.value_text.specs.SmallParts.{HasSmallParts, HasFewMembers}
 use Rattle.run_parts.specs.Told.{Saying, Text, Line, IsSaid, IsTold, IsWritten}
 use Rattle.value_text.proofs.JsonValues.{json_reads_back}
 use Rattle.value_text.proofs.StyledJsonValues.{styled_json_reads_back}
-use Rattle.value_text.proofs.PlainTexts.{prints_plain}
 use Rattle.text_forms.specs.Styles.{plain}
 use Rattle.pickle_types.specs.declared.table.Table.{Table}
 use Rattle.pickle_types.specs.declared.table.TypeId.{TypeId}
 use Rattle.pickle_types.specs.NodeParts.{char_node_of}
 use Rattle.pickle_types.specs.TypeTable.{nodes_of, type_named}
-use Rattle.poke_batch.proofs.PartsKept.{same_value, part_keeps}
+use Rattle.poke_batch.proofs.AllMembers.{few_each, small_each, member_has}
+use Rattle.poke_batch.proofs.PartsKept.{part_keeps}
+use Rattle.poke_batch.proofs.PartTexts.{part_node, plain_part, json_part}
 use Rattle.poke_batch.proofs.SmallTypes.{IsSmallType, accepted_small}
 use Rattle.poke_batch.proofs.SmallValues.{value_small}
 use Rattle.poke_batch.proofs.FewMembers.{value_few}
@@ -42,18 +47,6 @@ type_small pickle name type asked = accepted_small pickle asked.declarations ask
 
 pub parts_small : MappedPartsAreSmall
 parts_small pickle name m type levels start mapped asked fits = value_small m type levels start mapped (type_small pickle name type asked) fits
-
--- the node of the type of the requested part
-abbrev pub part_node : Table → TypeId → Terms → (mapped : Value) → Option ℕ
-part_node table id terms mapped = node_at (nodes_of table) terms.part (Some id.node) mapped
-
--- in the plain style a part is printed as without a style
-pub plain_part : (table : Table) (id : TypeId) (ask : Ask) (terms : Terms) (whole part : Value) → terms.style ≡ plain → terms.look ≡ None → terms.selection ≡ None → part_text table id ask terms whole part ≡ printed ask.mode part
-plain_part table id ask terms whole part e none all =
-    ap (λ selection. selected_text (nodes_of table) (char_node_of table) terms.look terms.style ask.mode selection (requested table id terms whole part)) all
-    ∙ ap (λ look. text_in look terms.style ask.mode (nodes_of table) (char_node_of table) (node_at (nodes_of table) terms.part (Some id.node) whole) part) none
-    ∙ ap (λ style. text_in None style ask.mode (nodes_of table) (char_node_of table) (node_at (nodes_of table) terms.part (Some id.node) whole) part) e
-    ∙ prints_plain (nodes_of table) (char_node_of table) (node_at (nodes_of table) terms.part (Some id.node) whole) ask.mode part
 
 not_outside : {status : Status} → status ≡ Done → status ≡ Outside → ⊥
 not_outside done outside = cc
@@ -67,31 +60,20 @@ nothing_told : (line_status : Status) (line : List ℕ) (status : Status) (err e
 nothing_told line_status line status err err' done (inl h) = cc
 nothing_told line_status line status err err' done (inr h) = absurd (not_outside done h.0)
 
-member_small : (members : Members) (place : ℕ) (part : Value) → AreSmallParts members → member_at members place ≡ Some part → HasSmallParts part
-member_small NoMembers place part h e = cc
-member_small (MemberThen v rest) zero part h e = subst HasSmallParts (same_value v part e) h.0
-member_small (MemberThen v rest) (suc place) part h e = member_small rest place part h.1 e
-member_small (AbsentThen rest) zero part h e = cc
-member_small (AbsentThen rest) (suc place) part h e = member_small rest place part h e
-
 pub part_small : (path : Option Path) (whole part : Value) → HasSmallParts whole → part_at path whole ≡ Some part → HasSmallParts part
-part_small = part_keeps HasSmallParts one
-  where
-    one : (whole part : Value) (place : ℕ) → HasSmallParts whole → member_at (members_of whole) place ≡ Some part → HasSmallParts part
-    one (Mapped label start end members) part place h e = member_small members place part h.1 e
-
-member_few : (members : Members) (place : ℕ) (part : Value) → HaveFewMembers members → member_at members place ≡ Some part → HasFewMembers part
-member_few NoMembers place part h e = cc
-member_few (MemberThen v rest) zero part h e = subst HasFewMembers (same_value v part e) h.0
-member_few (MemberThen v rest) (suc place) part h e = member_few rest place part h.1 e
-member_few (AbsentThen rest) zero part h e = cc
-member_few (AbsentThen rest) (suc place) part h e = member_few rest place part h e
+part_small = part_keeps HasSmallParts (member_has small_each)
 
 pub part_few : (path : Option Path) (whole part : Value) → HasFewMembers whole → part_at path whole ≡ Some part → HasFewMembers part
-part_few = part_keeps HasFewMembers one
-  where
-    one : (whole part : Value) (place : ℕ) → HasFewMembers whole → member_at (members_of whole) place ≡ Some part → HasFewMembers part
-    one (Mapped label start end members) part place h e = member_few members place part h.1 e
+part_few = part_keeps HasFewMembers (member_has few_each)
+
+-- no refusal has the exit status of a run that is done
+refusal_ends : (why : Refusal) → status_said (refusal_saying why) ≡ Done → ⊥
+refusal_ends (refusal.Tokens kind at) e = cc
+refusal_ends (refusal.Syntax at) e = cc
+refusal_ends refusal.TooDeep e = cc
+refusal_ends refusal.TooMany e = cc
+refusal_ends (refusal.Types kind declaration) e = cc
+refusal_ends refusal.Memory e = cc
 
 module _ (pickle : List ℕ) (ask : Ask) (before : SpaceView) (status : Status) (out out' err err' : Option (List ℕ)) (done : status ≡ Done) where
   abbrev pub IsSaidHere : Saying → Type 0
@@ -140,12 +122,7 @@ module _ (pickle : List ℕ) (ask : Ask) (before : SpaceView) (status : Status) 
   line_is after _ (stops asked a b c run d) line_status line is e = cc
   line_is after _ (device asked a) line_status line is e = cc
   line_is after _ (unknown a b) line_status line is e = cc
-  line_is after _ (refused_map {refusal = refusal.Tokens kind at} a) line_status line is e = cc
-  line_is after _ (refused_map {refusal = refusal.Syntax at} a) line_status line is e = cc
-  line_is after _ (refused_map {refusal = refusal.TooDeep} a) line_status line is e = cc
-  line_is after _ (refused_map {refusal = refusal.TooMany} a) line_status line is e = cc
-  line_is after _ (refused_map {refusal = refusal.Types kind declaration} a) line_status line is e = cc
-  line_is after _ (refused_map {refusal = refusal.Memory} a) line_status line is e = cc
+  line_is after _ (refused_map {refusal = why} a) line_status line is e = refusal_ends why (ap status_said is ∙ e)
   line_is after _ no_memory line_status line is e = cc
 
   -- what follows from each text of a part that is written under terms follows from what is said
@@ -183,12 +160,7 @@ module _ (pickle : List ℕ) (ask : Ask) (before : SpaceView) (status : Status) 
     json_written after saying (stops asked a b c run d) h = no_line Fault _ (λ e. cc) h
     json_written after saying (device asked a) h = no_line Outside _ (λ e. cc) h
     json_written after saying (unknown a b) h = no_line Refused _ (λ e. cc) h
-    json_written after saying (refused_map {refusal = refusal.Tokens kind at} a) h = no_line Refused _ (λ e. cc) h
-    json_written after saying (refused_map {refusal = refusal.Syntax at} a) h = no_line Refused _ (λ e. cc) h
-    json_written after saying (refused_map {refusal = refusal.TooDeep} a) h = no_line Refused _ (λ e. cc) h
-    json_written after saying (refused_map {refusal = refusal.TooMany} a) h = no_line Refused _ (λ e. cc) h
-    json_written after saying (refused_map {refusal = refusal.Types kind declaration} a) h = no_line Refused _ (λ e. cc) h
-    json_written after saying (refused_map {refusal = refusal.Memory} a) h = no_line Outside _ (λ e. cc) h
+    json_written after saying (refused_map {refusal = why} a) h = no_line (status_said (refusal_saying why)) _ (refusal_ends why) (subst IsSaidHere (outcome_lines (outcome.Refused why)) h)
     json_written after saying no_memory h = no_line Outside _ (λ e. cc) h
 
     plain_written : (terms : Terms) → terms.style ≡ plain → terms.look ≡ None → terms.selection ≡ None → (table : Table) (id : TypeId) (type : PokeType) (mapped : Value) → type_named table id ≡ type → IsAsked pickle ask.name.now type → IsMeant type mapped
@@ -213,16 +185,10 @@ module _ (pickle : List ℕ) (ask : Ask) (before : SpaceView) (status : Status) 
       found = found;
       text = part_text table id ask terms mapped part;
       written = h;
-      reads = subst (λ text. Reads text (part_json table id terms mapped part)) (sym same)
+      reads = subst (λ text. Reads text (part_json table id terms mapped part)) (sym (json_part table id ask terms mapped part mode none all))
           (styled_json_reads_back (nodes_of table) (char_node_of table) (part_node table id terms mapped) terms.style part (part_small terms.part mapped part small found) (part_few terms.part mapped part few found));
     }
       where
-        same : part_text table id ask terms mapped part ≡ text_in None terms.style Json (nodes_of table) (char_node_of table) (part_node table id terms mapped) part
-        same =
-            ap (λ selection. selected_text (nodes_of table) (char_node_of table) terms.look terms.style ask.mode selection (requested table id terms mapped part)) all
-            ∙ ap (λ look. text_in look terms.style ask.mode (nodes_of table) (char_node_of table) (part_node table id terms mapped) part) none
-            ∙ ap (λ m. text_in None terms.style m (nodes_of table) (char_node_of table) (part_node table id terms mapped) part) mode
-
         small : HasSmallParts mapped
         small = parts_small pickle ask.name.now (8 * before.len) type no_values ask.start mapped asked fits
 

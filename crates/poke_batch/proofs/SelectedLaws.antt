@@ -13,8 +13,8 @@ use Rattle.command_words.specs.declared.pattern.PatternStep.TheVariants.{Exact}
 use Rattle.poke_batch.specs.PathParts.{step_to, part_from, place_of, node_there, node_from, node_at}
 use Rattle.poke_batch.proofs.PartsFound.{nowhere}
 use Rattle.poke_batch.specs.RunLaws.{PathsLeadToOnePart, CellsAreParts}
-use Rattle.poke_batch.specs.RunsUnder.{requested}
-use Rattle.poke_batch.specs.Selected.{Part, from_step, parts_through, cell_of, text_in, selected_text}
+use Rattle.poke_batch.specs.Selected.{Part, from_step, parts_through, cell_of, text_in}
+use Rattle.poke_batch.proofs.PartTexts.{styled_part}
 
 module _ (nodes : List Node) where
   -- a path leads to one part, or to none
@@ -46,6 +46,5 @@ pub cells : CellsAreParts
 cells table id ask terms path mapped part mode look all given found =
     ap (λ o. cell_of (nodes_of table) (char_node_of table) terms.style ask.mode (option_map (λ value. record { node = node_from (nodes_of table) path.steps.items (Some id.node) (Some mapped); value = value }) o) ++ codes "\n") found
     ∙ cell_text (nodes_of table) (char_node_of table) terms.style ask.mode (record { node = node_from (nodes_of table) path.steps.items (Some id.node) (Some mapped); value = part }) mode
-    ∙ sym (ap (λ selection. selected_text (nodes_of table) (char_node_of table) terms.look terms.style ask.mode selection (requested table id terms mapped part)) all
-    ∙ ap (λ l. text_in l terms.style ask.mode (nodes_of table) (char_node_of table) (node_at (nodes_of table) terms.part (Some id.node) mapped) part) look
+    ∙ sym (styled_part table id ask terms mapped part look all
     ∙ ap (λ p. text_in None terms.style ask.mode (nodes_of table) (char_node_of table) (node_at (nodes_of table) p (Some id.node) mapped) part) given)

@@ -1,8 +1,6 @@
 -- The types of a pickle have widths up to 64, units below 2^64, few fields, and names of bytes.
-use Rattle.std.proofs.Common.{◌≡◌, ℕ, ◌+◌, ◌^◌, ◌<◌, ◌≤◌, inl, inr, length, true, false, List, [], ◌∷◌, ◌++◌, Option, Some, None, refl, sym, ◌∙◌, subst, arith}
-use Rattle.std.specs.Str.{bytes_eq}
+use Rattle.std.proofs.Common.{◌≡◌, ℕ, ◌+◌, ◌^◌, ◌<◌, ◌≤◌, length, true, false, List, [], ◌∷◌, ◌++◌, Option, Some, None, refl, sym, ◌∙◌, subst, arith}
 use Rattle.std.specs.Char.{is_ascii_digit}
-use Rattle.std.proofs.lemmas.Bool.{cases_Bool}
 use Rattle.std.proofs.lemmas.Bool.Decides.{nat_tests}
 use Rattle.pickle_syntax.specs.declared.token.Sign.TheVariants as sign
 use Rattle.pickle_syntax.specs.declared.token.Word.TheVariants as word
@@ -27,6 +25,7 @@ use Rattle.pickle_meaning.specs.Means.{field_names, part_names}
 use Rattle.command_words.specs.Paths.{is_name_byte, AreNameBytes, IsName}
 use Rattle.run_parts.specs.Accepted.{IsAccepted}
 use Rattle.value_text.specs.SmallParts.{AreBytes, IsNameOfBytes, AreNamesOfBytes}
+use Rattle.poke_batch.proofs.NamedTypes.{OfEach, found_is, one_more_is}
 
 -- ---- types
 
@@ -47,24 +46,6 @@ abbrev mutual
   pub AreSmallTypes : Parts → Type 0
   AreSmallTypes NoParts = Unit {0}
   AreSmallTypes (PartThen name order type constraint rest) = IsSmallType type × AreSmallTypes rest
-
-abbrev AreSmallNames : Names → Type 0
-AreSmallNames [] = Unit {0}
-AreSmallNames (d ∷ ds) = IsSmallType d.1 × AreSmallNames ds
-
-found_small : (word : List ℕ) (names : Names) (t : PokeType) → AreSmallNames names → find_type word names ≡ Some t → IsSmallType t
-found_small word [] t h e = cc
-found_small word (d ∷ ds) t h e = elim (cases_Bool (bytes_eq word d.0)) [
-  | inl hit ↦ (let is : Some d.1 ≡ Some t = rw hit at e in subst IsSmallType (some_same d.1 t is) h.0)
-  | inr miss ↦ found_small word ds t h.1 (rw miss at e)
-]
-  where
-    some_same : (x y : PokeType) → Some x ≡ Some y → x ≡ y
-    some_same x y e = cc
-
-one_more_small : (names : Names) (word : List ℕ) (t : PokeType) → AreSmallNames names → IsSmallType t → AreSmallNames (names ++ (word, t) ∷ [])
-one_more_small [] word t h small = (small, tt)
-one_more_small (d ∷ ds) word t h small = (h.0, one_more_small ds word t h.1 small)
 
 -- ---- the names of a form
 
@@ -223,11 +204,11 @@ bits_small _ _ HasBits.bit = omega arith
 bits_small _ _ HasBits.byte = omega arith
 bits_small _ _ (HasBits.number some most) = omega (arith, most)
 
-module _ (names : Names) (small : AreSmallNames names) where
+module _ (names : Names) (small : OfEach IsSmallType names) where
   refers_small : (r : TreeReference) (t : PokeType) → Refers names r t → IsSmallType t
   refers_small _ _ (Refers.signed some most) = most
   refers_small _ _ (Refers.unsigned some most) = most
-  refers_small _ _ (Refers.called {word} {t} is) = found_small word names t small is
+  refers_small _ _ (Refers.called {word} {t} is) = found_is IsSmallType word names t small is
 
   mutual
     form_small : (seen : List Visible) (levels : ℕ) (title : Option (List ℕ)) (form : FormTree) (t : PokeType) → HasNames form → IsFormWithin standard form → Means names seen levels title form t → IsSmallType t
@@ -255,12 +236,12 @@ module _ (names : Names) (small : AreSmallNames names) where
           types = (form_small seen (levels + 1) None form t named.1 within.0 is, h.types);
         }
 
-declared_small : (names : Names) (ds : List DeclarationTree) (all : Names) → AreSmallNames names → DeclareNames ds → AreDeclarationsWithin standard ds → Declares names ds all → AreSmallNames all
+declared_small : (names : Names) (ds : List DeclarationTree) (all : Names) → OfEach IsSmallType names → DeclareNames ds → AreDeclarationsWithin standard ds → Declares names ds all → OfEach IsSmallType all
 declared_small names _ _ small named within Declares.none = small
 declared_small names _ all small named within (Declares.more {d = d} {ds = ds} {t = t} fresh is deep rest) =
-    declared_small (names ++ (d.name, t) ∷ []) ds all (one_more_small names d.name t small (form_small names small [] 0 (Some d.name) d.form t named.0 within.0 is)) named.1 within.2 rest
+    declared_small (names ++ (d.name, t) ∷ []) ds all (one_more_is IsSmallType names d.name t small (form_small names small [] 0 (Some d.name) d.form t named.0 within.0 is)) named.1 within.2 rest
 
-predeclared_small : AreSmallNames predeclared
+predeclared_small : OfEach IsSmallType predeclared
 predeclared_small = search (arith)
 
 -- the names in an accepted pickle are words
@@ -275,4 +256,4 @@ accepted_names pickle declarations types accepted =
 pub accepted_small : (pickle : List ℕ) (declarations : List DeclarationTree) (types : Names) (name : List ℕ) (type : PokeType) → IsAccepted pickle declarations types → find_type name types ≡ Some type → IsSmallType type
 accepted_small pickle declarations types name type accepted found =
     let named = accepted_names pickle declarations types accepted in
-    found_small name types type (declared_small predeclared declarations types predeclared_small named accepted.syntax.parsed.within.1 accepted.declares) found
+    found_is IsSmallType name types type (declared_small predeclared declarations types predeclared_small named accepted.syntax.parsed.within.1 accepted.declares) found

@@ -1,14 +1,15 @@
 -- The values that fit small types have small parts.
-use Rattle.std.proofs.Common.{◌≡◌, ℕ, zero, suc, ◌+◌, ◌-◌, ◌^◌, ◌<◌, ◌≤◌, inl, inr, length, Bool, true, false, pos, negsuc, List, [], ◌∷◌, ◌++◌, Option, Some, None, refl, sym, ap, subst, arith, pow_mono}
+use Rattle.std.proofs.Common.{◌≡◌, ℕ, zero, suc, ◌+◌, ◌-◌, ◌^◌, ◌<◌, ◌≤◌, inl, inr, length, Bool, true, false, pos, negsuc, List, [], ◌∷◌, Some, None, refl, sym, ap, subst, arith, pow_mono}
 use Rattle.std.specs.Prelude.{unsigned_abs, nat_le, ◌-ℤ◌, if◌then◌else◌}
 use Rattle.std.proofs.lemmas.Bool.{leb-true, lt-ltb}
 use Rattle.pickle_types.specs.declared.integer.IntegerType.{IntegerType}
 use Rattle.pickle_types.specs.Types.{PokeType, IntegerOf, OffsetOf, StringOf, ArrayOf, StructOf, IntegralOf, UnionOf, Fields, NoFields, FieldThen, Parts, NoParts, PartThen}
 use Rattle.pickle_meaning.specs.Arithmetic.{with_sign}
-use Rattle.pickle_meaning.specs.Values.{Value, member_count, Levels, pushed, opened, top_of, gathered}
+use Rattle.pickle_meaning.specs.Values.{Value, Levels, pushed, opened, top_of, gathered}
 use Rattle.pickle_meaning.specs.Means.{field_names, part_names, Taken}
-use Rattle.pickle_meaning.specs.Fits.{IsText, ElementsFit, no_more_fit, one_more_fits, FitsNumber, DigitsFit, Fits, FieldsFit, AlternativeFits}
+use Rattle.pickle_meaning.specs.Fits.{IsText, FitsNumber, DigitsFit, Fits, FieldsFit, AlternativeFits}
 use Rattle.value_text.specs.SmallParts.{AreBytes, IsNameOfBytes, AreNamesOfBytes, HasSmallParts, AreSmallParts}
+use Rattle.poke_batch.proofs.AllMembers.{small_each, some_pushed, none_pushed, elements_have, Gains, gains_none, gains_one}
 use Rattle.poke_batch.proofs.SmallTypes.{IsSmallType, AreSmallFields, AreSmallTypes}
 
 signed_small : (type : IntegerType) (n : ℕ) → type.width ≤ 64 → n < 2 ^ type.width → unsigned_abs (with_sign type n) < 2 ^ 64
@@ -41,54 +42,6 @@ text_small (b ∷ bytes) h = (h.1, text_small bytes h.2)
 abbrev HasSmallTop : Levels → Type 0
 HasSmallTop levels = AreSmallParts (gathered (top_of levels))
 
-abbrev pub top_count : Levels → ℕ
-top_count levels = member_count (gathered (top_of levels))
-
-some_gathered : (top : List (Option Value)) (v : Value) → AreSmallParts (gathered top) → HasSmallParts v → AreSmallParts (gathered (top ++ Some v ∷ []))
-some_gathered [] v h small = (small, tt)
-some_gathered (None ∷ top) v h small = some_gathered top v h small
-some_gathered (Some u ∷ top) v h small = (h.0, some_gathered top v h.1 small)
-
-none_gathered : (top : List (Option Value)) → AreSmallParts (gathered top) → AreSmallParts (gathered (top ++ None ∷ []))
-none_gathered [] h = tt
-none_gathered (None ∷ top) h = none_gathered top h
-none_gathered (Some u ∷ top) h = (h.0, none_gathered top h.1)
-
-one_more : (top : List (Option Value)) (v : Option Value) → member_count (gathered (top ++ v ∷ [])) ≡ member_count (gathered top) + 1
-one_more [] None = refl
-one_more [] (Some v) = refl
-one_more (None ∷ top) v = omega (arith, one_more top v)
-one_more (Some u ∷ top) v = omega (arith, one_more top v)
-
-some_pushed : (levels : Levels) (v : Value) → HasSmallTop levels → HasSmallParts v → HasSmallTop (pushed levels (Some v))
-some_pushed [] v h small = (small, tt)
-some_pushed (top ∷ outer) v h small = some_gathered top v h small
-
-none_pushed : (levels : Levels) → HasSmallTop levels → HasSmallTop (pushed levels None)
-none_pushed [] h = tt
-none_pushed (top ∷ outer) h = none_gathered top h
-
-pub count_pushed : (levels : Levels) (v : Option Value) → top_count (pushed levels v) ≡ top_count levels + 1
-count_pushed [] None = refl
-count_pushed [] (Some v) = refl
-count_pushed (top ∷ outer) v = one_more top v
-
--- a frame with so many members more
-record Gains (levels inside : Levels) (n : ℕ) : Type 0 where
-  count : top_count inside ≡ top_count levels + n
-  small : HasSmallTop inside
-
-gains_none : (levels inside : Levels) → inside ≡ levels → HasSmallTop levels → Gains levels inside 0
-gains_none levels inside is h = record { count = omega (arith, ap top_count is); small = subst HasSmallTop (sym is) h }
-
-gains_one : (levels inside : Levels) (v : Option Value) (n : ℕ) → Gains (pushed levels v) inside n → Gains levels inside (suc n)
-gains_one levels inside v n g = record { count = omega (arith, g.count, count_pushed levels v); small = g.small }
-
-elements_small : (Fit : Levels → ℕ → Value → Type 0) → ((levels : Levels) (at : ℕ) (v : Value) → Fit levels at v → HasSmallParts v)
-    → {inside : Levels} {end n : ℕ} {levels : Levels} {place i : ℕ} → ElementsFit Fit inside end n levels place i → HasSmallTop levels → HasSmallTop inside
-elements_small Fit each no_more_fit h = h
-elements_small Fit each {levels = levels} {place = place} (one_more_fits v fit lt rest) h = elements_small Fit each rest (some_pushed levels v h (each levels place v fit))
-
 -- ---- the types
 
 mutual
@@ -103,14 +56,14 @@ mutual
   number_small (IntegralOf name type fields) levels s v small h =
       let is = h.2 in
       let g = digits_small fields (opened levels) s h.0 small.2 tt h.1 in
-      rw is ((omega (arith, g.count, small.0), small.1), g.small)
+      rw is ((omega (arith, g.count, small.0), small.1), g.are)
   number_small (UnionOf name alternatives) levels s v small h = absurd h
 
-  digits_small : (parts : Parts) (levels : Levels) (s : ℕ) (inside : Levels) → AreSmallTypes parts → HasSmallTop levels → DigitsFit parts levels s inside → Gains levels inside (length (part_names parts))
+  digits_small : (parts : Parts) (levels : Levels) (s : ℕ) (inside : Levels) → AreSmallTypes parts → HasSmallTop levels → DigitsFit parts levels s inside → Gains AreSmallParts levels inside (length (part_names parts))
   digits_small NoParts levels s inside small top h = gains_none levels inside h top
   digits_small (PartThen name order ty c rest) levels s inside small top h =
       gains_one levels inside (Some h.0) (length (part_names rest))
-      (digits_small rest (pushed levels (Some h.0)) s inside small.1 (some_pushed levels h.0 top (number_small ty levels s h.0 small.0 h.1)) h.3)
+      (digits_small rest (pushed levels (Some h.0)) s inside small.1 (some_pushed small_each levels h.0 top (number_small ty levels s h.0 small.0 h.1)) h.3)
 
 mutual
   unfolding Fits
@@ -121,11 +74,11 @@ mutual
   value_small m StringOf levels s v small h = let is = h.2 in rw is (text_small h.0 h.1, tt)
   value_small m (ArrayOf element bound) levels s v small h =
       let is = h.8 in
-      rw is (tt, elements_small (Fits m element) (λ l at u fit. value_small m element l at u small fit) h.5 tt)
+      rw is (tt, elements_have small_each (Fits m element) (λ l at u fit. value_small m element l at u small fit) h.5 tt)
   value_small m (StructOf name pinned fields) levels s v small h =
       let is = h.4 in
       let g = fields_small m pinned s fields (opened levels) s s h.0 h.1 small.2 tt h.2 in
-      rw is ((omega (arith, g.count, small.0), small.1), g.small)
+      rw is ((omega (arith, g.count, small.0), small.1), g.are)
   value_small m (IntegralOf name type fields) levels s v small h = number_small (IntegralOf name type fields) levels s v small h.0
   value_small m (UnionOf name alternatives) levels s v small h =
       let is = h.2 in
@@ -133,13 +86,13 @@ mutual
       rw is ((omega arith, t.0), (t.1, tt))
 
   fields_small : (m : ℕ) (pinned : Bool) (s : ℕ) (fields : Fields) (levels : Levels) (behind top : ℕ) (inside : Levels) (end : ℕ) → AreSmallFields fields → HasSmallTop levels
-      → FieldsFit m pinned s fields levels behind top inside end → Gains levels inside (length (field_names fields))
+      → FieldsFit m pinned s fields levels behind top inside end → Gains AreSmallParts levels inside (length (field_names fields))
   fields_small m pinned s NoFields levels behind top inside end small before h = gains_none levels inside h.0 before
   fields_small m pinned s (FieldThen name order ty c label when rest) levels behind top inside end small before (inl h) =
-      gains_one levels inside None (length (field_names rest)) (fields_small m pinned s rest (pushed levels None) behind top inside end small.1 (none_pushed levels before) h.1)
+      gains_one levels inside None (length (field_names rest)) (fields_small m pinned s rest (pushed levels None) behind top inside end small.1 (none_pushed small_each levels before) h.1)
   fields_small m pinned s (FieldThen name order ty c label when rest) levels behind top inside end small before (inr h) =
       gains_one levels inside (Some h.4) (length (field_names rest))
-      (fields_small m pinned s rest (pushed levels (Some h.4)) _ _ inside end small.1 (some_pushed levels h.4 before (value_small m ty levels h.1 h.4 small.0 h.5)) h.7)
+      (fields_small m pinned s rest (pushed levels (Some h.4)) _ _ inside end small.1 (some_pushed small_each levels h.4 before (value_small m ty levels h.1 h.4 small.0 h.5)) h.7)
 
   alternative_small : (m : ℕ) (parts : Parts) (index : ℕ) (levels : Levels) (s : ℕ) (t : Taken) → AreNamesOfBytes (part_names parts) → AreSmallTypes parts → AlternativeFits m parts index levels s t
       → IsNameOfBytes t.name × HasSmallParts t.value

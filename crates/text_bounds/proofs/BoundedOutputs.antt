@@ -1,5 +1,5 @@
 -- The bounds on what mappings write under terms.
-use Rattle.std.proofs.Common.{◌≡◌, ◌*◌, ◌≤◌, ◌⊎◌, ℕ, Bool, true, false, List, Option, Some, None, length, codes, inl, inr, refl, ap, ◌∙◌, arith}
+use Rattle.std.proofs.Common.{◌≡◌, ◌*◌, ◌≤◌, ◌⊎◌, ℕ, Bool, true, false, List, Option, Some, None, length, codes, inl, inr, refl, ap, arith}
 use Rattle.std.specs.Prelude.{nat_le, if◌then◌else◌}
 use Rattle.std.specs.Io.KnownBytes.{Keeps}
 use Rattle.bit_space.specs.SpaceView.{SpaceView}
@@ -18,8 +18,8 @@ use Rattle.pickle_types.specs.NodeParts.{char_node_of}
 use Rattle.pickle_types.specs.TypeTable.{nodes_of}
 use Rattle.poke_batch.specs.PathParts.{part_at, node_at}
 use Rattle.poke_batch.specs.Runs.{IsAsked}
-use Rattle.poke_batch.specs.Selected.{text_in, selected_text}
-use Rattle.poke_batch.specs.RunsUnder.{text_saying, is_left, part_saying, requested, part_text, part_has, kept_saying, value_saying, MapsUnder, mapped_under, ended_under, slots_under}
+use Rattle.poke_batch.proofs.PartTexts.{styled_part}
+use Rattle.poke_batch.specs.RunsUnder.{text_saying, is_left, part_saying, part_text, part_has, kept_saying, value_saying, MapsUnder, mapped_under, ended_under, slots_under}
 use Rattle.run_parts.specs.Told.{Saying, Text, Line, IsSaid}
 use Rattle.text_bounds.specs.OutputRoom.{GrowsWithin, OutputIsBounded}
 use Rattle.text_bounds.specs.TextLaws.{OutputsUnderTermsAreBounded}
@@ -54,8 +54,7 @@ module _ (ask : Ask) (terms : Terms) (m : ℕ) (type : PokeType) (mapped : Value
       few =
           let of = node_at (nodes_of table) terms.part (Some id.node) mapped in
           let styled = styled_bounded (nodes_of table) (char_node_of table) of terms.style ask.mode m type no_values ask.start mapped terms.part part fits is in
-          let same = ap (λ selection. length (selected_text (nodes_of table) (char_node_of table) terms.look terms.style ask.mode selection (requested table id terms mapped part))) all
-          ∙ ap (λ look. length (text_in look terms.style ask.mode (nodes_of table) (char_node_of table) of part)) look in
+          let same = ap length (styled_part table id ask terms mapped part look all) in
           omega (arith, same, styled)
 
       chosen : (has : Bool) → Says (if has then text_saying terms.most_output ask.start (part_text table id ask terms mapped part) else Line Fault (fault_line (codes "NoSuchPart"))) → IsWithin

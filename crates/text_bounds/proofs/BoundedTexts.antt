@@ -1,8 +1,8 @@
 -- The bounds on printed values.
-use Rattle.std.proofs.Common.{ℕ, ◌*◌, ◌≤◌, List, Option, None, length, Ok, refl, ap, inl, inr, arith, length-append}
+use Rattle.std.proofs.Common.{ℕ, ◌*◌, ◌≤◌, List, Option, None, length, Ok, refl, ap, subst, inl, inr, arith, length-append}
 use Rattle.bit_space.specs.SpaceView.{SpaceView}
 use Rattle.mapping_plans.proofs.OnBits.{outcomes_fit}
-use Rattle.run_parts.specs.declared.accept.Refusal.TheVariants as refusal
+use Rattle.run_parts.specs.declared.outcome.Outcome.TheVariants.{Refused}
 use Rattle.command_words.specs.declared.ask.Ask.{Ask}
 use Rattle.text_forms.specs.declared.mode.Mode.TheVariants.{Flat, Tree, Json, Lines}
 use Rattle.run_parts.specs.declared.status.Status.{Status}
@@ -13,6 +13,7 @@ use Rattle.poke_batch.specs.Runs.{MapsAs, value, stops, device, unknown, refused
 use Rattle.text_bounds.specs.TextLaws.{TextsAreBounded, MeantTextsAreBounded, AnyModeIsBounded, OutputsAreBounded}
 use Rattle.text_bounds.specs.TextRoom.{most_text_in_any}
 use Rattle.run_parts.specs.Told.{Saying, IsSaid, IsWritten}
+use Rattle.run_parts.proofs.Sayings.{outcome_lines}
 use Rattle.text_bounds.proofs.BoundedParts.{part_text_bounded}
 
 pub text_bounded : TextsAreBounded
@@ -42,12 +43,7 @@ saying_bounded pickle ask before after saying status out out' err err' (value {t
 saying_bounded pickle ask before after saying status out out' err err' (stops asked a b c d e) h = inl h.0
 saying_bounded pickle ask before after saying status out out' err err' (device asked a) h = inl h.0
 saying_bounded pickle ask before after saying status out out' err err' (unknown a b) h = inl h.0
-saying_bounded pickle ask before after saying status out out' err err' (refused_map {refusal = refusal.Tokens kind at} a) h = inl h.0
-saying_bounded pickle ask before after saying status out out' err err' (refused_map {refusal = refusal.Syntax at} a) h = inl h.0
-saying_bounded pickle ask before after saying status out out' err err' (refused_map {refusal = refusal.TooDeep} a) h = inl h.0
-saying_bounded pickle ask before after saying status out out' err err' (refused_map {refusal = refusal.TooMany} a) h = inl h.0
-saying_bounded pickle ask before after saying status out out' err err' (refused_map {refusal = refusal.Types kind declaration} a) h = inl h.0
-saying_bounded pickle ask before after saying status out out' err err' (refused_map {refusal = refusal.Memory} a) h = inl h.0
+saying_bounded pickle ask before after saying status out out' err err' (refused_map {refusal = why} a) h = inl (subst (λ s. IsSaid s status out out' err err') (outcome_lines (Refused why)) h).0
 saying_bounded pickle ask before after saying status out out' err err' no_memory h = inl h.0
 
 pub output_bounded : OutputsAreBounded

@@ -6,11 +6,11 @@ use Rattle.std.proofs.lemmas.Nat.{mul-le}
 use Rattle.std.proofs.lemmas.List.{append_assoc, append-nil}
 use Rattle.std.proofs.lemmas.Option.{unwrap_or-slice_get}
 use Rattle.std.proofs.lemmas.Bool.{cases_Bool}
-use Rattle.std.specs.Prelude.{min, if◌then◌else◌}
+use Rattle.std.specs.Prelude.{min}
 use Rattle.pickle_types.specs.declared.integer.IntegerType.{IntegerType}
 use Rattle.pickle_types.specs.Types.{PokeType, IntegerOf, OffsetOf, StringOf, ArrayOf, StructOf, IntegralOf, UnionOf, Fields, NoFields, FieldThen, Parts, NoParts, PartThen}
 use Rattle.pickle_types.specs.Bounds.{least_width, count_of}
-use Rattle.pickle_meaning.specs.Values.{Naming, Label, IntegerLabel, OffsetLabel, TextLabel, ArrayLabel, StructLabel, UnionLabel, Value, Mapped, Members, NoMembers, member_count, start_of, end_of, Levels, pushed, opened, top_of, gathered}
+use Rattle.pickle_meaning.specs.Values.{Naming, Label, IntegerLabel, OffsetLabel, TextLabel, ArrayLabel, StructLabel, UnionLabel, Value, Members, member_count, start_of, end_of, Levels, pushed, opened, top_of, gathered}
 use Rattle.value_store.specs.Labels.{member_name}
 use Rattle.pickle_meaning.specs.Arithmetic.{with_sign}
 use Rattle.pickle_meaning.specs.Means.{field_names, part_names, array_value, struct_value, Taken, union_value}
@@ -24,7 +24,7 @@ use Rattle.value_text.specs.CutArrays.{is_past, more_text}
 use Rattle.value_text.specs.TreeText.{indent_text}
 use Rattle.text_forms.specs.Brackets.{in_brackets}
 use Rattle.text_bounds.specs.declared.form.Form.{Form}
-use Rattle.text_bounds.specs.TextRoom.{Size, joined, integer_room, offset_room, escape_room, string_room, array_room, titled_room, line_room, element_before, element_moves, field_before, field_moves, with_parts, moved, no_size, both, greater, repeated, more_size, elements_size, or_text, text_size, array_size, size_of, fields_size, parts_size, greatest_size}
+use Rattle.text_bounds.specs.TextRoom.{Size, joined, integer_room, offset_room, escape_room, string_room, array_room, titled_room, line_room, element_before, element_moves, field_before, field_moves, with_parts, moved, no_size, both, repeated, more_size, elements_size, text_size, array_size, size_of, fields_size, parts_size, greatest_size}
 use Rattle.text_bounds.proofs.NumberLengths.{decimal_longer, integer_longest, json_longest, offset_longest, json_offset_longest}
 use Rattle.text_bounds.proofs.Within.{Within, parts_within, moved_within, both_within, same_within, then_within, later_within, first_within, rest_within, array_within, or_within}
 use Rattle.text_bounds.proofs.TextSizes.{text_short}

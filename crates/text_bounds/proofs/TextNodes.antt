@@ -1,7 +1,7 @@
 -- The sizes of a table's node, by those of the nodes that it names.
 use Rattle.std.proofs.Common.{◌≡◌, ℕ, ◌+◌, ◌<◌, ◌≤◌, List, [], ◌∷◌, ◌++◌, Some, length, get_or, drop, sym, ap, subst, ◌∙◌, arith, inl, inr}
 use Rattle.std.specs.Prelude.{slice_get, min, IsTrue, Bool, false, Option}
-use Rattle.std.proofs.lemmas.List.{drop_more, drop_all, length-append, get_or_append_left}
+use Rattle.std.proofs.lemmas.List.{drop_all, length-append, get_or_append_left}
 use Rattle.std.proofs.lemmas.Bool.{cases_lt}
 use Rattle.std.proofs.lemmas.Option.{slice_get-get_or, slice_get_within}
 use Rattle.std.proofs.Math.Seq.{get_or-append_seam}
@@ -18,6 +18,7 @@ use Rattle.pickle_types.specs.Holds.{HoldsWidth, is_none}
 use Rattle.pickle_types.specs.Types.{Term, Parts, PokeType, FieldThen, NoFields, PartThen, NoParts}
 use Rattle.pickle_types.specs.Table.{type_of, open_shape, open_fields, open_parts, name_of, optional_term, IsTable, NamesBelow}
 use Rattle.pickle_types.proofs.Tables.{opens, node_at}
+use Rattle.poke_batch.proofs.Items.{item_left}
 use Rattle.text_bounds.specs.declared.form.Form.{Form}
 use Rattle.text_bounds.specs.declared.fields.NodeSize.{NodeSize}
 use Rattle.text_bounds.specs.declared.fields.FieldSizes.{FieldSizes}
@@ -49,8 +50,7 @@ module _ (form : Form) (at : ℕ → PokeType) (m : ℕ) where
       AreFieldSizes b form i (FieldThen (name_of f.name) f.order (at f.node) (optional_term f.constraint) (optional_term f.label) (optional_term f.condition) (open_fields at (drop (i + 1) fields))) m →
       AreFieldSizes b form i (open_fields at (drop i fields)) m
   one_field_more fields i f lt e b h =
-      let split : drop i fields ≡ f ∷ drop (i + 1) fields = drop_more fields i f lt ∙ ap (λ x. x ∷ drop (i + 1) fields) (sym e) in
-      subst (λ fs. AreFieldSizes b form i (open_fields at fs) m) (sym split) h
+      subst (λ fs. AreFieldSizes b form i (open_fields at fs) m) (sym (item_left fields i f lt e)) h
 
   pub no_parts_left : (parts : List Part) (b : PartSizes) → ArePartSizes b form (length parts) NoParts m → ArePartSizes b form (length parts) (open_parts at (drop (length parts) parts)) m
   no_parts_left parts b h = subst (λ ps. ArePartSizes b form (length parts) (open_parts at ps) m) (sym (drop_all (length parts) parts (omega arith))) h
@@ -59,8 +59,7 @@ module _ (form : Form) (at : ℕ → PokeType) (m : ℕ) where
       ArePartSizes b form i (PartThen (name_of p.name) p.order (at p.node) (optional_term p.constraint) (open_parts at (drop (i + 1) parts))) m →
       ArePartSizes b form i (open_parts at (drop i parts)) m
   one_part_more parts i p lt e b h =
-      let split : drop i parts ≡ p ∷ drop (i + 1) parts = drop_more parts i p lt ∙ ap (λ x. x ∷ drop (i + 1) parts) (sym e) in
-      subst (λ ps. ArePartSizes b form i (open_parts at ps) m) (sym split) h
+      subst (λ ps. ArePartSizes b form i (open_parts at ps) m) (sym (item_left parts i p lt e)) h
 
 pub known_more : (form : Form) (nodes : List Node) (roots : List ℕ) (known : List NodeSize) (m root : ℕ) (b : NodeSize) → AreKnownSizes nodes roots known form m → slice_get roots (length known) ≡ Some root → AreSizes b form (type_of nodes root) m →
     AreKnownSizes nodes roots (known ++ b ∷ []) form m

@@ -1,10 +1,10 @@
 -- A value in which arrays of chars are texts is no larger than the value.
-use Rattle.std.proofs.Common.{◌≡◌, ℕ, suc, ◌+◌, ◌-◌, ◌*◌, ◌≤◌, Bool, true, false, List, [], ◌∷◌, ◌++◌, Option, Some, None, length, codes, refl, sym, ap, inl, inr, arith, length-append}
+use Rattle.std.proofs.Common.{◌≡◌, ℕ, suc, ◌+◌, ◌*◌, ◌≤◌, Bool, true, false, List, [], ◌∷◌, Option, length, codes, refl, inl, inr, arith, length-append}
 use Rattle.std.proofs.Math.Nat.{mul-add}
 use Rattle.std.proofs.lemmas.Bool.{cases_Bool}
 use Rattle.std.specs.Prelude.{if◌then◌else◌, ◌==◌}
 use Rattle.pickle_types.specs.declared.node.Node.{Node}
-use Rattle.pickle_meaning.specs.Values.{Label, IntegerLabel, OffsetLabel, TextLabel, ArrayLabel, StructLabel, UnionLabel, Value, Mapped, Members, NoMembers, MemberThen, AbsentThen, member_count, start_of}
+use Rattle.pickle_meaning.specs.Values.{Label, IntegerLabel, OffsetLabel, TextLabel, ArrayLabel, StructLabel, UnionLabel, Value, Mapped, Members, NoMembers, MemberThen, AbsentThen, member_count}
 use Rattle.text_forms.specs.declared.mode.Mode.{Mode}
 use Rattle.text_forms.specs.declared.mode.Mode.TheVariants.{Flat, Tree, Json, Lines}
 use Rattle.text_forms.specs.declared.style.Style.{Style}
@@ -18,9 +18,9 @@ use Rattle.value_text.specs.PartTypes.{part_node}
 use Rattle.value_text.specs.Styled.{with_chars}
 use Rattle.value_text.proofs.CharTexts.{seen_start, parts_count, chars_count}
 use Rattle.text_bounds.specs.declared.form.Form.{Form}
-use Rattle.text_bounds.specs.TextRoom.{Size, quoted_room, line_room, no_size, or_text, text_size}
+use Rattle.text_bounds.specs.TextRoom.{Size, quoted_room}
 use Rattle.text_bounds.proofs.Within.{Within, parts_within, moved_within, both_within, same_within, first_within, or_within}
-use Rattle.text_bounds.proofs.Sizes.{own_room, member_before, member_moves, or_chars, rest_size, size_in, members_in}
+use Rattle.text_bounds.proofs.Sizes.{own_room, or_chars, size_in, members_in}
 
 -- ---- texts
 

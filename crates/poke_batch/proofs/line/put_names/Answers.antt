@@ -1,7 +1,7 @@
-use Rattle.std.proofs.Common.{◌≡◌, ◌∙◌, ◌+◌, ◌∷◌, ap, drop, sym}
-use Rattle.std.proofs.lemmas.List.{drop_more}
+use Rattle.std.proofs.Common.{ap}
 use Rattle.value_text.proofs.Puts.{told_next, told_failed}
 use Rattle.poke_batch.specs.Selected.{names_text}
+use Rattle.poke_batch.proofs.Items.{item_left}
 use Rattle.poke_batch.proofs.line.put_names.Goals as goal
 
 pub returns-then-printer : goal.returns-then-printer
@@ -9,8 +9,5 @@ returns-then-printer g c = told_failed c.if-printer.true c.loop-column.invariant
 
 pub loop-column-preserved : goal.loop-column-preserved
 loop-column-preserved g c =
-    let columns = c.args.columns.now in
-    let i = c.loop-column.column-index in
-    let next : drop i columns ≡ c.column-item.result ∷ drop (i + 1) columns =
-    drop_more columns i c.column-item.result c.loop-column-test.true ∙ ap (λ column. column ∷ drop (i + 1) columns) (sym c.column-item.is) in
+    let next = item_left c.args.columns.now c.loop-column.column-index c.column-item.result c.loop-column-test.true c.column-item.is in
     told_next (ap (names_text c.loop-column.first) next) c.loop-column.invariant c.put_name.ensures
