@@ -17,6 +17,7 @@ use poke_batch::types::types_outcome;
 use std::alloc::Global;
 use std::io::Write;
 use text_bounds::run::bound_text_outcome;
+use text_bounds::texts::Texts;
 
 /// A type of a pickle, and the bits that it is bounded over.
 #[derive(Clone, Copy)]
@@ -129,8 +130,12 @@ pub fn bound_text<P: Opener, O: Write>(
     ensures fault { IfErr result ((P.gives opener.now).is_unread of.entry.pickle.now) }
 {
     let pickle = opener.read_pickle(of.pickle)?;
-    let bytes = &pickle.bytes;
-    let outcome = bound_text_outcome(alloc, bytes, of.name, of.bits, form.style, form.mode, out);
+    let texts = Texts {
+        bits: of.bits,
+        style: form.style,
+        mode: form.mode,
+    };
+    let outcome = bound_text_outcome(alloc, &pickle.bytes, of.name, texts, out);
     explain(alloc, why, outcome.status(), &pickle, Some(of.name));
     Ok(outcome)
 }

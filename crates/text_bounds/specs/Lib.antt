@@ -3,3 +3,4 @@ pub mod TextHeld
 pub mod OutputRoom
 pub mod TextLaws
 pub mod TextRuns
+pub mod Props

@@ -28,7 +28,7 @@ pub fn most_text(
     ensures { IfOk result (λ most. IsBound most (most_text style mode (type_named table.now id) bits)) }
 {
     let form = Form { mode, style };
-    let known = type_size(alloc, form, table.nodes(), table.roots(), bits, id.node)?;
+    let known = type_size(alloc, form, bits, table, id)?;
     Ok(sum_of(known.size.text, Some(end_room(mode))))
 }
 

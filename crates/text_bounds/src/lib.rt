@@ -9,3 +9,4 @@ mod nodes;
 mod room;
 pub mod run;
 mod size;
+pub mod texts;

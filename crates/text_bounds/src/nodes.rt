@@ -1,6 +1,9 @@
 //! The sizes of a table's nodes.
 ghost use Rattle.std.specs.Prelude.{ℕ, ◌<◌, ◌≤◌, length, IfOk};
+ghost use Rattle.pickle_types.specs.Props.{IsTable-prop};
 ghost use Rattle.pickle_types.specs.Table.{type_of, IsTable, open_fields, open_parts, FieldsBelow, PartsBelow};
+ghost use Rattle.pickle_types.specs.TypeTable.{nodes_of, roots_of, type_named, IsInTable};
+ghost use Rattle.text_bounds.specs.Props.{AreKnownSizes-prop};
 ghost use Rattle.text_bounds.specs.TextHeld.{AreSizes, AreFieldSizes, ArePartSizes, AreKnownSizes};
 
 use crate::fields::{
@@ -8,156 +11,143 @@ use crate::fields::{
     no_fields, no_parts, offset_size, part_and_rest, string_size, struct_size, union_size,
 };
 use crate::form::Form;
+use pickle_types::table::{Table, TypeId};
 use pickle_types::view::{Field, Node, Part, Shape};
 use std::alloc::{AllocError, Global};
 
-/// The sizes of a struct's fields, from the last to the first.
-#[cycle(sizes)]
-fn fields_sizes(
+/// What the sizes of a table's nodes are computed from: how values are printed, the bits of the file, the nodes, those
+/// of the declared types in rising order, and the sizes of the first of these.
+#[derive(Clone, Copy)]
+struct Sizer<'a> {
     form: Form,
-    nodes: &[Node],
-    roots: &[usize],
-    known: &[NodeSize],
     bits: u64,
-    below: usize,
-    fields: &[Field],
-) -> FieldSizes
-    requires table { IsTable nodes.now }
-    requires below { below ≤ length nodes.now }
-    requires fields { FieldsBelow below fields.now }
-    requires known { AreKnownSizes nodes.now roots.now known.now form bits }
-    ensures { AreFieldSizes result form 0 (open_fields (type_of nodes.now) fields.now) bits }
-{
-    let mut all = no_fields();
-    let mut at = fields.len();
-    while at > 0 {
-        at -= 1;
-        let field = &fields[at];
-        let own = node_size(form, nodes, roots, known, bits, field.node);
-        all = field_and_rest(form, at, field, own, all);
-    }
-    all
+    nodes: &'a [Node],
+    roots: &'a [usize],
+    known: &'a [NodeSize],
+    ghost table: { IsTable nodes.now } by { IsTable-prop nodes.now },
+    ghost sized: { AreKnownSizes nodes.now roots.now known.now form bits } by { AreKnownSizes-prop },
 }
 
-/// The sizes of the parts of a union or an integral struct, from the last to the first.
-#[cycle(sizes)]
-fn parts_sizes(
-    form: Form,
-    nodes: &[Node],
-    roots: &[usize],
-    known: &[NodeSize],
-    bits: u64,
-    below: usize,
-    parts: &[Part],
-) -> PartSizes
-    requires table { IsTable nodes.now }
-    requires below { below ≤ length nodes.now }
-    requires parts { PartsBelow below parts.now }
-    requires known { AreKnownSizes nodes.now roots.now known.now form bits }
-    ensures { ArePartSizes result form 0 (open_parts (type_of nodes.now) parts.now) bits }
-{
-    let mut all = no_parts();
-    let mut at = parts.len();
-    while at > 0 {
-        at -= 1;
-        let part = &parts[at];
-        let own = node_size(form, nodes, roots, known, bits, part.node);
-        all = part_and_rest(form, at, part, own, all);
+impl Sizer<'_> {
+    /// The sizes of a struct's fields, from the last to the first.
+    #[cycle(sizes)]
+    fn fields_sizes(&self, below: usize, fields: &[Field]) -> FieldSizes
+        requires below { below ≤ length self.now.nodes.now }
+        requires fields { FieldsBelow below fields.now }
+        ensures { let all = open_fields (type_of self.now.nodes.now) fields.now in
+            AreFieldSizes result self.now.form 0 all self.now.bits }
+    {
+        let mut all = no_fields();
+        let mut at = fields.len();
+        while at > 0 {
+            at -= 1;
+            let field = &fields[at];
+            let own = self.node_size(field.node);
+            all = field_and_rest(self.form, at, field, own, all);
+        }
+        all
     }
-    all
-}
 
-/// The size of a node. It is looked up if it is known, else computed.
-#[cycle(sizes)]
-fn node_size(
-    form: Form,
-    nodes: &[Node],
-    roots: &[usize],
-    known: &[NodeSize],
-    bits: u64,
-    at: usize,
-) -> NodeSize
-    requires table { IsTable nodes.now }
-    requires at { at < length nodes.now }
-    requires known { AreKnownSizes nodes.now roots.now known.now form bits }
-    ensures { AreSizes result form (type_of nodes.now at) bits }
-{
-    if let Some(slot) = nodes[at].slot {
-        let slot = usize::from(slot);
-        if slot < known.len() && slot < roots.len() && roots[slot] == at {
-            return known[slot];
+    /// The sizes of the parts of a union or an integral struct, from the last to the first.
+    #[cycle(sizes)]
+    fn parts_sizes(&self, below: usize, parts: &[Part]) -> PartSizes
+        requires below { below ≤ length self.now.nodes.now }
+        requires parts { PartsBelow below parts.now }
+        ensures { let all = open_parts (type_of self.now.nodes.now) parts.now in
+            ArePartSizes result self.now.form 0 all self.now.bits }
+    {
+        let mut all = no_parts();
+        let mut at = parts.len();
+        while at > 0 {
+            at -= 1;
+            let part = &parts[at];
+            let own = self.node_size(part.node);
+            all = part_and_rest(self.form, at, part, own, all);
         }
+        all
     }
-    shape_size(form, nodes, roots, known, bits, at)
-}
 
-/// The size of a node, computed from the sizes of the nodes that it uses.
-#[cycle(sizes)]
-fn shape_size(
-    form: Form,
-    nodes: &[Node],
-    roots: &[usize],
-    known: &[NodeSize],
-    bits: u64,
-    at: usize,
-) -> NodeSize
-    requires table { IsTable nodes.now }
-    requires at { at < length nodes.now }
-    requires known { AreKnownSizes nodes.now roots.now known.now form bits }
-    ensures { AreSizes result form (type_of nodes.now at) bits }
-{
-    match &nodes[at].shape {
-        Shape::Integer(number) => integer_size(form, bits, *number),
-        Shape::Offset(number, unit) => offset_size(form, bits, *number, *unit),
-        Shape::String => string_size(form, bits),
-        Shape::Array(element, _) => {
-            let element = node_size(form, nodes, roots, known, bits, *element);
-            array_size(form, bits, element)
+    /// The size of a node. It is looked up if it is known, else computed.
+    #[cycle(sizes)]
+    fn node_size(&self, at: usize) -> NodeSize
+        requires at { at < length self.now.nodes.now }
+        ensures { AreSizes result self.now.form (type_of self.now.nodes.now at) self.now.bits }
+    {
+        if let Some(slot) = self.nodes[at].slot {
+            let slot = usize::from(slot);
+            if slot < self.known.len() && slot < self.roots.len() && self.roots[slot] == at {
+                return self.known[slot];
+            }
         }
-        Shape::Struct {
-            name,
-            pinned,
-            fields,
-        } => {
-            let fields = fields_sizes(form, nodes, roots, known, bits, at, fields);
-            struct_size(form, bits, name, *pinned, fields)
-        }
-        Shape::Integral {
-            name,
-            number,
-            fields,
-        } => {
-            let fields = parts_sizes(form, nodes, roots, known, bits, at, fields);
-            integral_size(form, bits, name, *number, fields)
-        }
-        Shape::Union { name, alternatives } => {
-            let alternatives = parts_sizes(form, nodes, roots, known, bits, at, alternatives);
-            union_size(form, bits, name, alternatives)
+        self.shape_size(at)
+    }
+
+    /// The size of a node, computed from the sizes of the nodes that it uses.
+    #[cycle(sizes)]
+    fn shape_size(&self, at: usize) -> NodeSize
+        requires at { at < length self.now.nodes.now }
+        ensures { AreSizes result self.now.form (type_of self.now.nodes.now at) self.now.bits }
+    {
+        let form = self.form;
+        let bits = self.bits;
+        match &self.nodes[at].shape {
+            Shape::Integer(number) => integer_size(form, bits, *number),
+            Shape::Offset(number, unit) => offset_size(form, bits, *number, *unit),
+            Shape::String => string_size(form, bits),
+            Shape::Array(element, _) => array_size(form, bits, self.node_size(*element)),
+            Shape::Struct {
+                name,
+                pinned,
+                fields,
+            } => struct_size(form, bits, name, *pinned, self.fields_sizes(at, fields)),
+            Shape::Integral {
+                name,
+                number,
+                fields,
+            } => integral_size(form, bits, name, *number, self.parts_sizes(at, fields)),
+            Shape::Union { name, alternatives } => {
+                union_size(form, bits, name, self.parts_sizes(at, alternatives))
+            }
         }
     }
 }
 
-/// The size of a node on so many bits. `roots` are the nodes of the declared types, in rising order. The size of each
-/// root is computed once and stored in memory that is allocated for it.
+/// The size of a node of a table on so many bits, where the sizes of the first declared types are known.
+fn known_size(form: Form, bits: u64, table: &Table, known: &[NodeSize], at: usize) -> NodeSize
+    requires at { at < length (nodes_of table.now) }
+    requires known { AreKnownSizes (nodes_of table.now) (roots_of table.now) known.now form bits }
+    ensures { AreSizes result form (type_of (nodes_of table.now) at) bits }
+{
+    let sizer = Sizer {
+        form,
+        bits,
+        nodes: table.nodes(),
+        roots: table.roots(),
+        known,
+    };
+    sizer.shape_size(at)
+}
+
+/// The size of a type on so many bits. The size of each declared type before it is computed once and stored in memory
+/// that is allocated for it.
 pub fn type_size(
     alloc: Global,
     form: Form,
-    nodes: &[Node],
-    roots: &[usize],
     bits: u64,
-    at: usize,
+    table: &Table,
+    id: TypeId,
 ) -> Result<NodeSize, AllocError>
-    requires table { IsTable nodes.now }
-    requires at { at < length nodes.now }
-    ensures { IfOk result (λ size. AreSizes size form (type_of nodes.now at) bits) }
+    requires known { IsInTable table.now id }
+    ensures { IfOk result (λ size. AreSizes size form (type_named table.now id) bits) }
 {
+    let roots = table.roots();
     let mut known = Vec::new(alloc);
     for root in roots {
-        if *root >= at {
+        if *root >= id.node {
             break;
         }
-        let size = shape_size(form, nodes, roots, known.as_slice(), bits, *root);
+        let size = known_size(form, bits, table, known.as_slice(), *root);
         known.push(size)?;
     }
-    Ok(shape_size(form, nodes, roots, known.as_slice(), bits, at))
+    Ok(known_size(form, bits, table, known.as_slice(), id.node))
 }

@@ -1,16 +1,14 @@
 //! The run that also bounds the printed value.
 ghost use Rattle.std.specs.Prelude.{ℕ, List, IfOk};
-ghost use Rattle.pickle_types.specs.Bounds.{cost, room, IsBound};
-ghost use Rattle.text_bounds.specs.TextRoom.{most_text_for};
 ghost use Rattle.pickle_types.specs.TypeTable.{type_named, IsInTable};
 ghost use Rattle.poke_batch.specs.Runs.{IsAsked};
-ghost use Rattle.text_bounds.specs.TextRuns.{TextBoundsAs};
+ghost use Rattle.text_bounds.specs.TextRuns.{AreAllBounds, TextBoundsAs};
 ghost use Rattle.run_parts.specs.Outcomes.{EndsAs};
 ghost use Rattle.run_parts.specs.Told.{Says};
 
 use crate::bound::most_text_for;
+use crate::texts::Texts;
 use pickle_types::table::{Table, TypeId};
-use poke_batch::mode::Mode;
 use run_parts::accept::accept;
 use run_parts::bound::put_bounds_and_text;
 use run_parts::outcome::{Failure, Outcome};
@@ -18,27 +16,21 @@ use run_parts::status::Status;
 use run_parts::tell::{answer, tell};
 use std::alloc::{AllocError, Global};
 use std::io::Write;
-use text_forms::style::Style;
 
-/// Writes the most steps and slots that a mapping of the type `name` takes over a file of `bits` bits, and the most
-/// bytes of its printed value in a style, in `mode` or, if that is `None`, in any mode.
+/// Writes the most steps and slots that a mapping of the type `name` takes over a file of the texts' bits, and the most
+/// bytes of its printed value.
 pub fn run_bound_text<O: Write, E: Write>(
     alloc: Global,
     pickle: &[u8],
     name: &[u8],
-    bits: u64,
-    style: Style,
-    mode: Option<Mode>,
+    texts: Texts,
     out: &mut O,
     err: &mut E,
 ) -> Status
-    ensures { Says (TextBoundsAs pickle.now name.now bits style mode) result
+    ensures { Says (TextBoundsAs pickle.now name.now texts.bits texts.style texts.mode) result
         (O.contents out.old) (O.contents out.new) (E.contents err.old) (E.contents err.new) }
 {
-    tell(
-        bound_text_outcome(alloc, pickle, name, bits, style, mode, out),
-        err,
-    )
+    tell(bound_text_outcome(alloc, pickle, name, texts, out), err)
 }
 
 /// Does what [`run_bound_text`] does, and returns the outcome instead of writing its line.
@@ -46,19 +38,18 @@ pub fn bound_text_outcome<O: Write>(
     alloc: Global,
     pickle: &[u8],
     name: &[u8],
-    bits: u64,
-    style: Style,
-    mode: Option<Mode>,
+    texts: Texts,
     out: &mut O,
 ) -> Outcome
-    ensures { EndsAs (TextBoundsAs pickle.now name.now bits style mode) result (O.contents out.old) (O.contents out.new) }
+    ensures { EndsAs (TextBoundsAs pickle.now name.now texts.bits texts.style texts.mode) result
+        (O.contents out.old) (O.contents out.new) }
 {
     let table = match accept(alloc, pickle) {
         Ok(table) => table,
         Err(refusal) => return Outcome::Refused(refusal),
     };
     match table.find(name) {
-        Some(ty) => bound_found(alloc, &table, ty, bits, style, mode, out),
+        Some(ty) => bound_found(alloc, &table, ty, texts, out),
         None => Outcome::NoSuchType,
     }
 }
@@ -75,15 +66,12 @@ fn all_bounds(
     alloc: Global,
     table: &Table,
     id: TypeId,
-    bits: u64,
-    style: Style,
-    mode: Option<Mode>,
+    texts: Texts,
 ) -> Result<AllBounds, AllocError>
     requires known { IsInTable table.now id }
-    ensures steps { IfOk result (λ all. IsBound all.steps (cost (type_named table.now id) bits)) }
-    ensures slots { IfOk result (λ all. IsBound all.slots (room (type_named table.now id) bits)) }
-    ensures text { IfOk result (λ all. IsBound all.text (most_text_for style mode (type_named table.now id) bits)) }
+    ensures { IfOk result (λ all. AreAllBounds all (type_named table.now id) texts) }
 {
+    let Texts { bits, style, mode } = texts;
     let bounds = table.bounds(alloc, id, bits)?;
     let text = most_text_for(alloc, table, id, bits, style, mode)?;
     Ok(AllBounds {
@@ -98,16 +86,15 @@ fn bound_found<O: Write>(
     alloc: Global,
     table: &Table,
     id: TypeId,
-    bits: u64,
-    style: Style,
-    mode: Option<Mode>,
+    texts: Texts,
     out: &mut O,
 ) -> Outcome
     requires known { IsInTable table.now id }
     ensures { (pickle name : List ℕ) → IsAsked pickle name (type_named table.now id)
-        → EndsAs (TextBoundsAs pickle name bits style mode) result (O.contents out.old) (O.contents out.new) }
+        → EndsAs (TextBoundsAs pickle name texts.bits texts.style texts.mode) result
+        (O.contents out.old) (O.contents out.new) }
 {
-    match all_bounds(alloc, table, id, bits, style, mode) {
+    match all_bounds(alloc, table, id, texts) {
         Ok(all) => answer(put_bounds_and_text(out, all.steps, all.slots, all.text)),
         Err(_) => Outcome::Failed(Failure::Memory),
     }

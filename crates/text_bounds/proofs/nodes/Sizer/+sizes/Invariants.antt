@@ -1,7 +1,7 @@
 use Rattle.std.proofs.Common.{◌+◌, ◌*◌, ◌≤◌, length, drop}
 use Rattle.pickle_types.specs.Table.{type_of, open_fields, open_parts}
 use Rattle.text_bounds.specs.TextHeld.{AreFieldSizes, ArePartSizes}
-use Rattle.text_bounds.proofs.nodes.+sizes.Given as goal
+use Rattle.text_bounds.proofs.nodes.Sizer.+sizes.Given as goal
 
 abbrev pub decreases-fields_sizes : goal.decreases-fields_sizes
 decreases-fields_sizes l = 3 * l.below
@@ -18,7 +18,7 @@ decreases-shape_size l = 3 * l.at + 1
 abbrev pub invariant-fields_sizes-loop-at : goal.invariant-fields_sizes-loop-at
 invariant-fields_sizes-loop-at l = record {
   within : l.at ≤ length l.fields;
-  so_far : AreFieldSizes l.all l.form l.at (open_fields (type_of l.nodes) (drop l.at l.fields)) l.bits;
+  so_far : AreFieldSizes l.all l.self.form l.at (open_fields (type_of l.self.nodes.now) (drop l.at l.fields)) l.self.bits;
 }
 
 abbrev pub decreases-fields_sizes-loop-at : goal.decreases-fields_sizes-loop-at
@@ -27,7 +27,7 @@ decreases-fields_sizes-loop-at l = l.at
 abbrev pub invariant-parts_sizes-loop-at : goal.invariant-parts_sizes-loop-at
 invariant-parts_sizes-loop-at l = record {
   within : l.at ≤ length l.parts;
-  so_far : ArePartSizes l.all l.form l.at (open_parts (type_of l.nodes) (drop l.at l.parts)) l.bits;
+  so_far : ArePartSizes l.all l.self.form l.at (open_parts (type_of l.self.nodes.now) (drop l.at l.parts)) l.self.bits;
 }
 
 abbrev pub decreases-parts_sizes-loop-at : goal.decreases-parts_sizes-loop-at
