@@ -27,9 +27,12 @@ status_member Outside = codes ",\"status\":3,"
 abbrev pub without_end : List ℕ → List ℕ
 without_end text = take (length text - 1) text
 
--- the value of a run that is done, or the members that report its refusal or fault
+-- the member with the value of a run that is done, and this one or the members that report its refusal or fault
+abbrev pub value_member : (text : List ℕ) → List ℕ
+value_member text = codes "\"value\":" ++ without_end text
+
 abbrev pub result_members : Outcome → (text : List ℕ) → List ℕ
-result_members outcome.Done text = codes "\"value\":" ++ without_end text
+result_members outcome.Done text = value_member text
 result_members ended text = outcome_members ended
 
 -- a byte before the first line of some, or as a line of its own

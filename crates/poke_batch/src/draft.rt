@@ -74,7 +74,8 @@ pub fn gather(
 ) -> Result<Vec<u8>, DraftFault>
     ensures text { IfOk result (λ text. text.items ≡ typed_text terms.now mode value.entry) }
     ensures fits { IfOk result (λ text. length text.items ≤ most) }
-    ensures err { IfErr result (λ fault. fault ≡ DraftFault.TooLong → most < length (typed_text terms.now mode value.entry)) }
+    ensures err { IfErr result (λ fault. fault ≡ DraftFault.TooLong
+        → most < length (typed_text terms.now mode value.entry)) }
 {
     let mut draft = Draft {
         bytes: Vec::new(alloc),
@@ -84,8 +85,9 @@ pub fn gather(
     judge(printed, draft.bytes, most)
 }
 
-/// Prints a value, or the parts of it that the terms select, in a mode and the style of the terms or, if they have a look,
-/// shows it to the eye. If the writer fails, what it accepted is the first bytes of the text, but not all of them.
+/// Prints a value, or the parts of it that the terms select, in a mode and the style of the terms or, if they have a
+/// look, shows it to the eye. If the writer fails, what it accepted is the first bytes of the text, but not all of
+/// them.
 pub fn print_under<W: Write>(
     value: Typed<'_>,
     mode: Mode,
@@ -93,7 +95,8 @@ pub fn print_under<W: Write>(
     w: &mut W,
 ) -> Result<(), WriteFault>
     ensures ok { OnOk result (Appends (W.contents w.old) (W.contents w.new) (typed_text terms.now mode value.entry)) }
-    ensures err { OnErr result (AppendsPart (W.contents w.old) (W.contents w.new) (typed_text terms.now mode value.entry)) }
+    ensures err { OnErr result (AppendsPart (W.contents w.old) (W.contents w.new)
+        (typed_text terms.now mode value.entry)) }
 {
     match &terms.selection {
         None => print_whole(value, mode, terms.style, terms.look, w),
@@ -110,7 +113,8 @@ fn print_whole<W: Write>(
     w: &mut W,
 ) -> Result<(), WriteFault>
     ensures ok { OnOk result (Appends (W.contents w.old) (W.contents w.new) (typed_whole look style mode value.entry)) }
-    ensures err { OnErr result (AppendsPart (W.contents w.old) (W.contents w.new) (typed_whole look style mode value.entry)) }
+    ensures err { OnErr result (AppendsPart (W.contents w.old) (W.contents w.new)
+        (typed_whole look style mode value.entry)) }
 {
     match look {
         None => print_styled(value, mode, style, w),

@@ -14,8 +14,8 @@ use text_forms::hex::hex_digit;
 use text_forms::write::{WriteFault, put};
 
 /// Writes the line of a file: its name, the exit status of its run, and what the run wrote, with a tab between them.
-/// That is `text` for a run that is done, and otherwise what reports its outcome. In the name, `\` and bytes outside 0x20
-/// to 0x7e are escaped as in strings. `text` ends with a line feed.
+/// That is `text` for a run that is done, and otherwise what reports its outcome. In the name, `\` and bytes outside
+/// 0x20 to 0x7e are escaped as in strings. `text` ends with a line feed.
 #[tactic(auto, using(text_forms::proofs::Parts::written))]
 pub fn put_file_line<W: Write>(
     w: &mut W,
@@ -24,8 +24,10 @@ pub fn put_file_line<W: Write>(
     faults: FaultForm,
     text: &[u8],
 ) -> Result<(), WriteFault>
-    ensures ok { OnOk result (Appends (W.contents w.old) (W.contents w.new) (file_line faults name.now outcome text.now)) }
-    ensures err { OnErr result (AppendsPart (W.contents w.old) (W.contents w.new) (file_line faults name.now outcome text.now)) }
+    ensures ok { OnOk result (Appends (W.contents w.old) (W.contents w.new)
+        (file_line faults name.now outcome text.now)) }
+    ensures err { OnErr result (AppendsPart (W.contents w.old) (W.contents w.new)
+        (file_line faults name.now outcome text.now)) }
 {
     put_name(w, name)?;
     put(w, column(outcome.status()))?;
@@ -41,7 +43,8 @@ fn put_written<W: Write>(
     text: &[u8],
 ) -> Result<(), WriteFault>
     ensures ok { OnOk result (Appends (W.contents w.old) (W.contents w.new) (written_of faults outcome text.now)) }
-    ensures err { OnErr result (AppendsPart (W.contents w.old) (W.contents w.new) (written_of faults outcome text.now)) }
+    ensures err { OnErr result (AppendsPart (W.contents w.old) (W.contents w.new)
+        (written_of faults outcome text.now)) }
 {
     match outcome {
         Outcome::Done => put(w, text),

@@ -1,13 +1,13 @@
 //! The JSON object of one file among many.
 
-ghost use Rattle.std.specs.Prelude.{◌≡◌, ◌≤◌, ◌++◌, codes, length, true, IfOk, OnOk, OnErr};
+ghost use Rattle.std.specs.Prelude.{◌≡◌, ◌≤◌, length, true, IfOk, OnOk, OnErr};
 ghost use Rattle.std.specs.Io.KnownBytes.{Appends};
 ghost use Rattle.run_parts.specs.Outcomes.{outcome_status};
 ghost use Rattle.text_forms.specs.Written.{AppendsPart};
 ghost use Rattle.value_text.specs.ValueText.{comma, spelled};
 ghost use Rattle.value_text.specs.JsonText.{json_escape};
 ghost use Rattle.poke_batch.specs.FileLine.{name_byte, shown_name};
-ghost use Rattle.poke_batch.specs.FileObject.{file_object, first_line_json, line_length, lines_json, name_json, reasons_member, result_members, status_member, text_lines, why_member, without_end, without_indent};
+ghost use Rattle.poke_batch.specs.FileObject.{file_object, first_line_json, line_length, lines_json, name_json, reasons_member, result_members, status_member, text_lines, value_member, why_member, without_end, without_indent};
 
 use run_parts::outcome::Outcome;
 use run_parts::status::Status;
@@ -28,8 +28,10 @@ pub fn put_file_object<W: Write>(
     text: &[u8],
     reasons: &[u8],
 ) -> Result<(), WriteFault>
-    ensures ok { OnOk result (Appends (W.contents w.old) (W.contents w.new) (file_object name.now outcome text.now reasons.now)) }
-    ensures err { OnErr result (AppendsPart (W.contents w.old) (W.contents w.new) (file_object name.now outcome text.now reasons.now)) }
+    ensures ok { OnOk result (Appends (W.contents w.old) (W.contents w.new)
+        (file_object name.now outcome text.now reasons.now)) }
+    ensures err { OnErr result (AppendsPart (W.contents w.old) (W.contents w.new)
+        (file_object name.now outcome text.now reasons.now)) }
 {
     put(w, b"{\"name\":")?;
     put_name_string(w, name)?;
@@ -43,7 +45,8 @@ pub fn put_file_object<W: Write>(
 // Writes the member with the exit status of a run.
 fn put_status<W: Write>(w: &mut W, outcome: Outcome) -> Result<(), WriteFault>
     ensures ok { OnOk result (Appends (W.contents w.old) (W.contents w.new) (status_member (outcome_status outcome))) }
-    ensures err { OnErr result (AppendsPart (W.contents w.old) (W.contents w.new) (status_member (outcome_status outcome))) }
+    ensures err { OnErr result (AppendsPart (W.contents w.old) (W.contents w.new)
+        (status_member (outcome_status outcome))) }
 {
     put(w, status_member(outcome.status()))
 }
@@ -72,8 +75,8 @@ fn put_result<W: Write>(w: &mut W, outcome: Outcome, text: &[u8]) -> Result<(), 
 
 #[tactic(auto, using(text_forms::proofs::Parts::written))]
 fn put_value<W: Write>(w: &mut W, text: &[u8]) -> Result<(), WriteFault>
-    ensures ok { OnOk result (Appends (W.contents w.old) (W.contents w.new) (codes "\"value\":" ++ without_end text.now)) }
-    ensures err { OnErr result (AppendsPart (W.contents w.old) (W.contents w.new) (codes "\"value\":" ++ without_end text.now)) }
+    ensures ok { OnOk result (Appends (W.contents w.old) (W.contents w.new) (value_member text.now)) }
+    ensures err { OnErr result (AppendsPart (W.contents w.old) (W.contents w.new) (value_member text.now)) }
 {
     put(w, b"\"value\":")?;
     put_without_end(w, text)?;
@@ -122,7 +125,8 @@ fn put_reasons<W: Write>(w: &mut W, reasons: &[u8]) -> Result<(), WriteFault>
 /// is written.
 pub fn put_lines<W: Write>(w: &mut W, text: &[u8]) -> Result<(), WriteFault>
     ensures ok { OnOk result (Appends (W.contents w.old) (W.contents w.new) (lines_json true (text_lines text.now))) }
-    ensures err { OnErr result (AppendsPart (W.contents w.old) (W.contents w.new) (lines_json true (text_lines text.now))) }
+    ensures err { OnErr result (AppendsPart (W.contents w.old) (W.contents w.new)
+        (lines_json true (text_lines text.now))) }
 {
     let mut done = 0;
     while done < text.len() {
@@ -184,8 +188,10 @@ fn put_name_string<W: Write>(w: &mut W, name: &[u8]) -> Result<(), WriteFault>
 }
 
 fn put_name_bytes<W: Write>(w: &mut W, name: &[u8]) -> Result<(), WriteFault>
-    ensures ok { OnOk result (Appends (W.contents w.old) (W.contents w.new) (spelled json_escape (shown_name name.now))) }
-    ensures err { OnErr result (AppendsPart (W.contents w.old) (W.contents w.new) (spelled json_escape (shown_name name.now))) }
+    ensures ok { OnOk result (Appends (W.contents w.old) (W.contents w.new)
+        (spelled json_escape (shown_name name.now))) }
+    ensures err { OnErr result (AppendsPart (W.contents w.old) (W.contents w.new)
+        (spelled json_escape (shown_name name.now))) }
 {
     let mut done = 0;
     while done < name.len() {
@@ -198,7 +204,8 @@ fn put_name_bytes<W: Write>(w: &mut W, name: &[u8]) -> Result<(), WriteFault>
 // A byte of a name as its line has it, in a JSON string.
 fn put_name_byte<W: Write>(w: &mut W, byte: u8) -> Result<(), WriteFault>
     ensures ok { OnOk result (Appends (W.contents w.old) (W.contents w.new) (spelled json_escape (name_byte byte))) }
-    ensures err { OnErr result (AppendsPart (W.contents w.old) (W.contents w.new) (spelled json_escape (name_byte byte))) }
+    ensures err { OnErr result (AppendsPart (W.contents w.old) (W.contents w.new)
+        (spelled json_escape (name_byte byte))) }
 {
     match byte {
         b'\\' => put(w, b"\\\\\\\\"),

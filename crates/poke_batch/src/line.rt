@@ -127,7 +127,8 @@ fn put_column<W: Write>(
 
 // The part at a path of a row, if both are there.
 fn column_part<'a>(row: Option<Typed<'a>>, path: &Path) -> Option<Typed<'a>>
-    ensures { (style : Style) (mode : Mode) → typed_cell_of style mode result ≡ typed_path_cell style mode row.entry path.now }
+    ensures { (style : Style) (mode : Mode)
+        → typed_cell_of style mode result ≡ typed_path_cell style mode row.entry path.now }
 {
     match row {
         Some(row) => part_of(row, path.steps.as_slice()),

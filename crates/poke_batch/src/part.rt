@@ -76,7 +76,8 @@ pub fn place_of(value: ValueRef<'_>, step: &Step) -> Option<usize>
 
 // The first place whose member has a name.
 fn place_named(value: ValueRef<'_>, name: &[u8]) -> Option<usize>
-    ensures { result ≡ place_named name.now (label_of (value_shown value.entry)) (member_count (members_of (value_shown value.entry))) 0 }
+    ensures { let shown = value_shown value.entry in
+        result ≡ place_named name.now (label_of shown) (member_count (members_of shown)) 0 }
 {
     for place in 0..value.len() {
         if is_named(value.field_name(place), name) {

@@ -18,8 +18,8 @@ pub struct Places {
     pub end: usize,
 }
 
-/// The places of the members to which a step leads that may lead to many. `None` if the value has no such members: elements
-/// for elements, fields or an alternative for fields.
+/// The places of the members to which a step leads that may lead to many. `None` if the value has no such members:
+/// elements for elements, fields or an alternative for fields.
 pub fn places_of(value: ValueRef<'_>, step: &PatternStep) -> Option<Places>
     ensures { result ≡ places_of step.now (value_shown value.entry) }
 {

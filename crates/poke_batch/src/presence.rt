@@ -1,8 +1,8 @@
 //! Whether the parts that a selection leads to are there.
 
-ghost use Rattle.std.specs.Prelude.{◌≡◌, Some, is_some};
+ghost use Rattle.std.specs.Prelude.{◌≡◌, Some};
 ghost use Rattle.value_text.specs.TypedValue.{nodes_in, types_in};
-ghost use Rattle.poke_batch.specs.Selected.{part_in, line_of, is_there, all_of, path_part, has_shape, has_selected};
+ghost use Rattle.poke_batch.specs.Selected.{OfRow, part_in, line_of, is_there, has_shape, has_selected};
 ghost use Rattle.poke_batch.specs.TypedLines.{has_typed, has_typed_patterns, has_typed_next, has_typed_between, has_typed_places};
 
 use crate::line::Line;
@@ -13,8 +13,8 @@ use command_words::pattern::{Pattern, PatternStep};
 use command_words::selection::{Absent, Column, Selection, Shape};
 use value_text::typed::Typed;
 
-/// Whether a value has all parts that are selected. Where the absence of one is no fault, it is enough that a value of its
-/// type may have them. Without a selection it has.
+/// Whether a value has all parts that are selected. Where the absence of one is no fault, it is enough that a value of
+/// its type may have them. Without a selection it has.
 pub fn has_selected(value: Typed<'_>, selection: &Option<Selection>) -> bool
     ensures { result ≡ has_selected (nodes_in (types_in value.entry)) selection.now (part_in value.entry) }
 {
@@ -118,7 +118,7 @@ fn has_columns(line: Line<'_>, part: Typed<'_>) -> bool
 }
 
 fn has_cells(row: Typed<'_>, columns: &[Column]) -> bool
-    ensures { result ≡ all_of (λ column. is_some (path_part (nodes_in (types_in row.entry)) column.path (part_in row.entry))) columns.now }
+    ensures { result ≡ is_there (nodes_in (types_in row.entry)) (OfRow columns.now) (Some (part_in row.entry)) }
 {
     for column in columns {
         if part_of(row, column.path.steps.as_slice()).is_none() {

@@ -30,7 +30,8 @@ pub fn put_outcome<W: Write>(
 
 /// Writes what reports an outcome, and returns its exit status, or `Outside` if the writer failed.
 pub fn report<E: Write>(outcome: Outcome, faults: FaultForm, err: &mut E) -> Status
-    ensures { IsTold (outcome_status outcome) (outcome_text faults outcome) result (E.contents err.old) (E.contents err.new) }
+    ensures { IsTold (outcome_status outcome) (outcome_text faults outcome) result
+        (E.contents err.old) (E.contents err.new) }
 {
     match put_outcome(err, outcome, faults) {
         Ok(()) => outcome.status(),

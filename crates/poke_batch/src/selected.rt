@@ -19,8 +19,8 @@ use value_text::print::line::Line as Buffer;
 use value_text::print::printer::Printer;
 use value_text::typed::Typed;
 
-/// Prints the parts of a value in a shape, each in a mode and a style or, with a look, for the eye. If the writer fails, what
-/// it accepted is the first bytes of the text, but not all of them.
+/// Prints the parts of a value in a shape, each in a mode and a style or, with a look, for the eye. If the writer
+/// fails, what it accepted is the first bytes of the text, but not all of them.
 pub fn print_shape<W: Write>(
     value: Typed<'_>,
     shape: &Shape,
@@ -29,8 +29,10 @@ pub fn print_shape<W: Write>(
     look: Option<Look>,
     w: &mut W,
 ) -> Result<(), WriteFault>
-    ensures ok { OnOk result (Appends (W.contents w.old) (W.contents w.new) (typed_shape look style mode shape.now value.entry)) }
-    ensures err { OnErr result (AppendsPart (W.contents w.old) (W.contents w.new) (typed_shape look style mode shape.now value.entry)) }
+    ensures ok { OnOk result (Appends (W.contents w.old) (W.contents w.new)
+        (typed_shape look style mode shape.now value.entry)) }
+    ensures err { OnErr result (AppendsPart (W.contents w.old) (W.contents w.new)
+        (typed_shape look style mode shape.now value.entry)) }
 {
     let mut printer = Printer {
         writer: w,

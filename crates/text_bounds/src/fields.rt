@@ -12,7 +12,7 @@ use super::room::{
     array_room, element_before, element_moves, escape_room, field_before, field_moves,
     integer_room, line_room, more_room, offset_room, string_room, titled_room,
 };
-use super::size::{TextSize, both, greater, moved, no_size, repeated, times, with_parts};
+use super::size::{TextSize, both, greater, move_part, no_size, repeat, times, with_parts};
 use pickle_types::bounds::{
     elements, greater_width, least_before, least_present, lesser_width, sum_of, width_sum,
 };
@@ -98,7 +98,10 @@ pub fn field_and_rest(
     let sum = width_sum(least, rest.sum);
     let greatest = greater_width(least, rest.greatest);
     let has_label = is_labelled(field, rest.has_label);
-    let size = both(placed(form.mode, place, &field.name, own.size), rest.size);
+    let size = both(
+        place_part(form.mode, place, &field.name, own.size),
+        rest.size,
+    );
     FieldSizes {
         sum,
         greatest,
@@ -126,8 +129,11 @@ pub fn part_and_rest(
     ensures { JoinsPart form place part.now own rest result }
 {
     let least = least_before(own.least, rest.least, rest.is_empty);
-    let all = both(placed(form.mode, place, &part.name, own.size), rest.all);
-    let greatest = greater(placed(form.mode, 0, &part.name, own.size), rest.greatest);
+    let all = both(place_part(form.mode, place, &part.name, own.size), rest.all);
+    let greatest = greater(
+        place_part(form.mode, 0, &part.name, own.size),
+        rest.greatest,
+    );
     PartSizes {
         is_empty: false,
         least,
@@ -137,13 +143,13 @@ pub fn part_and_rest(
 }
 
 /// The size of a part with what is before it.
-fn placed(mode: Mode, place: usize, name: &Option<Name>, part: TextSize) -> TextSize
-    ensures { (size : Size) → HoldsSize part size
-        → HoldsSize result (moved (field_before mode (name_of name.now) place) (field_moves mode (name_of name.now) place) size) }
+fn place_part(mode: Mode, place: usize, name: &Option<Name>, part: TextSize) -> TextSize
+    ensures { let name = name_of name.now in (size : Size) → HoldsSize part size
+        → HoldsSize result (moved (field_before mode name place) (field_moves mode name place) size) }
 {
     let before = field_before(mode, name, place);
     let moves = field_moves(mode, name, place);
-    moved(before, moves, part)
+    move_part(before, moves, part)
 }
 
 /// The sizes of an integer of a type, in a file of so many bits.
@@ -189,14 +195,15 @@ pub fn string_size(form: Form, bits: u64) -> NodeSize
 /// The sizes of an array, from those of an element. It has as many elements as fit into the file's bits.
 #[tactic(auto, unfolding(pickle_types::specs::Bounds::least_width, crate::specs::TextRoom::size_of))]
 pub fn array_size(form: Form, bits: u64, element: NodeSize) -> NodeSize
-    ensures { (type : PokeType) (bound : Bound) → AreSizes element form type bits → AreSizes result form (ArrayOf type bound) bits }
+    ensures { (type : PokeType) (bound : Bound) → AreSizes element form type bits
+        → AreSizes result form (ArrayOf type bound) bits }
 {
     let mode = form.mode;
     let count = elements(bits, element.least);
     let own = array_room(mode, count) + line_room(mode, bits, bits);
     let before = element_before(mode, count);
     let moves = element_moves(mode, count);
-    let parts = elements_size(form, bits, count, moved(before, moves, element.size));
+    let parts = elements_size(form, bits, count, move_part(before, moves, element.size));
     let array = with_parts(mode, Some(own), parts);
     NodeSize {
         least: Some(0),
@@ -207,13 +214,14 @@ pub fn array_size(form: Form, bits: u64, element: NodeSize) -> NodeSize
 /// The size of the elements of an array, of which a style may leave some out. One always counts, since it may be
 /// requested.
 fn elements_size(form: Form, bits: u64, count: u128, each: TextSize) -> TextSize
-    ensures { (n : ℕ) (size : Size) → count ≡ n → HoldsSize each size → HoldsSize result (elements_size form.mode form.style.elements bits n size) }
+    ensures { (n : ℕ) (size : Size) → count ≡ n → HoldsSize each size
+        → HoldsSize result (elements_size form.mode form.style.elements bits n size) }
 {
     match form.style.elements {
-        None => repeated(count, each),
+        None => repeat(count, each),
         Some(most) => {
             let printed = count.min(u128::from(most.max(1)));
-            both(repeated(printed, each), more_size(form.mode, bits, count))
+            both(repeat(printed, each), more_size(form.mode, bits, count))
         }
     }
 }
@@ -268,7 +276,8 @@ pub fn struct_size(
     pinned: bool,
     fields: FieldSizes,
 ) -> NodeSize
-    ensures { (all : Fields) → AreFieldSizes fields form 0 all bits → AreSizes result form (StructOf (name_of name.now) pinned all) bits }
+    ensures { (all : Fields) → AreFieldSizes fields form 0 all bits
+        → AreSizes result form (StructOf (name_of name.now) pinned all) bits }
 {
     let least = least_of_fields(pinned, fields);
     let own = titled_room(form.mode, b"struct", name) + line_room(form.mode, bits, bits);
@@ -287,7 +296,8 @@ pub fn integral_size(
     ty: IntegerType,
     fields: PartSizes,
 ) -> NodeSize
-    ensures { (all : Parts) → ArePartSizes fields form 0 all bits → AreSizes result form (IntegralOf (name_of name.now) ty all) bits }
+    ensures { (all : Parts) → ArePartSizes fields form 0 all bits
+        → AreSizes result form (IntegralOf (name_of name.now) ty all) bits }
 {
     let width = u64::from(ty.width);
     let own = titled_room(form.mode, b"struct", name) + line_room(form.mode, bits, width);
@@ -300,7 +310,8 @@ pub fn integral_size(
 /// The sizes of a union, from those of its alternatives.
 #[tactic(auto, unfolding(pickle_types::specs::Bounds::least_width, crate::specs::TextRoom::size_of))]
 pub fn union_size(form: Form, bits: u64, name: &Option<Name>, alternatives: PartSizes) -> NodeSize
-    ensures { (all : Parts) → ArePartSizes alternatives form 0 all bits → AreSizes result form (UnionOf (name_of name.now) all) bits }
+    ensures { (all : Parts) → ArePartSizes alternatives form 0 all bits
+        → AreSizes result form (UnionOf (name_of name.now) all) bits }
 {
     let own = titled_room(form.mode, b"union", name) + line_room(form.mode, bits, bits);
     NodeSize {

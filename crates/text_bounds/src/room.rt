@@ -51,7 +51,8 @@ fn suffix_room(suffix: Suffix) -> u128
 
 /// The bytes that name the type of an integer, beside its digits.
 fn type_room(ty: IntegerType) -> u128
-    ensures count { (number : ℤ) → length (typed_text (suffix_of ty) ty number) ≡ result + length (signed_decimal number) }
+    ensures count { (number : ℤ)
+        → length (typed_text (suffix_of ty) ty number) ≡ result + length (signed_decimal number) }
     ensures few { result ≤ 60 }
 {
     match suffix_of(ty) {

@@ -31,7 +31,7 @@ pub fn times(count: u128, each: Option<u128>) -> Option<u128>
 }
 
 /// The sum of what a value has itself and what its parts have. In the mode `lines` it is the greater of the two.
-fn joined(mode: Mode, own: Option<u128>, parts: Option<u128>) -> Option<u128>
+fn join(mode: Mode, own: Option<u128>, parts: Option<u128>) -> Option<u128>
     ensures { (x y : ℕ) → IsBound own x → IsBound parts y → IsBound result (joined mode x y) }
 {
     match mode {
@@ -52,16 +52,18 @@ pub fn no_size() -> TextSize
 
 /// The size of a value that has so many bytes beside its parts.
 pub fn with_parts(mode: Mode, own: Option<u128>, parts: TextSize) -> TextSize
-    ensures { (room : ℕ) (size : Size) → IsBound own room → HoldsSize parts size → HoldsSize result (with_parts mode room size) }
+    ensures { (room : ℕ) (size : Size) → IsBound own room → HoldsSize parts size
+        → HoldsSize result (with_parts mode room size) }
 {
-    let text = joined(mode, own, parts.text);
-    let lines = joined(mode, Some(1), parts.lines);
+    let text = join(mode, own, parts.text);
+    let lines = join(mode, Some(1), parts.lines);
     TextSize { text, lines }
 }
 
 /// The size of a part with `before` bytes before it, and `moves` bytes before each of its lines.
-pub fn moved(before: u128, moves: u128, part: TextSize) -> TextSize
-    ensures { (x y : ℕ) (size : Size) → before ≡ x → moves ≡ y → HoldsSize part size → HoldsSize result (moved x y size) }
+pub fn move_part(before: u128, moves: u128, part: TextSize) -> TextSize
+    ensures { (x y : ℕ) (size : Size) → before ≡ x → moves ≡ y → HoldsSize part size
+        → HoldsSize result (moved x y size) }
 {
     let text = sum_of(sum_of(Some(before), times(moves, part.lines)), part.text);
     TextSize {
@@ -89,7 +91,7 @@ pub fn greater(a: TextSize, b: TextSize) -> TextSize
 }
 
 /// The size of so many texts of one size.
-pub fn repeated(count: u128, each: TextSize) -> TextSize
+pub fn repeat(count: u128, each: TextSize) -> TextSize
     ensures { (n : ℕ) (size : Size) → count ≡ n → HoldsSize each size → HoldsSize result (repeated n size) }
 {
     let text = times(count, each.text);

@@ -13,5 +13,5 @@ returns c type fields m h g =
       sum = c.width_sum-sum.ensures _ _ least g.sum;
       greatest = c.greater_width-greatest.ensures _ _ least g.greatest;
       label = c.is_labelled-has_label.ensures ∙ ap (λ b. is_some (optional_term c.args.field.now.label) || b) g.label;
-      size = c.both-size.ensures _ _ (c.placed.ensures _ h.size) g.size;
+      size = c.both-size.ensures _ _ (c.place_part.ensures _ h.size) g.size;
     }
