@@ -21,11 +21,14 @@ const LOAD: &str =
 const UNITS: &str =
     "units are `b`, `B` and whole numbers of bits: 1 KB is 8000, 1 KiB 8192, 1 MB 8000000, 1 MiB 8388608";
 
+/// What to write for a `;` that ends nothing.
+const SEMICOLON: &str = "leave out this `;`";
+
 /// How a comment is written.
 const COMMENTS: &str = "comments are `/* .. */`, or `//` up to the end of the line";
 
 /// Where a declaration begins.
-static DECLARATIONS: [Pattern; 22] = [
+static DECLARATIONS: [Pattern; 23] = [
     Pattern {
         tokens: [b"", b"", b"load", b"", b"", b""],
         help: LOAD,
@@ -59,6 +62,10 @@ static DECLARATIONS: [Pattern; 22] = [
         help: "write `type NAME = pinned struct { .. };`",
     },
     Pattern {
+        tokens: [b"", b"", b"{", b"", b"", b""],
+        help: "write `type NAME = struct { .. };`",
+    },
+    Pattern {
         tokens: [b"", b"", b"typedef", b"struct", b"", b""],
         help: "write `type NAME = struct { .. };`",
     },
@@ -80,7 +87,7 @@ static DECLARATIONS: [Pattern; 22] = [
     },
     Pattern {
         tokens: [b"", b"", b";", b"", b"", b""],
-        help: "leave out this `;`",
+        help: SEMICOLON,
     },
     Pattern {
         tokens: [b"", b"", b"#", b"define", b"", b""],
@@ -117,7 +124,7 @@ static DECLARATIONS: [Pattern; 22] = [
 ];
 
 /// The first word of a declaration or field, in the place of the refused token.
-static OPENINGS: [Pattern; 25] = [
+static OPENINGS: [Pattern; 36] = [
     Pattern {
         tokens: [b"", b"", b"var", b"NAME", b"=", b""],
         help: "variables are left out: write the value where `$0` is used",
@@ -171,12 +178,56 @@ static OPENINGS: [Pattern; 25] = [
         help: "a condition stands behind its field: `TYPE NAME if CONDITION;`",
     },
     Pattern {
+        tokens: [b"", b"", b"unsigned", b"char", b"", b""],
+        help: "write `uint<8>`",
+    },
+    Pattern {
+        tokens: [b"", b"", b"unsigned", b"short", b"", b""],
+        help: "write `uint<16>`",
+    },
+    Pattern {
+        tokens: [b"", b"", b"unsigned", b"int", b"", b""],
+        help: "write `uint<32>`",
+    },
+    Pattern {
+        tokens: [b"", b"", b"unsigned", b"long", b"", b""],
+        help: "write `uint<64>`",
+    },
+    Pattern {
+        tokens: [b"", b"", b"signed", b"char", b"", b""],
+        help: "write `int<8>`",
+    },
+    Pattern {
+        tokens: [b"", b"", b"signed", b"short", b"", b""],
+        help: "write `int<16>`",
+    },
+    Pattern {
+        tokens: [b"", b"", b"signed", b"int", b"", b""],
+        help: "write `int<32>`",
+    },
+    Pattern {
+        tokens: [b"", b"", b"signed", b"long", b"", b""],
+        help: "write `int<64>`",
+    },
+    Pattern {
         tokens: [b"", b"", b"unsigned", b"", b"", b""],
         help: "write the integer type alone, as `uint<32>` or `int<32>`",
     },
     Pattern {
         tokens: [b"", b"", b"signed", b"", b"", b""],
         help: "write the integer type alone, as `uint<32>` or `int<32>`",
+    },
+    Pattern {
+        tokens: [b"", b"", b"long", b"long", b"NAME", b""],
+        help: "write `int<64>`",
+    },
+    Pattern {
+        tokens: [b"", b"", b"long", b"int", b"NAME", b""],
+        help: "write `int<64>`",
+    },
+    Pattern {
+        tokens: [b"", b"", b"short", b"int", b"NAME", b""],
+        help: "write `int<16>`",
     },
     Pattern {
         tokens: [b"", b"", b"for", b"", b"", b""],
@@ -221,7 +272,7 @@ static OPENINGS: [Pattern; 25] = [
 ];
 
 /// Tokens in a row, wherever they are.
-static ANYWHERE: [Pattern; 62] = [
+static ANYWHERE: [Pattern; 69] = [
     Pattern {
         tokens: [b"INTEGER", b"NUMBER", b"*", b"NUMBER", b">", b""],
         help: "write the product as one number: the width in bits",
@@ -331,6 +382,10 @@ static ANYWHERE: [Pattern; 62] = [
         help: "write `type NAME = TYPE;`",
     },
     Pattern {
+        tokens: [b"type", b"NAME", b"{", b"", b"", b""],
+        help: "write `type $2 = struct { .. };`",
+    },
+    Pattern {
         tokens: [b"type", b"NAME", b"", b"", b"", b""],
         help: "write `type $2 = TYPE;`",
     },
@@ -435,6 +490,18 @@ static ANYWHERE: [Pattern; 62] = [
         help: "the type stands before the name: write `$9 $1;`",
     },
     Pattern {
+        tokens: [b"int", b":", b"int<", b"NUMBER", b"", b""],
+        help: "to compare `int` write `int < $4`, with a blank",
+    },
+    Pattern {
+        tokens: [b"uint", b":", b"uint<", b"NUMBER", b"", b""],
+        help: "to compare `uint` write `uint < $4`, with a blank",
+    },
+    Pattern {
+        tokens: [b"NAME", b":", b"INTEGER", b"NUMBER", b";", b""],
+        help: "the type stands before the name, with a `>` at its end: write `$3$4> $1;`",
+    },
+    Pattern {
         tokens: [b"NAME", b":", b"string", b";", b"", b""],
         help: "the type stands before the name: write `$9 $1;`",
     },
@@ -469,6 +536,18 @@ static ANYWHERE: [Pattern; 62] = [
     Pattern {
         tokens: [b"", b"#", b"bits", b"", b"", b""],
         help: "write `#b` for bits",
+    },
+    Pattern {
+        tokens: [b"", b"#", b"NAME", b"", b"", b""],
+        help: UNITS,
+    },
+    Pattern {
+        tokens: [b"", b",", b"NAME", b"", b"", b""],
+        help: UNITS,
+    },
+    Pattern {
+        tokens: [b"@", b"NUMBER", b"B", b"", b"", b""],
+        help: "write `$2#B`",
     },
 ];
 
@@ -593,7 +672,7 @@ static OPERANDS: [Pattern; 9] = [
 ];
 
 /// Behind a type or a name, or in the place of one.
-static FORMS: [Pattern; 20] = [
+static FORMS: [Pattern; 26] = [
     Pattern {
         tokens: [b"", b"}", b"__attribute__", b"", b"", b""],
         help: "leave it out: fields stand side by side, without gaps between them",
@@ -629,6 +708,30 @@ static FORMS: [Pattern; 20] = [
     Pattern {
         tokens: [b"", b"", b"[", b"", b"", b""],
         help: "the bound stands behind the type: `byte[4] b`",
+    },
+    Pattern {
+        tokens: [b"", b";", b";", b"", b"", b""],
+        help: SEMICOLON,
+    },
+    Pattern {
+        tokens: [b"", b"{", b";", b"", b"", b""],
+        help: SEMICOLON,
+    },
+    Pattern {
+        tokens: [b"NAME", b"=", b"{", b"", b"", b""],
+        help: "write `type $1 = struct { .. };`",
+    },
+    Pattern {
+        tokens: [b"NUMBER", b">", b"{", b"", b"", b""],
+        help: "one integer that is cut into fields begins with `struct`: write `struct uint<$1> { .. }`",
+    },
+    Pattern {
+        tokens: [b"", b"TYPE", b"{", b"", b"", b""],
+        help: "one integer that is cut into fields begins with `struct`: write `struct $2 { .. }`",
+    },
+    Pattern {
+        tokens: [b"", b"OPEN", b"{", b"", b"", b""],
+        help: "write `struct { .. }`",
     },
     Pattern {
         tokens: [b"", b"", b",", b"", b"", b""],
@@ -689,7 +792,7 @@ pub fn advice(around: Around<'_, '_>, expected: Expected) -> Option<&'static str
     } else {
         None
     };
-    let help = help.or(of_opening(around)).or(of_unit(around));
+    let help = help.or(of_opening(around));
     match help.or(around.find(ANYWHERE.as_slice())) {
         Some(help) => Some(help),
         None if expected.value => around.find(VALUES.as_slice()),
@@ -709,32 +812,6 @@ fn of_opening(around: Around<'_, '_>) -> Option<&'static str> {
         first: around.first,
     };
     first.find(OPENINGS.as_slice())
-}
-
-/// The advice for a name of a unit.
-fn of_unit(around: Around<'_, '_>) -> Option<&'static str> {
-    match (around.script.text_before(around.token), around.found()) {
-        (b"#" | b",", found) if is_unit_word(found) => Some(UNITS),
-        _ => None,
-    }
-}
-
-fn is_unit_word(word: &[u8]) -> bool {
-    matches!(
-        word,
-        b"N" | b"Kb"
-            | b"KB"
-            | b"Mb"
-            | b"MB"
-            | b"Gb"
-            | b"GB"
-            | b"Kib"
-            | b"KiB"
-            | b"Mib"
-            | b"MiB"
-            | b"Gib"
-            | b"GiB"
-    )
 }
 
 /// The advice for a token after an operand.

@@ -1,6 +1,7 @@
 //! Sentences about an expression that the type checker refuses.
 
 use crate::located::Located;
+use crate::offsets::Mixed;
 use crate::sorts::say_type;
 use crate::types::{name_of, rule_finding, unknown_type};
 use pickle_script::nodes::{Node, is_path, token_count};
@@ -8,7 +9,7 @@ use pickle_script::script::{Part, Script, cut};
 use pickle_script::site::Purpose;
 use pickle_script::text::Text;
 use pickle_syntax::token::Attribute;
-use pickle_syntax::tree::{Expression, Suffix};
+use pickle_syntax::tree::{Expression, Operation, Suffix};
 use pickle_types::fault::FaultKind;
 use pickle_types::refused::{OperandType, OperandTypes, Refused, RefusedExpression};
 use std::alloc::{AllocError, Global};
@@ -127,18 +128,36 @@ fn label_help(alloc: Global, script: &Script<'_>, part: Part) -> Result<Text, Al
 }
 
 /// An integer with the unit of bytes after it.
-fn with_unit(alloc: Global, script: &Script<'_>, part: Part) -> Result<Vec<u8>, AllocError> {
+pub fn with_unit(alloc: Global, script: &Script<'_>, part: Part) -> Result<Vec<u8>, AllocError> {
+    let mut text = grouped(alloc, script, part)?;
+    text.extend_from_slice(b"#B")?;
+    Ok(text)
+}
+
+/// An operand as it is written, in brackets where it has operators outside of any.
+pub fn grouped(alloc: Global, script: &Script<'_>, part: Part) -> Result<Vec<u8>, AllocError> {
     let expression = script.slice(part);
-    if !(part.first..part.end).any(|token| is_operator(script.text(token))) {
-        return Ok(Text::new(alloc).say(expression)?.say(b"#B")?.into_bytes());
+    let text = Text::new(alloc);
+    let text = if has_operator(script, part) {
+        text.say(b"(")?.say(expression)?.say(b")")?
+    } else {
+        text.say(expression)?
+    };
+    Ok(text.into_bytes())
+}
+
+/// Whether some tokens have an operator outside of brackets.
+fn has_operator(script: &Script<'_>, part: Part) -> bool {
+    let mut depth: usize = 0;
+    for token in part.first..part.end {
+        match script.text(token) {
+            b"(" | b"[" => depth = depth.saturating_add(1),
+            b")" | b"]" => depth = depth.saturating_sub(1),
+            text if depth == 0 && is_operator(text) => return true,
+            _ => {}
+        }
     }
-    Ok(
-        Text::new(alloc)
-            .say(b"(")?
-            .say(expression)?
-            .say(b")#B")?
-            .into_bytes(),
-    )
+    false
 }
 
 /// Whether a token binds weaker than a unit behind it.
@@ -162,7 +181,7 @@ impl<'a, 't> Place<'a, 't> {
     fn of_node(self, node: Node<'_, '_>) -> Result<Finding, AllocError> {
         match node.expression {
             Expression::Name(word) => self.unknown_name(word),
-            Expression::Infix(operation) => self.infix(&operation.left),
+            Expression::Infix(operation) => self.infix(operation),
             Expression::Prefix(_, _) => self.prefix(),
             Expression::Index(element) => self.index(&element.operand),
             Expression::After(after) => self.after(&after.operand, &after.suffix),
@@ -237,8 +256,8 @@ impl<'a, 't> Place<'a, 't> {
     }
 
     /// The finding for an operator between two operands that it rejects.
-    fn infix(self, left: &Expression<'_>) -> Result<Finding, AllocError> {
-        let count = token_count(left);
+    fn infix(self, operation: &Operation<'_>) -> Result<Finding, AllocError> {
+        let count = token_count(&operation.left);
         let sign = self.tokens(count, 1);
         let OperandTypes { first, second, .. } = self.types;
         let text = self
@@ -252,11 +271,15 @@ impl<'a, 't> Place<'a, 't> {
             sign,
             right: self.rest(count.saturating_add(1)),
         };
-        self.finding(sign, text, self.infix_help(operands)?)
+        self.finding(sign, text, self.infix_help(operands, operation)?)
     }
 
     /// What to write instead of an operator between two operands that it rejects.
-    fn infix_help(self, operands: Operands) -> Result<Option<Text>, AllocError> {
+    fn infix_help(
+        self,
+        operands: Operands,
+        operation: &Operation<'_>,
+    ) -> Result<Option<Text>, AllocError> {
         if let Some(help) = self.letters_help(operands)? {
             return Ok(Some(help));
         }
@@ -268,12 +291,24 @@ impl<'a, 't> Place<'a, 't> {
             ) if matches!(self.script().slice(operands.sign), b"+" | b"-") => {
                 self.size_help(operands)?
             }
-            (Some(OperandType::Integer(_)), Some(OperandType::Offset(_, _))) => self.unit_help(
-                operands.left,
-            )?,
-            (Some(OperandType::Offset(_, _)), Some(OperandType::Integer(_))) => self.unit_help(
-                operands.right,
-            )?,
+            (Some(OperandType::Integer(_)), Some(OperandType::Offset(_, unit))) => {
+                self.mixed_help(Mixed {
+                    offset: operands.right,
+                    unit,
+                    sign: operands.sign,
+                    integer: operands.left,
+                    number: &operation.left,
+                })?
+            }
+            (Some(OperandType::Offset(_, unit)), Some(OperandType::Integer(_))) => {
+                self.mixed_help(Mixed {
+                    offset: operands.left,
+                    unit,
+                    sign: operands.sign,
+                    integer: operands.right,
+                    number: &operation.right,
+                })?
+            }
             (Some(OperandType::Offset(_, _)), Some(OperandType::Offset(_, _))) => self.text().say(
                 b"of two offsets there are `+`, `-`, `/`, `%` and the comparisons; for `*` one is an integer",
             )?,
@@ -301,15 +336,6 @@ impl<'a, 't> Place<'a, 't> {
         let text = text.say(b" ")?.show(sign)?.say(b" ")?;
         text.show(self.script().slice(operands.right))?
             .say(b"'size`")
-    }
-
-    /// The help for an integer that should be an offset.
-    fn unit_help(self, integer: Part) -> Result<Text, AllocError> {
-        let written = with_unit(self.declared.alloc, self.script(), integer)?;
-        self.text()
-            .say(b"an integer has no unit: write ")?
-            .quote(written.as_slice())?
-            .say(b" for bytes")
     }
 
     fn prefix(self) -> Result<Finding, AllocError> {
@@ -345,7 +371,8 @@ impl<'a, 't> Place<'a, 't> {
         let text = text
             .quote(self.script().slice(self.tokens(0, count)))?
             .say(b" is ")?;
-        self.finding(self.rest(count), say_type(text, array)?, None)
+        let help = self.element_help()?;
+        self.finding(self.rest(count), say_type(text, array)?, help)
     }
 
     fn choice(self, condition: &Expression<'_>) -> Result<Finding, AllocError> {
@@ -374,11 +401,11 @@ impl<'a, 't> Place<'a, 't> {
             Suffix::Select(word) => self.unknown_field(operand, is_path(inner), word),
             Suffix::Attribute(Attribute::Length) => {
                 let text = self.text().say(b"`'length` is that of an array, ")?;
-                self.operand_is(text, operand)
+                self.operand_is(text, operand, self.length_help(operand)?)
             }
             Suffix::Attribute(Attribute::Size) => {
                 let text = self.text().say(b"`'size` is that of a field, ")?;
-                self.operand_is(text, operand)
+                self.operand_is(text, operand, None)
             }
             Suffix::Unit(_) if self.kind() == FaultKind::Width => {
                 let text = self.text().say(b"a unit has 1 to 4294967295 bits")?;
@@ -386,21 +413,26 @@ impl<'a, 't> Place<'a, 't> {
             }
             Suffix::Unit(_) => {
                 let text = self.text().say(b"a unit stands behind an integer, ")?;
-                self.operand_is(text, operand)
+                self.operand_is(text, operand, None)
             }
             Suffix::Convert(_) => self.conversion(operand),
         }
     }
 
     /// Adds what an operand is to the text.
-    fn operand_is(self, text: Text, operand: Part) -> Result<Finding, AllocError> {
+    fn operand_is(
+        self,
+        text: Text,
+        operand: Part,
+        help: Option<Text>,
+    ) -> Result<Finding, AllocError> {
         let text = text.quote(self.script().slice(operand))?.say(b" is ")?;
         let text = say_type(text, self.operand_type())?;
         let suffix = Part {
             first: operand.end,
             end: self.part.end,
         };
-        self.finding(suffix, text, None)
+        self.finding(suffix, text, help)
     }
 
     fn conversion(self, operand: Part) -> Result<Finding, AllocError> {

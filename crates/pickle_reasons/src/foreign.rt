@@ -15,7 +15,7 @@ static FOREIGN: [Foreign; 27] = [
         help: "it is left out, and nothing stands for it: write `byte[n]` for bytes of any meaning",
     },
     Foreign {
-        names: b"float double",
+        names: b"float double float32 float64 f32 f64 f4 f8 Float Double",
         help: "there are no floating point numbers: write `uint<32>` or `uint<64>` for their bits",
     },
     Foreign {
@@ -23,7 +23,7 @@ static FOREIGN: [Foreign; 27] = [
         help: "write an integer, as `byte` or `uint<1>`",
     },
     Foreign {
-        names: b"uint8_t u8 u1 BYTE UBYTE uchar __u8",
+        names: b"uint8_t u8 u1 BYTE UBYTE uchar __u8 Int8ub Int8ul",
         help: "write `uint<8>` or `byte`",
     },
     Foreign {
@@ -35,43 +35,43 @@ static FOREIGN: [Foreign; 27] = [
         help: "write `int<16>`",
     },
     Foreign {
-        names: b"uint16_le uint16le u16le u16_le u2le le16 __le16",
+        names: b"uint16_le uint16le u16le u16_le u2le le16 __le16 Int16ul",
         help: "write `little uint<16>`",
     },
     Foreign {
-        names: b"int16_le int16le i16le s2le",
+        names: b"int16_le int16le i16le s2le Int16sl",
         help: "write `little int<16>`",
     },
     Foreign {
-        names: b"uint16_be uint16be u16be u16_be u2be be16 __be16",
+        names: b"uint16_be uint16be u16be u16_be u2be be16 __be16 Int16ub",
         help: "write `big uint<16>`",
     },
     Foreign {
-        names: b"int16_be int16be i16be s2be",
+        names: b"int16_be int16be i16be s2be Int16sb",
         help: "write `big int<16>`",
     },
     Foreign {
-        names: b"uint32_t u32 u4 DWORD dword ULONG __u32",
+        names: b"uint32_t u32 u4 DWORD dword ULONG __u32 unsigned",
         help: "write `uint<32>`",
     },
     Foreign {
-        names: b"int32_t i32 s32 s4",
+        names: b"int32_t i32 s32 s4 signed",
         help: "write `int<32>`",
     },
     Foreign {
-        names: b"uint32_le uint32le u32le u32_le u4le le32 __le32",
+        names: b"uint32_le uint32le u32le u32_le u4le le32 __le32 Int32ul",
         help: "write `little uint<32>`",
     },
     Foreign {
-        names: b"int32_le int32le i32le s4le",
+        names: b"int32_le int32le i32le s4le Int32sl",
         help: "write `little int<32>`",
     },
     Foreign {
-        names: b"uint32_be uint32be u32be u32_be u4be be32 __be32",
+        names: b"uint32_be uint32be u32be u32_be u4be be32 __be32 Int32ub",
         help: "write `big uint<32>`",
     },
     Foreign {
-        names: b"int32_be int32be i32be s4be",
+        names: b"int32_be int32be i32be s4be Int32sb",
         help: "write `big int<32>`",
     },
     Foreign {
@@ -83,27 +83,27 @@ static FOREIGN: [Foreign; 27] = [
         help: "write `int<64>`",
     },
     Foreign {
-        names: b"uint64_le uint64le u64le u64_le u8le le64 __le64",
+        names: b"uint64_le uint64le u64le u64_le u8le le64 __le64 Int64ul",
         help: "write `little uint<64>`",
     },
     Foreign {
-        names: b"int64_le int64le i64le s8le",
+        names: b"int64_le int64le i64le s8le Int64sl",
         help: "write `little int<64>`",
     },
     Foreign {
-        names: b"uint64_be uint64be u64be u64_be u8be be64 __be64",
+        names: b"uint64_be uint64be u64be u64_be u8be be64 __be64 Int64ub",
         help: "write `big uint<64>`",
     },
     Foreign {
-        names: b"int64_be int64be i64be s8be",
+        names: b"int64_be int64be i64be s8be Int64sb",
         help: "write `big int<64>`",
     },
     Foreign {
-        names: b"int8_t i8 s8 s1",
+        names: b"int8_t i8 s8 s1 Int8sb Int8sl",
         help: "write `int<8>`",
     },
     Foreign {
-        names: b"str strz stringz",
+        names: b"str strz stringz String CString cstring",
         help: "write `string` for bytes up to a 0, or `char[n]`",
     },
     Foreign {

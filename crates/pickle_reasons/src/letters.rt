@@ -2,7 +2,7 @@
 
 use crate::clause::{Operands, Place};
 use crate::lexical::say_hexadecimal;
-use pickle_script::script::cut;
+use pickle_script::script::{Part, Script, cut};
 use pickle_script::text::Text;
 use pickle_types::refused::{OperandType, OperandTypes};
 use std::alloc::AllocError;
@@ -27,6 +27,9 @@ impl<'a, 't> Place<'a, 't> {
             return Ok(None);
         };
         match first {
+            OperandType::Array if self.has_strings(operands.left) => {
+                Ok(Some(self.strings_help(operands)?))
+            }
             OperandType::Array => Ok(Some(self.elements_help(operands, letters, joint)?)),
             OperandType::Integer(number)
                 if usize::from(number.width) == letters.len().saturating_mul(8) => {
@@ -56,6 +59,26 @@ impl<'a, 't> Place<'a, 't> {
         text.say(b"`")
     }
 
+    /// Whether the field of a name is an array of strings.
+    fn has_strings(self, array: Part) -> bool {
+        let script = self.script();
+        let word = script.slice(array);
+        (self.declared.whole.first..self.clause.first).any(|token| script.text(token) == word
+            && script.text_before(token) == b"]".as_slice()
+            && script.text(opening_bracket(script, token)) == b"string".as_slice())
+    }
+
+    /// The help for an array of strings: the comparison of its first element.
+    fn strings_help(self, operands: Operands) -> Result<Text, AllocError> {
+        let array = self.script().slice(operands.left);
+        let text = self.text().say(b"its elements are strings: write `")?;
+        let text = text.show(array)?.say(b"[0] ")?;
+        let text = text.show(self.script().slice(operands.sign))?.say(b" ")?;
+        let text = text.show(self.script().slice(operands.right))?;
+        let text = text.say(b"`, or for one string `string ")?;
+        text.show(array)?.say(b"`")
+    }
+
     /// The help for an integer: a character, or the number of so many bytes.
     fn number_help(self, letters: &[u8]) -> Result<Text, AllocError> {
         match letters {
@@ -71,6 +94,15 @@ impl<'a, 't> Place<'a, 't> {
             }
         }
     }
+}
+
+/// The token before the `[` of the array suffix that ends before a token, which closes no other bracket.
+fn opening_bracket(script: &Script<'_>, token: usize) -> usize {
+    let bracket = (0..token).find(|back| script.text_before(token.saturating_sub(*back))
+        == b"[".as_slice());
+    token
+        .saturating_sub(bracket.unwrap_or(token))
+        .saturating_sub(2)
 }
 
 /// The letters of a text in quotes, if they are few and none is an escape or a quote.

@@ -1,8 +1,9 @@
 //! Sentences about bytes that aren't tokens.
 
+use crate::digits::digits_help;
 use pickle_script::note::Note;
 use pickle_script::script::cut;
-use pickle_script::text::Text;
+use pickle_script::text::{Text, is_shown};
 use pickle_syntax::lexer::fault::LexFaultKind;
 use pickle_syntax::lexer::lex;
 use std::alloc::{AllocError, Global};
@@ -10,6 +11,9 @@ use text_forms::hex::hex_digit;
 
 /// How many bytes a pickle is looked through for bytes that no text has.
 const FRONT: usize = 64;
+
+/// How many bytes of a text are written as escapes.
+const MOST_ESCAPED: usize = 4;
 
 /// What is wrong with the bytes of a pickle from a place on.
 pub fn lexical_note(
@@ -101,6 +105,7 @@ fn help_byte(alloc: Global, pickle: &[u8], at: usize) -> Result<Option<Vec<u8>>,
         [0xef, 0xbb, 0xbf, ..] => "leave out the byte order mark: it is 3 bytes that editors hide",
         [0xff, 0xfe, ..] | [0xfe, 0xff, ..] if at == 0 =>
             "write the pickle as UTF-8 or ASCII, not as UTF-16",
+        rest if is_in_text(alloc, pickle, at)? => return help_text(alloc, rest),
         _ if is_binary(pickle, at) => {
             "a pickle is text, and this begins as other files do: are PICKLE and FILE swapped?"
         }
@@ -108,6 +113,29 @@ fn help_byte(alloc: Global, pickle: &[u8], at: usize) -> Result<Option<Vec<u8>>,
         _ => return Ok(None),
     };
     fixed(alloc, help)
+}
+
+/// Whether a place is inside a text in quotes: up to there its closing quote isn't found.
+fn is_in_text(alloc: Global, pickle: &[u8], at: usize) -> Result<bool, AllocError> {
+    match lex(alloc, cut(pickle, 0, at)) {
+        Ok(_) => Ok(false),
+        Err(fault) if fault.kind == LexFaultKind::Memory => Err(AllocError),
+        Err(fault) => Ok(fault.kind == LexFaultKind::Unclosed),
+    }
+}
+
+/// What to write instead of bytes that need an escape, which come first.
+fn help_text(alloc: Global, rest: &[u8]) -> Result<Option<Vec<u8>>, AllocError> {
+    let count = rest
+        .iter()
+        .take(MOST_ESCAPED)
+        .take_while(|byte| !is_shown(**byte))
+        .count();
+    let mut text = Text::new(alloc).say(b"in a text write `")?;
+    for byte in rest.iter().take(count) {
+        text = say_hexadecimal(text.say(b"\\x")?, &[*byte])?;
+    }
+    Ok(Some(text.say(b"` instead")?.into_bytes()))
 }
 
 /// Whether the byte at a place is near the front, and among bytes that no text has.
@@ -229,7 +257,10 @@ fn help_number(alloc: Global, pickle: &[u8], at: usize) -> Result<Option<Vec<u8>
         }
         [b'0', b'b' | b'B' | b'o' | b'O', ..] => "behind `0b` stand 0 and 1, behind `0o` 0 to 7",
         [digits @ .., b'B'] if is_unit(pickle, at) => return help_unit(alloc, digits),
-        _ => return help_suffix(alloc, word, is_negated(pickle, at)),
+        _ => match digits_help(alloc, word)? {
+            Some(help) => return Ok(Some(help.into_bytes())),
+            None => return help_suffix(alloc, word, is_negated(pickle, at)),
+        },
     };
     fixed(alloc, help)
 }

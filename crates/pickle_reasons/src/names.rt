@@ -29,7 +29,7 @@ fn first_names<'w>(alloc: Global, names: &[&'w [u8]]) -> Result<Vec<&'w [u8]>, A
 }
 
 /// Whether a token is the name of a field: it is after a type, and before a clause or the end of the field.
-fn is_field(script: &Script<'_>, token: usize) -> bool {
+pub fn is_field(script: &Script<'_>, token: usize) -> bool {
     let next = script.text(token.saturating_add(1));
     let ends = matches!(next, b":" | b"@" | b"if" | b";");
     ends && script.is_name(token) && 0 < token && ends_type(script, token.saturating_sub(1))
@@ -55,7 +55,11 @@ impl<'a, 't> Place<'a, 't> {
         let text = self.text().say(b"no field ")?.quote(word)?;
         let text = text.say(b" is seen here")?;
         let text = self.say_names(text, word, visible.as_slice(), b"; there is ")?;
-        self.finding(self.part, text, self.later_help(word, visible.as_slice())?)
+        let help = match self.truth_help(word)? {
+            Some(help) => Some(help),
+            None => self.later_help(word, visible.as_slice())?,
+        };
+        self.finding(self.part, text, help)
     }
 
     /// The finding for a name that no field of an operand has. `path` says whether the operand is a path.
@@ -150,7 +154,10 @@ impl<'a, 't> Place<'a, 't> {
                 .say(b" stands later: only the fields before are seen")?;
             return Ok(Some(text));
         }
-        match self.closed_help(word, visible)? {
+        if let Some(help) = self.closed_help(word, visible)? {
+            return Ok(Some(help));
+        }
+        match self.member_help(word, visible)? {
             Some(help) => Ok(Some(help)),
             None => self.user_help(word, end),
         }

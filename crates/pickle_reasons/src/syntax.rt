@@ -17,7 +17,7 @@ const RESERVED: [&[u8]; 9] = [
 ];
 
 /// The signs that end a part of a pickle. One of them may be missing.
-const CLOSING: [&[u8]; 5] = [b")", b"]", b"}", b";", b"="];
+const CLOSING: [&[u8]; 6] = [b")", b"]", b"}", b";", b"=", b">"];
 
 /// What is wrong at a byte at which no pickle can go on.
 pub fn syntax_note(alloc: Global, script: &Script<'_>, at: usize) -> Result<Note, AllocError> {
@@ -106,8 +106,23 @@ fn help(
     }
     match missing(script, token, front)? {
         Some(help) => Ok(Some(help)),
+        None if expected.value => missing_value(script, token, front),
         None => left_over(script, token, front),
     }
+}
+
+/// The help for an expression that ends before a value.
+fn missing_value(
+    script: &Script<'_>,
+    token: usize,
+    front: &Front<'_>,
+) -> Result<Option<Vec<u8>>, AllocError> {
+    if !matches!(script.text(token), b"]" | b")" | b"}" | b";") {
+        return Ok(None);
+    }
+    let text = Text::new(front.alloc).say(b"is a value missing behind ")?;
+    let text = text.quote(script.text_before(token))?.say(b"?")?;
+    Ok(Some(text.into_bytes()))
 }
 
 /// Whether a token stands behind a comment with the start of another in it.
@@ -254,7 +269,8 @@ fn last_end(script: &Script<'_>) -> usize {
     }
 }
 
-/// The note for a sign that is missing before a token that begins a line or closes something, or at the end.
+/// The note for a sign that is missing before a token that begins a line or closes something, before a name behind a
+/// bound, or at the end.
 fn missing(
     script: &Script<'_>,
     token: usize,
@@ -266,7 +282,8 @@ fn missing(
     let between = cut(script.bytes, script.behind(before), script.first(token));
     let found = script.text(token);
     let closing = matches!(found, b"}" | b";" | b"{" | b")" | b"type" | b"");
-    if !between.contains(&b'\n') && !closing {
+    let unclosed = script.is_name(token) && front.goes_on(b"] n")?;
+    if !between.contains(&b'\n') && !closing && !unclosed {
         return Ok(None);
     }
     match missing_sign(front, found)? {

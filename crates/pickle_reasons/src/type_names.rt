@@ -5,6 +5,7 @@ use crate::types::declared_before;
 use pickle_script::near::nearest;
 use pickle_script::script::{Part, Script};
 use pickle_script::text::Text;
+use run_parts::accept::{Refusal, accept};
 use std::alloc::{AllocError, Global};
 
 /// The most types that are printed.
@@ -25,11 +26,46 @@ pub fn no_such_type(alloc: Global, pickle: &[u8], name: &[u8]) -> Result<Vec<u8>
         .quote(name)?
         .say(b" is declared; ")?;
     let text = say_types(alloc, text, types.as_slice())?.say(b"\n")?;
-    let text = match nearest(alloc, name, types.as_slice())? {
-        Some(near) => text.say(b"  help: is ")?.quote(near)?.say(b" meant?\n")?,
+    let text = match name_help(alloc, pickle, name, types.as_slice())? {
+        Some(help) => text
+            .say(b"  help: ")?
+            .say(help.into_bytes().as_slice())?
+            .say(b"\n")?,
         None => text,
     };
     Ok(text.into_bytes())
+}
+
+/// What to give instead of a name that no declared type has.
+fn name_help(
+    alloc: Global,
+    pickle: &[u8],
+    name: &[u8],
+    types: &[&[u8]],
+) -> Result<Option<Text>, AllocError> {
+    if is_type(alloc, pickle, name)? {
+        let text = Text::new(alloc).say(b"TYPE is a name: write `type Value = ")?;
+        let text = text.show(name)?.say(b";` in the pickle, and give `Value`")?;
+        return Ok(Some(text));
+    }
+    match nearest(alloc, name, types)? {
+        Some(near) => Ok(Some(Text::new(alloc).say(b"is ")?.quote(near)?.say(b" meant?")?)),
+        None => Ok(None),
+    }
+}
+
+/// Whether a type is given in place of its name: the pickle is accepted if it declares the type at its end.
+fn is_type(alloc: Global, pickle: &[u8], name: &[u8]) -> Result<bool, AllocError> {
+    if !name.contains(&b'[') && !name.contains(&b'<') && !name.contains(&b'{') {
+        return Ok(false);
+    }
+    let text = Text::new(alloc).say(pickle)?.say(b"\ntype Value = ")?;
+    let text = text.say(name)?.say(b";")?.into_bytes();
+    match accept(alloc, text.as_slice()) {
+        Ok(_table) => Ok(true),
+        Err(Refusal::Memory) => Err(AllocError),
+        Err(_) => Ok(false),
+    }
 }
 
 /// Adds the names of types to the text.

@@ -373,8 +373,23 @@ fn near_type(
     }
     match nearest(alloc, script.slice(name), known)? {
         Some(near) => Ok(Some(Text::new(alloc).say(b"is ")?.quote(near)?.say(b" meant?")?)),
+        None if is_alone(script, name) => Ok(Some(typeless_help(alloc, script, name)?)),
         None => Ok(None),
     }
+}
+
+/// Whether a name is all that a field has.
+fn is_alone(script: &Script<'_>, name: Part) -> bool {
+    let begins = matches!(script.text_before(name.first), b"{" | b";");
+    begins && script.text(name.end) == b";".as_slice()
+}
+
+/// The help for a field without a type.
+fn typeless_help(alloc: Global, script: &Script<'_>, name: Part) -> Result<Text, AllocError> {
+    let text = Text::new(alloc).say(
+        b"if this is a field's name, write its type before it, as `byte ",
+    )?;
+    text.show(script.slice(name))?.say(b";`")
 }
 
 /// An integer type that is named as in other languages: `uint12`, `INT24`, `u48`.
@@ -389,7 +404,7 @@ impl Width {
     fn of(word: &[u8]) -> Option<Width> {
         let first = word.iter().position(|byte| byte.is_ascii_digit())?;
         let signed = match cut(word, 0, first) {
-            b"uint" | b"unit" | b"Uint" | b"UInt" | b"UINT" | b"u" | b"U" => false,
+            b"uint" | b"unit" | b"Uint" | b"UInt" | b"UINT" | b"u" | b"U" | b"b" => false,
             b"int" | b"Int" | b"INT" | b"i" | b"s" => true,
             _ => return None,
         };

@@ -1,0 +1,69 @@
+//! Fields of earlier fields whose types have declarations of their own.
+
+use crate::clause::Place;
+use crate::names::is_field;
+use crate::types::is_predeclared;
+use pickle_script::anatomy::{opening_brace, statement};
+use pickle_script::script::{Part, Script};
+use pickle_script::text::Text;
+use std::alloc::AllocError;
+
+/// The most types that are looked at.
+const MOST_TYPES: usize = 16;
+
+impl<'a, 't> Place<'a, 't> {
+    /// The help for a name that a field of an earlier field has: its path. `visible` has the names of the fields that are
+    /// seen. Each type is looked at once.
+    pub fn member_help(self, word: &[u8], visible: &[&[u8]]) -> Result<Option<Text>, AllocError> {
+        let script = self.script();
+        let mut looked: Vec<usize> = Vec::new(self.declared.alloc);
+        for token in self.declared.whole.first..self.part.first {
+            let Some(declared) = declared_type(script, token) else {
+                continue;
+            };
+            if MOST_TYPES <= looked.len() {
+                break;
+            }
+            if looked.as_slice().contains(&declared) {
+                continue;
+            }
+            looked.push(declared)?;
+            let outer = script.text(token);
+            if visible.contains(&outer) && has_field(script, declared, word) {
+                let text = self.text().say(b"write `")?.show(outer)?;
+                return Ok(Some(text.say(b".")?.show(word)?.say(b"`")?));
+            }
+        }
+        Ok(None)
+    }
+}
+
+/// The declared name of the type that stands before a token, if the token is a field's name.
+fn declared_type(script: &Script<'_>, token: usize) -> Option<usize> {
+    let form = token.checked_sub(1)?;
+    if !is_field(script, token) || !script.is_name(form) || is_predeclared(script.text(form)) {
+        return None;
+    }
+    script.declared(script.text(form))
+}
+
+/// Whether a declared struct or union has a field of a name. `declared` is the token of its own name.
+fn has_field(script: &Script<'_>, declared: usize, word: &[u8]) -> bool {
+    let form = statement(script, declared.saturating_add(2), script.len());
+    let ends = script.text_before(form.end) == b"}".as_slice();
+    ends && opening_brace(script, form).is_some() && has_outer_field(script, form, word)
+}
+
+/// Whether a name is that of a field between the outermost braces of a type.
+fn has_outer_field(script: &Script<'_>, form: Part, word: &[u8]) -> bool {
+    let mut depth: usize = 0;
+    for token in form.first..form.end {
+        match script.text(token) {
+            b"{" => depth = depth.saturating_add(1),
+            b"}" => depth = depth.saturating_sub(1),
+            text if depth == 1 && text == word && is_field(script, token) => return true,
+            _ => {}
+        }
+    }
+    false
+}

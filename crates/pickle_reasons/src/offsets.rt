@@ -1,0 +1,181 @@
+//! An operator between an offset and an integer, where it wants two offsets or two integers.
+
+use crate::clause::{Place, grouped, with_unit};
+use pickle_script::script::{Part, Script};
+use pickle_script::text::Text;
+use pickle_syntax::tree::{Expression, Infix};
+use std::alloc::AllocError;
+
+/// An offset and an integer beside an operator, in either order.
+#[derive(Clone, Copy)]
+pub struct Mixed<'e, 't> {
+    pub offset: Part,
+    /// The bits of the offset's unit.
+    pub unit: u32,
+    pub sign: Part,
+    pub integer: Part,
+    pub number: &'e Expression<'t>,
+}
+
+/// A number in which the lowest bits are set and no others, perhaps compared with 0.
+#[derive(Clone, Copy)]
+struct Mask {
+    /// The number and 1: a power of 2.
+    multiple: usize,
+    /// Whether the bits are compared by `!=`.
+    differs: bool,
+}
+
+impl Mask {
+    /// The mask that an expression is.
+    fn of(expression: &Expression<'_>) -> Option<Mask> {
+        match expression {
+            Expression::Number(number) => Some(Mask {
+                multiple: multiple_of(number.value)?,
+                differs: false,
+            }),
+            Expression::Infix(operation) => {
+                let (Expression::Number(mask), Expression::Number(zero)) = (
+                    &operation.left,
+                    &operation.right,
+                ) else {
+                    return None;
+                };
+                let compares = matches!(operation.op, Infix::Equal | Infix::NotEqual);
+                if !compares || zero.value != 0 {
+                    return None;
+                }
+                Some(Mask {
+                    multiple: multiple_of(mask.value)?,
+                    differs: operation.op == Infix::NotEqual,
+                })
+            }
+            _ => None,
+        }
+    }
+}
+
+/// The power of 2 after a number, if the number's bits are the lowest ones.
+fn multiple_of(mask: u64) -> Option<usize> {
+    let multiple = mask.checked_add(1)?;
+    if multiple & mask != 0 || mask == 0 {
+        return None;
+    }
+    usize::try_from(multiple).ok()
+}
+
+impl<'a, 't> Place<'a, 't> {
+    /// What to write for an offset beside an integer.
+    pub fn mixed_help(self, mixed: Mixed<'_, '_>) -> Result<Text, AllocError> {
+        match self.script().slice(mixed.sign) {
+            b"&&" | b"||" => self.truth_of_offset(mixed),
+            b"&" => match Mask::of(mixed.number) {
+                Some(mask) => self.multiple_help(mixed, mixed.offset, mask),
+                None => self.number_of_bytes(mixed),
+            },
+            b"|" | b"^" | b"<<" | b">>" => self.number_of_bytes(mixed),
+            sign => match self.masked(mixed, sign) {
+                Some((offset, mask)) => self.multiple_help(mixed, offset, mask),
+                None => self.unit_help(mixed.integer),
+            },
+        }
+    }
+
+    /// The offset and the mask in `n & 3 == 0#B`, where the mask alone is compared. `None` for other operands.
+    fn masked(self, mixed: Mixed<'_, '_>, sign: &[u8]) -> Option<(Part, Mask)> {
+        let compares = matches!(sign, b"==" | b"!=") && mixed.integer.first == self.part.first;
+        if !compares || self.script().text_before(self.part.first) != b"&".as_slice() {
+            return None;
+        }
+        let mask = Mask::of(mixed.number)?;
+        let offset = path_before(self.script(), self.part.first.saturating_sub(1))?;
+        Some((
+            offset,
+            Mask {
+                multiple: mask.multiple,
+                differs: sign == b"!=".as_slice(),
+            },
+        ))
+    }
+
+    /// The help for an operator that has integers alone.
+    fn integers_only(self, mixed: Mixed<'_, '_>) -> Result<Text, AllocError> {
+        self.text()
+            .quote(self.script().slice(mixed.sign))?
+            .say(b" works on integers: ")
+    }
+
+    /// The help for an offset whose lowest bits are wanted.
+    fn multiple_help(
+        self,
+        mixed: Mixed<'_, '_>,
+        offset: Part,
+        mask: Mask,
+    ) -> Result<Text, AllocError> {
+        let lead: &[u8] = if mask.differs {
+            b"for all but multiples of `"
+        } else {
+            b"for a multiple of `"
+        };
+        let sign: &[u8] = if mask.differs { b" != 0" } else { b" == 0" };
+        let offset = grouped(self.declared.alloc, self.script(), offset)?;
+        let text = self.text().say(b"`&` works on integers: ")?.say(lead)?;
+        let text = say_unit(text.say_number(mask.multiple)?, mixed.unit)?;
+        let text = text.say(b"` write `")?.show(offset.as_slice())?;
+        let text = text.say(b" % ")?.say_number(mask.multiple)?;
+        let text = say_unit(text, mixed.unit)?.say(sign)?;
+        say_unit(text, mixed.unit)?.say(b"`")
+    }
+
+    /// The help for an offset whose number of bytes is wanted.
+    fn number_of_bytes(self, mixed: Mixed<'_, '_>) -> Result<Text, AllocError> {
+        let offset = grouped(self.declared.alloc, self.script(), mixed.offset)?;
+        self.integers_only(mixed)?
+            .say(b"write `")?
+            .show(offset.as_slice())?
+            .say(b" / 1#B` for the number of bytes")
+    }
+
+    /// The help for an offset as a condition.
+    fn truth_of_offset(self, mixed: Mixed<'_, '_>) -> Result<Text, AllocError> {
+        self.integers_only(mixed)?
+            .say(b"write `")?
+            .show(self.script().slice(mixed.offset))?
+            .say(b" != 0#B`")
+    }
+
+    /// The help for an integer that should be an offset.
+    fn unit_help(self, integer: Part) -> Result<Text, AllocError> {
+        let written = with_unit(self.declared.alloc, self.script(), integer)?;
+        self.text()
+            .say(b"an integer has no unit: write ")?
+            .quote(written.as_slice())?
+            .say(b" for bytes")
+    }
+}
+
+/// The names with dots between them that end before a token. `None` if what is there begins otherwise.
+fn path_before(script: &Script<'_>, end: usize) -> Option<Part> {
+    let mut first = end;
+    for back in 1..end {
+        let token = end.saturating_sub(back);
+        if !script.is_name(token) && script.text(token) != b".".as_slice() {
+            break;
+        }
+        first = token;
+    }
+    if first < end && script.is_name(first) {
+        Some(Part { first, end })
+    } else {
+        None
+    }
+}
+
+/// Adds a unit of so many bits to the text, as it is written behind a number.
+fn say_unit(text: Text, unit: u32) -> Result<Text, AllocError> {
+    match unit {
+        1 => text.say(b"#b"),
+        8 => text.say(b"#B"),
+        _ => text.say(b"#")?.say_number(unit as usize),
+    }
+}
