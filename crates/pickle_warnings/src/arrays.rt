@@ -1,4 +1,4 @@
-//! Bounds and labels that are negative, and fields after an array that takes all bytes.
+//! Bounds and labels that are negative, arrays of strings, and fields after an array that takes all bytes.
 
 use crate::fields::{Seen, integer_of};
 use crate::warning::note_about;
@@ -107,6 +107,28 @@ pub fn swallowed(
         .say(b"[4] ")?
         .show(name)?
         .say(b"`")?;
+    Ok(Some(note_about(seen.script, named(parts), sentence, help)))
+}
+
+/// The note about a field that is as many strings as a number says, where a text of so many bytes may be meant.
+pub fn strings(seen: &Seen<'_, '_>, parts: &FieldParts) -> Result<Option<Note>, AllocError> {
+    let is_string = seen.script.text(parts.form.first) == b"string".as_slice();
+    if !is_string || parts.name.end <= parts.name.first {
+        return Ok(None);
+    }
+    let bound = bound(seen.script, parts.form);
+    if bound != Part::single(bound.first) || !seen.script.is_number(bound.first) {
+        return Ok(None);
+    }
+    let sentence = Text::new(seen.alloc)
+        .quote(seen.script.slice(named(parts)))?
+        .say(b" is an array: each of its elements is a string, up to a byte 0")?;
+    let help = Text::new(seen.alloc)
+        .say(b"write `char[")?
+        .show(seen.script.slice(bound))?
+        .say(b"] ")?
+        .show(seen.script.slice(parts.name))?
+        .say(b"` for so many bytes")?;
     Ok(Some(note_about(seen.script, named(parts), sentence, help)))
 }
 

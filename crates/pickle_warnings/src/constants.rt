@@ -8,7 +8,7 @@ use pickle_script::nodes::Node;
 use pickle_script::note::Note;
 use pickle_script::site::Purpose;
 use pickle_script::text::Text;
-use pickle_syntax::tree::{Expression, Infix, Operation};
+use pickle_syntax::tree::{Expression, Infix, Number, Operation, Prefix};
 use pickle_types::integer::IntegerType;
 use std::alloc::AllocError;
 
@@ -18,46 +18,6 @@ struct Range {
     least: i128,
     most: i128,
     integer: IntegerType,
-}
-
-/// The note about a constraint that is a number, as a bit-field of C has one.
-pub fn literal_constraint(
-    seen: &Seen<'_, '_>,
-    node: Node<'_, '_>,
-    field: &FieldParts,
-) -> Result<Option<Note>, AllocError> {
-    let Expression::Number(number) = node.expression else {
-        return Ok(None);
-    };
-    let script = seen.script;
-    let name = script.slice(field.name);
-    let part = node.part();
-    let sentence = Text::new(seen.alloc)
-        .say(b"this constraint is ")?
-        .quote(script.slice(part))?
-        .say(if number.value == 0 {
-            b", which never holds".as_slice()
-        } else {
-            b", which always holds".as_slice()
-        })?;
-    let help = Text::new(seen.alloc);
-    let help = if 0 < number.value && number.value <= 64 {
-        help.say(b"write `uint<")?
-            .show(script.slice(part))?
-            .say(b"> ")?
-            .show(name)?
-            .say(b"` for a field of ")?
-            .show(script.slice(part))?
-            .say(b" bits, or `")?
-    } else {
-        help.say(b"write `")?
-    };
-    let help = help
-        .show(name)?
-        .say(b" == ")?
-        .show(script.slice(part))?
-        .say(b"` for a field with this value")?;
-    Ok(Some(note_about(script, part, sentence, help)))
 }
 
 /// The note about a constraint or condition with a comparison that always has one outcome.
@@ -91,19 +51,38 @@ pub fn constant_clause(
         .say(b" is from ")?;
     let sentence = say_signed(sentence, compared.range.least)?.say(b" to ")?;
     let sentence = say_signed(sentence, compared.range.most)?;
-    let help = Text::new(seen.alloc);
-    let help = match unsigned_help(&compared) {
+    let sentence = match compared.written {
+        Some(written) => {
+            let sentence = say_signed(sentence.say(b", and ")?, written)?;
+            say_signed(sentence.say(b" is compared as ")?, compared.number)?
+        }
+        None => sentence,
+    };
+    let help = constant_help(Text::new(seen.alloc), purpose, &compared, holds)?;
+    Ok(Some(note_about(seen.script, part, sentence, help)))
+}
+
+/// Adds to the text what to write for a comparison that always holds, or never.
+fn constant_help(
+    help: Text,
+    purpose: Purpose,
+    compared: &Compared<'_>,
+    holds: bool,
+) -> Result<Text, AllocError> {
+    if let Some(written) = compared.written {
+        return say_sign_help(help, compared, written);
+    }
+    match unsigned_help(compared) {
         Some(width) => help
             .say(b"write `uint<")?
             .say_number(width)?
             .say(b"> ")?
             .show(compared.name)?
-            .say(b"`, whose values are not negative")?,
-        None if holds && purpose == Purpose::Constraint => help.say(b"leave it out")?,
-        None if holds => help.say(b"leave out the condition: the field is always there")?,
-        None => say_range_help(help, &compared)?,
-    };
-    Ok(Some(note_about(seen.script, part, sentence, help)))
+            .say(b"`, whose values are not negative"),
+        None if holds && purpose == Purpose::Constraint => help.say(b"leave it out"),
+        None if holds => help.say(b"leave out the condition: the field is always there"),
+        None => say_range_help(help, compared),
+    }
 }
 
 /// A comparison of a field with a number.
@@ -112,7 +91,53 @@ struct Compared<'t> {
     name: &'t [u8],
     range: Range,
     op: Infix,
+    /// The number as it is compared: a negative one is another beside an unsigned field.
     number: i128,
+    /// The number that is written, if it is compared as another.
+    written: Option<i128>,
+}
+
+/// A number that is written, perhaps with a minus sign before it, and its type.
+#[derive(Clone, Copy)]
+struct Written {
+    value: i128,
+    integer: IntegerType,
+}
+
+impl Written {
+    /// The number that an expression is.
+    fn of(expression: &Expression<'_>) -> Option<Written> {
+        match expression {
+            Expression::Number(number) => Some(Written::from(*number, 1)),
+            Expression::Prefix(Prefix::Minus, inner) => match &**inner {
+                Expression::Number(number) if number.signed => Some(Written::from(*number, -1)),
+                _ => None,
+            },
+            _ => None,
+        }
+    }
+
+    fn from(number: Number, sign: i128) -> Written {
+        Written {
+            value: sign.saturating_mul(i128::from(number.value)),
+            integer: IntegerType {
+                width: number.width,
+                signed: number.signed,
+            },
+        }
+    }
+
+    /// The number as it is compared with a field of an integer type. `None` if the field's number may be another then.
+    fn beside(self, field: IntegerType) -> Option<i128> {
+        if field.signed && !self.integer.signed {
+            return None;
+        }
+        if field.signed || 0 <= self.value {
+            return Some(self.value);
+        }
+        let bits = u32::from(field.width.max(self.integer.width).min(64));
+        Some((1_i128 << bits).saturating_add(self.value))
+    }
 }
 
 /// The comparison that an expression is, also in brackets.
@@ -136,25 +161,30 @@ fn compare<'t>(
     operation: &Operation<'t>,
     field: &FieldParts,
 ) -> Result<Option<Compared<'t>>, AllocError> {
-    let (name, number, op) = match (&operation.left, &operation.right) {
-        (Expression::Name(name), Expression::Number(number)) => (*name, *number, operation.op),
-        (Expression::Number(number), Expression::Name(name)) => {
-            (*name, *number, turned(operation.op))
-        }
+    let (name, written, op) = match (&operation.left, &operation.right) {
+        (Expression::Name(name), number) => (*name, Written::of(number), operation.op),
+        (number, Expression::Name(name)) => (*name, Written::of(number), turned(operation.op)),
         _ => return Ok(None),
+    };
+    let Some(written) = written else {
+        return Ok(None);
     };
     let Some(integer) = seen.integer_type(name, field)? else {
         return Ok(None);
     };
-    // A negative number is another one where both become unsigned.
-    if integer.signed && !number.signed {
+    let Some(number) = written.beside(integer) else {
         return Ok(None);
-    }
+    };
     Ok(Some(Compared {
         name,
         range: range_of(integer),
         op,
-        number: i128::from(number.value),
+        number,
+        written: if number == written.value {
+            None
+        } else {
+            Some(written.value)
+        },
     }))
 }
 
@@ -223,6 +253,31 @@ fn unsigned_help(compared: &Compared<'_>) -> Option<usize> {
     } else {
         None
     }
+}
+
+/// Adds to the text what to write for an unsigned field that is compared with a negative number.
+fn say_sign_help(text: Text, compared: &Compared<'_>, written: i128) -> Result<Text, AllocError> {
+    let text = text
+        .say(b"write `int<")?
+        .say_number(usize::from(compared.range.integer.width))?
+        .say(b"> ")?
+        .show(compared.name)?
+        .say(b"` for a field with a sign")?;
+    let same_bits = compared
+        .range
+        .most
+        .saturating_add(1)
+        .saturating_add(written);
+    let sign: &[u8] = match compared.op {
+        Infix::Equal => b" == ",
+        Infix::NotEqual => b" != ",
+        _ => return Ok(text),
+    };
+    if same_bits < 0 {
+        return Ok(text);
+    }
+    let text = text.say(b", or `")?.show(compared.name)?.say(sign)?;
+    say_signed(text, same_bits)?.say(b"` for these bits")
 }
 
 /// Adds to the text with which numbers a field is compared.

@@ -6,11 +6,13 @@ ghost use Rattle.pickle_script.specs.Places.{called_by};
 ghost use Rattle.pickle_warnings.specs.Warnings.{WarnsOf, AreNotes};
 
 mod arrays;
+mod bit_fields;
 mod constants;
 mod fields;
 mod indices;
 mod operators;
 mod outline;
+mod shifts;
 mod unions;
 mod walk;
 mod warning;

@@ -1,12 +1,14 @@
-//! Operators that bind otherwise than they seem to, and numbers that are decimal and look octal.
+//! Operators that do otherwise than they seem to, and numbers that are decimal and look octal.
 
 use crate::fields::Seen;
+use crate::shifts::shift_note;
 use crate::warning::note_about;
+use pickle_script::anatomy::FieldParts;
 use pickle_script::nodes::Node;
 use pickle_script::note::Note;
 use pickle_script::script::Part;
 use pickle_script::text::Text;
-use pickle_syntax::tree::{Expression, Infix, Operation};
+use pickle_syntax::tree::{Expression, Infix, Operation, Prefix};
 use std::alloc::AllocError;
 
 /// The note about a number that begins with a 0 and would be another in C.
@@ -43,12 +45,17 @@ fn without_zeros(digits: &[u8]) -> &[u8] {
     }
 }
 
-/// The note about operators that group otherwise than they seem to: a mask without brackets in a comparison, as
-/// `flags & 1 == 1`, a comparison of a comparison, as `1 <= n <= 9`, and a number beside one, as `n == 1 || 2`.
-pub fn wrong_grouping(seen: &Seen<'_, '_>, node: Node<'_, '_>) -> Result<Option<Note>, AllocError> {
+/// The note about an operation that isn't what it seems: a mask without brackets in a comparison, as `flags & 1 == 1`, a
+/// comparison of a comparison, as `1 <= n <= 9`, one of the outcome of `!`, as `!n == 2`, a number beside one, as
+/// `n == 1 || 2`, and a shift by the width of a field.
+pub fn wrong_operation(
+    seen: &Seen<'_, '_>,
+    node: Node<'_, '_>,
+    field: Option<&FieldParts>,
+) -> Result<Option<Note>, AllocError> {
     for node in all_nodes(seen, node)? {
         if let Expression::Infix(operation) = node.expression {
-            if let Some(note) = operation_note(seen, node, operation)? {
+            if let Some(note) = operation_note(seen, node, operation, field)? {
                 return Ok(Some(note));
             }
         }
@@ -81,14 +88,67 @@ fn operation_note(
     seen: &Seen<'_, '_>,
     node: Node<'_, '_>,
     operation: &Operation<'_>,
+    field: Option<&FieldParts>,
 ) -> Result<Option<Note>, AllocError> {
+    if let Some(own) = field {
+        if let Some(note) = shift_note(seen, node, operation, own)? {
+            return Ok(Some(note));
+        }
+    }
     if let Some(note) = mask_note(seen, node, operation)? {
         return Ok(Some(note));
     }
     if let Some(note) = chain_note(seen, node, operation)? {
         return Ok(Some(note));
     }
+    if let Some(note) = not_note(seen, node, operation)? {
+        return Ok(Some(note));
+    }
     choice_note(seen, node, operation)
+}
+
+/// The note about an operation, if it compares the outcome of `!` with a number that it never is.
+fn not_note(
+    seen: &Seen<'_, '_>,
+    node: Node<'_, '_>,
+    operation: &Operation<'_>,
+) -> Result<Option<Note>, AllocError> {
+    let (outcome, sign): (&[u8], &[u8]) = match operation.op {
+        Infix::Equal => (b" never holds: ", b" != "),
+        Infix::NotEqual => (b" always holds: ", b" == "),
+        _ => return Ok(None),
+    };
+    let negated = matches!(operation.left, Expression::Prefix(Prefix::Not, _));
+    if !negated || !is_above_one(&operation.right) {
+        return Ok(None);
+    }
+    let script = seen.script;
+    let whole = node.part();
+    let (left, right) = sides(node.first, operation);
+    let operand = Part {
+        first: left.first.saturating_add(1),
+        end: left.part().end,
+    };
+    let sentence = Text::new(seen.alloc)
+        .quote(script.slice(whole))?
+        .say(outcome)?
+        .quote(script.slice(left.part()))?
+        .say(b" is 0 or 1")?;
+    let help = Text::new(seen.alloc)
+        .say(b"write `")?
+        .show(script.slice(operand))?
+        .say(sign)?
+        .show(script.slice(right.part()))?
+        .say(b"`")?;
+    Ok(Some(note_about(script, whole, sentence, help)))
+}
+
+/// Whether an expression is a number other than 0 and 1.
+fn is_above_one(expression: &Expression<'_>) -> bool {
+    match expression {
+        Expression::Number(number) => 1 < number.value,
+        _ => false,
+    }
 }
 
 /// The note about an operation, if it compares the outcome of a comparison.
@@ -232,7 +292,7 @@ fn mask_note(
 }
 
 /// The two operands of an operation that begins at a token.
-fn sides<'a, 't>(first: usize, operation: &'a Operation<'t>) -> (Node<'a, 't>, Node<'a, 't>) {
+pub fn sides<'a, 't>(first: usize, operation: &'a Operation<'t>) -> (Node<'a, 't>, Node<'a, 't>) {
     let left = Node {
         expression: &operation.left,
         first,

@@ -1,10 +1,11 @@
 //! The fields and expressions of a pickle, each of which is looked at.
 
-use crate::arrays::{negative_bound, swallowed};
-use crate::constants::{constant_clause, literal_constraint};
+use crate::arrays::{negative_bound, strings, swallowed};
+use crate::bit_fields::literal_constraint;
+use crate::constants::constant_clause;
 use crate::fields::Seen;
 use crate::indices::outside_index;
-use crate::operators::{octal, wrong_grouping};
+use crate::operators::{octal, wrong_operation};
 use crate::outline::{Outline, Piece};
 use crate::unions::never_taken;
 use pickle_script::anatomy::{FieldParts, bound, field_parts, opening_brace};
@@ -143,6 +144,9 @@ impl<'a, 't> Walk<'a, 't> {
         if let Some(note) = swallowed(&seen, &parts, place)? {
             self.notes.push(note)?;
         }
+        if let Some(note) = strings(&seen, &parts)? {
+            self.notes.push(note)?;
+        }
         let field = Some(&parts);
         let bound = bound(self.script, parts.form);
         self.look_at_clause(Purpose::Bound, bound, &seen, field)?;
@@ -196,7 +200,7 @@ fn clause_note(
     if let Some(note) = octal(seen, node)? {
         return Ok(Some(note));
     }
-    if let Some(note) = wrong_grouping(seen, node)? {
+    if let Some(note) = wrong_operation(seen, node, field)? {
         return Ok(Some(note));
     }
     if let Some(field) = field {
