@@ -14,7 +14,8 @@ use Rattle.pickle_meaning.specs.Evaluation.{Operand, operand_label, Evaluation, 
 use Rattle.pickle_meaning.specs.Clauses.{FaultAt, clause_steps, label_steps, bound_steps, is_due, is_met, ends_before, misses}
 use Rattle.pickle_meaning.specs.Means.{Opened, Taken, number_type, width_in, first_digits, ordered}
 use Rattle.mapping_plans.specs.Plan.{Plan, Tick, and_then, after, on_value, then_ok, leave_frame, framed, AtMost, ended, ticked, noted, given}
-use Rattle.mapping_plans.specs.Mapping.{from_inside, constrained, number_plan, digits_plan, read_plan, after_byte, text_plan, after_element, element_plan, row_width, elements_plan, after_attempt, plan, fields_plan, alternatives_plan}
+use Rattle.mapping_plans.specs.Mapping.{from_inside, constrained, number_plan, digits_plan, read_plan, after_byte, text_plan, after_element, element_plan, elements_plan, after_attempt, plan, fields_plan, alternatives_plan}
+use Rattle.mapping_plans.specs.Rows.{row_of}
 use Rattle.mapping_plans.proofs.InRow.{row_at_most}
 
 -- ---- evaluations
@@ -248,8 +249,8 @@ mutual
   plan_at_most m (ArrayOf element bound) order levels s =
       inside_at_most m s (ticked (bound_weight bound + count_of m (least_width element) * (1 + cost element m)) (omega arith)
       (both _ (bound_weight bound) (count_of m (least_width element) * (1 + cost element m)) (omega arith) (at_most_after _ _ (bound_weight bound) (bound_within bound levels)) (λ extent.
-      closed_at_most levels _
-      (elements_at_most (element_plan element (plan m element order)) (cost element m) m s extent (λ l p. row_at_most (row_width element) (plan_at_most m element order l p)) (count_of m (least_width element)) 0 (opened levels) s) (λ r. noted ended))))
+      framed_at_most levels (both _ (count_of m (least_width element) * (1 + cost element m)) 0 (omega arith)
+      (elements_at_most (element_plan element (plan m element order)) (cost element m) m s extent (λ l p. row_at_most (row_of element) (plan_at_most m element order l p)) (count_of m (least_width element)) 0 (opened levels) s) (λ r. noted ended)))))
   plan_at_most m (StructOf name pinned fields) order levels s =
       inside_at_most m s (ticked (fields_cost fields m) (omega arith) (closed_at_most levels _ (fields_at_most m pinned s fields order (opened levels) s s) (λ r. noted ended)))
   plan_at_most m (IntegralOf name type fields) order levels s = inside_at_most m s (read_at_most m (IntegralOf name type fields) type order levels s)

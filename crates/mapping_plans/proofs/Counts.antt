@@ -12,9 +12,10 @@ use Rattle.pickle_meaning.specs.Means.{Opened, Taken, number_type, width_in, fir
 use Rattle.pickle_meaning.specs.Room.{NodeSlot, ByteSlot, text_length, value_slots, members_slots}
 use Rattle.value_store.specs.Moves.{Move}
 use Rattle.mapping_plans.specs.Plan.{Plan, and_then, after, on_value, then_ok, leave_frame, framed, Counts, counted, count_tick, count_made, count_read}
-use Rattle.mapping_plans.specs.Mapping.{from_inside, makes, closes, constrained, number_plan, digits_plan, read_plan, after_byte, text_plan, after_element, element_plan, row_width, elements_plan, after_attempt, plan, fields_plan, alternatives_plan}
+use Rattle.mapping_plans.specs.Mapping.{from_inside, makes, closes, constrained, number_plan, digits_plan, read_plan, after_byte, text_plan, after_element, element_plan, elements_plan, after_attempt, plan, fields_plan, alternatives_plan}
 use Rattle.pickle_meaning.specs.Laws.{value_size}
 use Rattle.mapping_plans.proofs.Fitting.{longer}
+use Rattle.mapping_plans.specs.Rows.{row_of}
 use Rattle.mapping_plans.proofs.InRow.{row_counts}
 
 -- for a value, with what was made before it
@@ -177,7 +178,7 @@ mutual
   plan_counts m StringOf order levels s c = inside_counts of_value m s c c (omega arith) (count_tick (counts_framed of_value c levels (text_counts m _ [] levels s s c c (omega arith))))
   plan_counts m (ArrayOf element bound) order levels s c =
       inside_counts of_value m s c c (omega arith) (count_tick (counts_after of_value c _ _ _ c (omega arith) (λ extent.
-      counts_framed of_value c levels (counts_ok of_opened of_value c c _ (omega arith) (elements_counts (element_plan element (plan m element order)) m s extent c (λ l p d. row_counts (row_width element) (plan_counts m element order l p d)) (count_of m (least_width element)) 0 (opened levels) s c (omega arith))
+      counts_framed of_value c levels (counts_ok of_opened of_value c c _ (omega arith) (elements_counts (element_plan element (plan m element order)) m s extent c (λ l p d. row_counts (row_of element) (plan_counts m element order l p d)) (count_of m (least_width element)) 0 (opened levels) s c (omega arith))
       (λ r d le. closes_counts ArrayLabel s r.1 r.0 c d refl le)))))
   plan_counts m (StructOf name pinned fields) order levels s c =
       inside_counts of_value m s c c (omega arith) (count_tick (counts_framed of_value c levels (counts_ok of_opened of_value c c _ (omega arith) (fields_counts m pinned s fields order (opened levels) s s c c (omega arith))

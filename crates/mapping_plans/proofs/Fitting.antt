@@ -19,12 +19,13 @@ use Rattle.pickle_meaning.specs.Clauses.{FaultAt, constraint, condition, field_s
 use Rattle.pickle_meaning.specs.Means.{Opened, Taken, number_type, width_in, first_digits, ordered}
 use Rattle.value_store.specs.Moves.{Clears}
 use Rattle.mapping_plans.specs.Plan.{Plan, Ended, Tick, Made, Read, and_then, Always, result, after_tick, after_made, after_read}
-use Rattle.mapping_plans.specs.Mapping.{constrained, number_plan, digits_plan, read_plan, after_byte, text_plan, after_element, element_plan, row_width, elements_plan, after_attempt, plan, fields_plan, alternatives_plan}
+use Rattle.mapping_plans.specs.Mapping.{constrained, number_plan, digits_plan, read_plan, after_byte, text_plan, after_element, element_plan, elements_plan, after_attempt, plan, fields_plan, alternatives_plan}
 use Rattle.pickle_meaning.specs.Fits.{IsText, IsWhole, ElementsFit, no_more_fit, one_more_fits, FitsNumber, DigitsFit, Fits, FieldsFit, AlternativeFits}
 use Rattle.pickle_meaning.specs.Laws.{ValueFits}
 use Rattle.mapping_plans.proofs.Basics.{clash}
 use Rattle.mapping_plans.proofs.Widths.{EndsFrom, starts_from, next_start, later_unlabelled, present_least, absent_width, least_first}
 use Rattle.mapping_plans.proofs.Always.{OfValue, weaker, then_always, ok_always, framed_always, told_always, inside_always}
+use Rattle.mapping_plans.specs.Rows.{row_of}
 use Rattle.mapping_plans.proofs.InRow.{row_always}
 
 -- ---- a value that fits ends in the file, and is as wide as its type is at least
@@ -301,7 +302,7 @@ mutual
       inside_always m s (λ le. after_tick (told_always {Q = Fits m (ArrayOf element bound) levels s} _ (extent_of bound levels s) _
       (λ extent is. framed_always levels tt tt (ok_always {P = Goes (Fits m element) m extent s 0 (opened levels) s} {Q = Fits m (ArrayOf element bound) levels s} _
       (λ r h. after_made tt (result (extent, is, r.0, r.1, h.0, h.1, h.2, h.3, refl)))
-      (elements_fit m s extent (Fits m element) (element_plan element (plan m element order)) (λ l p. row_always (row_width element) (plan_fits m element order l p)) (λ l a v fit. (let w = fits_wide m element l a v fit in omega arith, fits_inside m element l a v fit)) (count_of m (least_width element)) 0 (opened levels) s le (none_counted extent))))))
+      (elements_fit m s extent (Fits m element) (element_plan element (plan m element order)) (λ l p. row_always (row_of element) (plan_fits m element order l p)) (λ l a v fit. (let w = fits_wide m element l a v fit in omega arith, fits_inside m element l a v fit)) (count_of m (least_width element)) 0 (opened levels) s le (none_counted extent))))))
   plan_fits m (StructOf name pinned fields) order levels s =
       inside_always m s (λ le. after_tick (framed_always levels tt tt (ok_always {P = Fitting m pinned s fields (opened levels) s s} {Q = Fits m (StructOf name pinned fields) levels s} _
       (λ r h. after_made tt (result (r.0, r.1, h.0, h.1, refl))) (fields_fit m pinned s fields order (opened levels) s s (omega arith) le))))

@@ -16,3 +16,4 @@ pub mod Rooms
 pub mod Counts
 pub mod Rows
 pub mod Refused
+pub mod StructRows

@@ -11,7 +11,8 @@ use Rattle.pickle_meaning.specs.Clauses.{FaultAt, is_due, is_met, ends_before, m
 use Rattle.pickle_meaning.specs.Means.{Opened, Taken, number_type, width_in, first_digits, ordered}
 use Rattle.value_store.specs.Moves.{Move}
 use Rattle.mapping_plans.specs.Plan.{Plan, Ended, Made, and_then, after, on_value, then_ok, leave_frame, framed, MadeWithin, made_ended, made_tick, made_more, made_read}
-use Rattle.mapping_plans.specs.Mapping.{from_inside, constrained, number_plan, digits_plan, read_plan, after_byte, text_plan, after_element, element_plan, row_width, elements_plan, after_attempt, plan, fields_plan, alternatives_plan}
+use Rattle.mapping_plans.specs.Mapping.{from_inside, constrained, number_plan, digits_plan, read_plan, after_byte, text_plan, after_element, element_plan, elements_plan, after_attempt, plan, fields_plan, alternatives_plan}
+use Rattle.mapping_plans.specs.Rows.{row_of}
 use Rattle.mapping_plans.proofs.InRow.{row_within}
 
 -- with more steps taken before, and fewer required at the end
@@ -124,7 +125,7 @@ mutual
   plan_within m (ArrayOf element bound) order levels s a =
       inside_within m s a (made_tick
       (within_ok _ (a + 1) (omega arith) (within_after _ _ (a + 1)) (λ extent.
-      within_framed levels (within_ok _ (a + 1) (omega arith) (elements_within (element_plan element (plan m element order)) m s extent (a + 1) (λ l p. row_within (row_width element) (plan_within m element order l p (a + 1))) (count_of m (least_width element)) 0 (opened levels) s) (λ r. one_made a)))))
+      within_framed levels (within_ok _ (a + 1) (omega arith) (elements_within (element_plan element (plan m element order)) m s extent (a + 1) (λ l p. row_within (row_of element) (plan_within m element order l p (a + 1))) (count_of m (least_width element)) 0 (opened levels) s) (λ r. one_made a)))))
   plan_within m (StructOf name pinned fields) order levels s a =
       inside_within m s a (made_tick (within_framed levels (within_ok _ (a + 1) (omega arith) (fields_within m pinned s fields order (opened levels) s s (a + 1)) (λ r. one_made a))))
   plan_within m (IntegralOf name type fields) order levels s a = inside_within m s a (read_within m (IntegralOf name type fields) type order levels s a)

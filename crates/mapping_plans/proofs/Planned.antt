@@ -14,10 +14,11 @@ use Rattle.pickle_meaning.specs.Values.{Naming, Value, end_of, text_value, Level
 use Rattle.pickle_meaning.specs.Clauses.{FaultAt, constraint, clause_steps, label_steps, bound_steps, is_due, is_met, ends_before, misses}
 use Rattle.pickle_meaning.specs.Means.{Means, past_end, number_read, number_end, string, string_end, array, bound_fault, struct, struct_fault, union, union_fault, NumberMeans, integer, offset, integral, integral_fault, no_number, DigitsMean, no_digits, next_digits, digits_refused, digits_fault, number_type, Run, no_bytes, next_byte, Elements, no_more, next_element, Closing, none_due, beyond_size, no_bits, ends_without, element_fault, PartMeans, part, part_refused, part_fault, FieldsMean, all_fields, absent, field, condition_fault, label_fault, field_fault, AlternativesMean, none_left, fits, misses_it, other_fault, Opened, Taken}
 use Rattle.mapping_plans.specs.Plan.{Plan, Ended, Tick, on_value, then_ok}
-use Rattle.mapping_plans.specs.Mapping.{from_inside, constrained, number_plan, digits_plan, read_plan, after_byte, text_plan, after_element, element_plan, row_width, elements_plan, array_closes, after_attempt, plan, fields_plan, alternatives_plan}
+use Rattle.mapping_plans.specs.Mapping.{from_inside, constrained, number_plan, digits_plan, read_plan, after_byte, text_plan, after_element, element_plan, elements_plan, array_closes, after_attempt, plan, fields_plan, alternatives_plan}
 use Rattle.mapping_plans.proofs.Basics.{clash, same_type, fewer, enough}
 use Rattle.mapping_plans.proofs.Comes.{Comes, comes_ended, comes_tick, comes_made, comes_read, comes_as, comes_after, comes_then, comes_ok, comes_err, comes_on, comes_framed, comes_inside, comes_past}
 use Rattle.mapping_plans.proofs.Widths.{means_inside, elements_inside, means_wide}
+use Rattle.mapping_plans.specs.Rows.{row_of}
 use Rattle.mapping_plans.proofs.InRow.{row_comes}
 
 any_past : (bits : List ℕ) (ty : PokeType) (order : Order) (levels : Levels) (s : ℕ) → length bits < s → Comes bits (plan (length bits) ty order levels s) (Err (fault.End, s)) 0 0
@@ -99,7 +100,7 @@ due_comes {bits} {ty} {order} {s} {extent} {i} {levels} {p} {a} {r} {k} {j} {k'}
   where
     tries : (n : ℕ) → length bits < p + n * max 1 (least_width ty) → Comes bits (elements_plan (element_plan ty (plan (length bits) ty order)) (length bits) s extent n i levels p) r (1 + k + k') (j + j')
     tries zero le = absurd (omega arith)
-    tries (suc d) le = rw due (comes_as (omega arith) refl (comes_tick (comes_then _ _ (row_comes (row_width ty) h) (g d le))))
+    tries (suc d) le = rw due (comes_as (omega arith) refl (comes_tick (comes_then _ _ (row_comes (row_of ty) h) (g d le))))
 
 done_comes : {bits : List ℕ} {ty : PokeType} {order : Order} {s : ℕ} {extent : Extent} {i : ℕ} {levels : Levels} {p : ℕ} → is_due extent (length bits) s i p ≡ false → is_met extent s p ≡ true → p ≤ length bits → EndsWith bits ty order s extent i levels p (Ok (levels, p)) 0 0
 unfolding elements_plan

@@ -12,9 +12,10 @@ use Rattle.pickle_meaning.specs.Means.{Opened, Taken, number_type, width_in, fir
 use Rattle.pickle_meaning.specs.Room.{Slot, NodeSlot, LinkSlot, PendingSlot, ByteSlot, text_length, members_slots, member_slots, level_slots, slots}
 use Rattle.value_store.specs.Moves.{Move}
 use Rattle.mapping_plans.specs.Plan.{Plan, Always, result, after_tick, after_made, after_read}
-use Rattle.mapping_plans.specs.Mapping.{makes, closes, constrained, number_plan, digits_plan, read_plan, after_byte, text_plan, after_element, element_plan, row_width, elements_plan, after_attempt, plan, fields_plan, alternatives_plan}
+use Rattle.mapping_plans.specs.Mapping.{makes, closes, constrained, number_plan, digits_plan, read_plan, after_byte, text_plan, after_element, element_plan, elements_plan, after_attempt, plan, fields_plan, alternatives_plan}
 use Rattle.mapping_plans.proofs.Always.{OfValue, weaker, then_always, ok_always, framed_always, told_always, inside_always}
 use Rattle.mapping_plans.proofs.Fitting.{longer}
+use Rattle.mapping_plans.specs.Rows.{row_of}
 use Rattle.mapping_plans.proofs.InRow.{row_always}
 
 -- the link that a member takes once its frame is closed
@@ -252,7 +253,7 @@ mutual
       inside_always m s (λ inside. after_tick (told_always {Q = Light kind (1 + count_of m (least_width element) * (1 + room element m))} _ (extent_of bound levels s) _
       (λ extent is. framed_always levels (omega arith) (omega arith) (ok_always {P = GrownOpen kind (opened levels) (count_of m (least_width element) * (1 + room element m))} {Q = Light kind (1 + count_of m (least_width element) * (1 + room element m))} _
       (λ r grown. closes_room kind b (count_of m (least_width element) * (1 + room element m)) ArrayLabel s r.1 levels r.0 refl grown le)
-      (elements_room kind b (room element m) m s extent (element_plan element (plan m element order)) (λ l p up. row_always (row_width element) (plan_room kind b m element order l p up)) (count_of m (least_width element)) 0 (opened levels) s (omega arith))))))
+      (elements_room kind b (room element m) m s extent (element_plan element (plan m element order)) (λ l p up. row_always (row_of element) (plan_room kind b m element order l p up)) (count_of m (least_width element)) 0 (opened levels) s (omega arith))))))
   plan_room kind b m (StructOf name pinned fields) order levels s le =
       inside_always m s (λ inside. after_tick (framed_always levels (omega arith) (omega arith) (ok_always {P = GrownOpen kind (opened levels) (fields_room fields m)} {Q = Light kind (1 + fields_room fields m)} _
       (λ r grown. closes_room kind b (fields_room fields m) (StructLabel name (field_names fields)) s r.1 levels r.0 refl grown le)

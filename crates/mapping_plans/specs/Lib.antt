@@ -1,4 +1,6 @@
+pub mod Rows
 pub mod Plan
 pub mod Mapping
 pub mod PlanLaws
 pub mod Kept
+pub mod Avoids

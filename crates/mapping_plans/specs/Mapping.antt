@@ -12,6 +12,7 @@ use Rattle.pickle_meaning.specs.Clauses.{FaultAt, constraint, clause_steps, cond
 use Rattle.pickle_meaning.specs.Means.{ordered, number_type, width_in, first_digits, field_names, part_names, integer_value, offset_value, array_value, struct_value, Taken, union_value, Opened}
 use Rattle.value_store.specs.Moves.{Move, Clears, Places, Leaves, Closes, Writes, Ends, ClosesRow}
 use Rattle.mapping_plans.specs.Plan.{Plan, Ended, Tick, Made, Read, and_then, after, then_ok, framed, in_row}
+use Rattle.mapping_plans.specs.Rows.{Row, Apart, Numbers, Records, row_of}
 
 -- a mapping that starts past the last bit is an End fault, in no steps
 unfoldable pub from_inside : {A : Type 0} → (m s : ℕ) → Plan (Result A FaultAt) → Plan (Result A FaultAt)
@@ -65,24 +66,15 @@ text_plan m zero bytes levels s place = Ended (Err (fault.End, s))
 text_plan m (suc n) bytes levels s place =
     Tick (if nat_le (place + 8) m then Read place 8 Big (after_byte (λ more. text_plan m n more levels s (place + 8)) bytes levels s (place + 8)) else Ended (Err (fault.End, s)))
 
--- the width of elements of these types, which are numbers that a store may pack
-abbrev pub row_width : PokeType → Option ℕ
-row_width (IntegerOf type) = Some type.width
-row_width (OffsetOf type unit) = Some type.width
-row_width StringOf = None
-row_width (ArrayOf element bound) = None
-row_width (StructOf name pinned _) = None
-row_width (IntegralOf name type _) = None
-row_width (UnionOf name alternatives) = None
-
--- how an array is closed
-abbrev pub array_move : Option ℕ → Move
-array_move None = Closes
-array_move (Some width) = ClosesRow width
+-- how an array is closed whose elements are kept in such a way
+abbrev pub array_move : Row → Move
+array_move Apart = Closes
+array_move (Numbers width) = ClosesRow
+array_move (Records widths) = ClosesRow
 
 -- the plan of a type, as that of an array's element
 abbrev pub element_plan : PokeType → (Levels → ℕ → Plan (Result Value FaultAt)) → Levels → ℕ → Plan (Result Value FaultAt)
-element_plan ty p levels place = in_row (row_width ty) (p levels place)
+element_plan ty p levels place = in_row (row_of ty) (p levels place)
 
 -- what comes after an element: the array continues after it, or ends before it
 unfoldable pub after_element : Extent → (Levels → ℕ → Plan (Result Opened FaultAt)) → Levels → (place : ℕ) → Result Value FaultAt → Plan (Result Opened FaultAt)
@@ -98,7 +90,7 @@ elements_plan element m s extent (suc n) i levels place =
     if is_due extent m s i place then Tick (and_then (element levels place) (after_element extent (elements_plan element m s extent n (i + 1)) levels place)) else (if is_met extent s place then Ended (Ok (levels, place)) else Ended (Err (fault.Bounds, s)))
 
 abbrev pub array_closes : PokeType → (s : ℕ) → Opened → Plan (Result Value FaultAt)
-array_closes element s r = closes (array_move (row_width element)) (array_value s r.1) r.0
+array_closes element s r = closes (array_move (row_of element)) (array_value s r.1) r.0
 
 abbrev pub struct_closes : Naming → List Naming → (s : ℕ) → Opened → Plan (Result Value FaultAt)
 struct_closes name names s r = closes Closes (struct_value name names s r.1) r.0

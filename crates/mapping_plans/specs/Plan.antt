@@ -1,9 +1,10 @@
 -- A plan: a tree of steps, values made and reads. It branches at each read on the number that was read.
-use Rattle.std.specs.Prelude.{ℕ, zero, suc, ◌+◌, ◌<◌, ◌≤◌, ◌^◌, List, Option, Some, None, Result, Ok, Err}
+use Rattle.std.specs.Prelude.{ℕ, zero, suc, ◌+◌, ◌<◌, ◌≤◌, ◌^◌, List, Result, Ok, Err}
 use Rattle.bit_space.specs.declared.order.Order.{Order}
 use Rattle.pickle_meaning.specs.Numbers.{number_at}
 use Rattle.pickle_meaning.specs.Values.{Levels, opened}
-use Rattle.value_store.specs.Moves.{Move, Opens, Drops, Clears, Places, Leaves, Closes, Writes, Ends, Packs, ClosesRow}
+use Rattle.mapping_plans.specs.Rows.{Row, Apart, Numbers, Records, stride_of}
+use Rattle.value_store.specs.Moves.{Move, Opens, Drops, Clears, Places, Leaves, Closes, Writes, Ends, Packs, ClosesRow, OpensRecords, PacksRecord, ClosesRecords, PacksStruct}
 
 pub data Plan (A : Type 0) : Type 0 where
   Ended : (result : A) → Plan A
@@ -42,29 +43,58 @@ leave_frame outer (Err e) = Made 0 Drops outer (Ended (Err e))
 unfoldable pub framed : {A F : Type 0} → Levels → Plan (Result A F) → Plan (Result A F)
 framed outer p = Made 0 Opens (opened outer) (and_then p (leave_frame outer))
 
--- what is done for an element of an array of numbers of so many bits
-abbrev pub packed : (width : ℕ) → Move → Move
-packed width Opens = Opens
-packed width Drops = Drops
-packed width Clears = Clears
-packed width Places = Packs width
-packed width Leaves = Leaves
-packed width Closes = Closes
-packed width Writes = Writes
-packed width Ends = Ends
-packed width (Packs other) = Packs other
-packed width (ClosesRow other) = ClosesRow other
+-- a number is packed
+abbrev pub as_number : (width : ℕ) → Move → Move
+as_number width Opens = Opens
+as_number width Drops = Drops
+as_number width Clears = Clears
+as_number width Places = Packs width
+as_number width Leaves = Leaves
+as_number width Closes = Closes
+as_number width Writes = Writes
+as_number width Ends = Ends
+as_number width (Packs other) = Packs other
+as_number width ClosesRow = ClosesRow
+as_number width OpensRecords = OpensRecords
+as_number width (PacksRecord count) = PacksRecord count
+as_number width ClosesRecords = ClosesRecords
+as_number width (PacksStruct stride) = PacksStruct stride
 
--- the same plan, with its values as elements of an array of numbers of so many bits
-abbrev pub as_row : {A : Type 0} → (width : ℕ) → Plan A → Plan A
-as_row width (Ended a) = Ended a
-as_row width (Tick p) = Tick (as_row width p)
-as_row width (Made count move levels p) = Made count (packed width move) levels (as_row width p)
-as_row width (Read place bits order rest) = Read place bits order (λ n. as_row width (rest n))
+-- a struct of numbers, of so many bytes in all, is packed
+abbrev pub as_struct : (stride : ℕ) → Move → Move
+as_struct stride Opens = Opens
+as_struct stride Drops = Drops
+as_struct stride Clears = Clears
+as_struct stride Places = Places
+as_struct stride Leaves = Leaves
+as_struct stride Closes = PacksStruct stride
+as_struct stride Writes = Writes
+as_struct stride Ends = Ends
+as_struct stride (Packs width) = Packs width
+as_struct stride ClosesRow = ClosesRow
+as_struct stride OpensRecords = OpensRecords
+as_struct stride (PacksRecord count) = PacksRecord count
+as_struct stride ClosesRecords = ClosesRecords
+as_struct stride (PacksStruct other) = PacksStruct other
 
-abbrev pub in_row : {A : Type 0} → Option ℕ → Plan A → Plan A
-in_row (Some width) p = as_row width p
-in_row None p = p
+-- what is done for an element of an array that is kept in such a way
+abbrev pub packed : Row → Move → Move
+packed Apart move = move
+packed (Numbers width) move = as_number width move
+packed (Records widths) move = as_struct (stride_of widths) move
+
+-- the same plan, with those moves
+abbrev pub as_row : {A : Type 0} → Row → Plan A → Plan A
+as_row row (Ended a) = Ended a
+as_row row (Tick p) = Tick (as_row row p)
+as_row row (Made count move levels p) = Made count (packed row move) levels (as_row row p)
+as_row row (Read place width order rest) = Read place width order (λ n. as_row row (rest n))
+
+-- the plan of an element that is kept in such a way
+abbrev pub in_row : {A : Type 0} → Row → Plan A → Plan A
+in_row Apart p = p
+in_row (Numbers width) p = as_row (Numbers width) p
+in_row (Records widths) p = as_row (Records widths) p
 
 -- on a file's bits: the result, the steps and the values made
 abbrev pub result_of : {A : Type 0} → List ℕ → Plan A → A

@@ -1,136 +1,244 @@
 -- The elements of an array, where they aren't packed.
-use Rattle.std.proofs.Common.{◌≡◌, ℕ, Bool, true, false, List, [], ◌∷◌, ◌++◌, Option, Some, None, Result, refl, sym, ap, ◌∙◌}
-use Rattle.pickle_types.specs.Types.{PokeType, IntegerOf, OffsetOf, StringOf, ArrayOf, StructOf, IntegralOf, UnionOf}
+use Rattle.std.proofs.Common.{◌≡◌, ℕ, Bool, true, false, Option, None, Result, refl, sym, ap, ◌∙◌}
+use Rattle.pickle_types.specs.Types.{PokeType}
+use Rattle.pickle_types.specs.declared.node.Field.{Field}
+use Rattle.pickle_types.specs.declared.name.Name.{Name}
+use Rattle.std.specs.Prelude.{Vec}
+use Rattle.std.specs.declared.alloc.Global.{Global}
 use Rattle.pickle_types.specs.declared.node.Shape.{Shape}
 use Rattle.pickle_types.specs.declared.node.Shape.TheVariants as shape
 use Rattle.pickle_types.specs.declared.integer.IntegerType.{IntegerType}
-use Rattle.pickle_types.specs.Bounds.{is_some}
 use Rattle.pickle_types.specs.Table.{open_shape}
 use Rattle.pickle_map.specs.declared.mapper.stop.Stop.{Stop}
 use Rattle.pickle_map.specs.declared.mapper.stop.Stop.TheVariants.{Fault, Limit, Device, Memory}
 use Rattle.pickle_meaning.specs.Clauses.{FaultAt}
-use Rattle.pickle_meaning.specs.Fits.{Fits, FitsNumber}
-use Rattle.pickle_meaning.specs.Values.{Value, label_of, Levels, pushed, top_of, gathered}
-use Rattle.value_store.specs.Moves.{Move, Opens, Drops, Clears, Places, Leaves, Closes, Writes, Ends, Packs, ClosesRow, State, moved}
-use Rattle.mapping_plans.proofs.Basics.{clash}
-use Rattle.mapping_plans.specs.Plan.{Plan, Ended, Tick, Made, Read, packed, as_row, in_row}
-use Rattle.mapping_plans.specs.Mapping.{row_width as packed_width, array_move}
+use Rattle.pickle_meaning.specs.Values.{Levels}
+use Rattle.value_store.specs.Moves.{Move, Opens, Drops, Clears, Places, Leaves, Closes, Writes, Ends, Packs, ClosesRow, OpensRecords, PacksRecord, ClosesRecords, PacksStruct, State, moved}
+use Rattle.mapping_plans.specs.Plan.{Plan, Ended, Tick, Made, Read, as_number, as_struct, packed, as_row, in_row}
+use Rattle.mapping_plans.specs.Mapping.{array_move}
+use Rattle.mapping_plans.specs.Avoids.{IsScalar}
+use Rattle.mapping_plans.specs.Rows.{Row, Apart, Numbers, Records, scalar_width, row_of, stride_of}
 use Rattle.value_store.specs.Slots.{packs}
-use Rattle.value_store.specs.Takes.{number_width, row_width}
-use Rattle.pickle_map.specs.Follows.{World, after_move, MovesTo, LacksRoom, Walk, arrived, stepped, kept, read, Done, NeedsStep, NeedsRead, NeedsRoom, Follows}
+use Rattle.pickle_map.specs.Follows.{World, after_move, MovesTo, TakesMore, LacksRoom, Walk, arrived, stepped, kept, read, Done, NeedsStep, NeedsRead, NeedsRoom, Follows}
 use Rattle.pickle_map.specs.Stops.{stop_finish}
 
 -- ---- a plan as that of an element
 
--- where nothing is packed, the elements of an array of numbers are placed as others are
-pub unpacked : (width : ℕ) (move : Move) (state : State) → moved false (packed width move) state ≡ moved false move state
-unpacked width Opens state = refl
-unpacked width Drops state = refl
-unpacked width Clears state = refl
-unpacked width Places state = refl
-unpacked width Leaves state = refl
-unpacked width Closes state = refl
-unpacked width Writes state = refl
-unpacked width Ends state = refl
-unpacked width (Packs other) state = refl
-unpacked width (ClosesRow other) state = refl
+-- where nothing is packed, a number is placed as others are, and a struct is closed as others are
+number_alike : (width : ℕ) (move : Move) (state : State) → moved false (as_number width move) state ≡ moved false move state
+number_alike width Opens state = refl
+number_alike width Drops state = refl
+number_alike width Clears state = refl
+number_alike width Places state = refl
+number_alike width Leaves state = refl
+number_alike width Closes state = refl
+number_alike width Writes state = refl
+number_alike width Ends state = refl
+number_alike width (Packs other) state = refl
+number_alike width ClosesRow state = refl
+number_alike width OpensRecords state = refl
+number_alike width (PacksRecord count) state = refl
+number_alike width ClosesRecords state = refl
+number_alike width (PacksStruct other) state = refl
 
-step_as_row : {A : Type 0} (width : ℕ) (p : Plan A) → NeedsStep p → NeedsStep (as_row width p)
-step_as_row width (Ended a) h = absurd h
-step_as_row width (Tick p) h = tt
-step_as_row width (Made count move levels p) h = absurd h
-step_as_row width (Read place bits order rest) h = absurd h
+record_alike : (stride : ℕ) (move : Move) (state : State) → moved false (as_struct stride move) state ≡ moved false move state
+record_alike stride Opens state = refl
+record_alike stride Drops state = refl
+record_alike stride Clears state = refl
+record_alike stride Places state = refl
+record_alike stride Leaves state = refl
+record_alike stride Closes state = refl
+record_alike stride Writes state = refl
+record_alike stride Ends state = refl
+record_alike stride (Packs other) state = refl
+record_alike stride ClosesRow state = refl
+record_alike stride OpensRecords state = refl
+record_alike stride (PacksRecord count) state = refl
+record_alike stride ClosesRecords state = refl
+record_alike stride (PacksStruct other) state = refl
 
-read_as_row : {A : Type 0} (width : ℕ) (p : Plan A) → NeedsRead p → NeedsRead (as_row width p)
-read_as_row width (Ended a) h = absurd h
-read_as_row width (Tick p) h = absurd h
-read_as_row width (Made count move levels p) h = absurd h
-read_as_row width (Read place bits order rest) h = tt
+unpacked : (row : Row) (move : Move) (state : State) → moved false (packed row move) state ≡ moved false move state
+unpacked Apart move state = refl
+unpacked (Numbers width) move state = number_alike width move state
+unpacked (Records widths) move state = record_alike (stride_of widths) move state
 
-module _ (world : World) (none : packs world.room ≡ false) (width : ℕ) where
-  same_after : (move : Move) (state : State) → after_move world (packed width move) state ≡ after_move world move state
-  same_after move state = rw none (unpacked width move state)
+takes_number : (width : ℕ) (move : Move) → TakesMore move → TakesMore (as_number width move)
+takes_number width Opens h = h
+takes_number width Drops h = h
+takes_number width Clears h = h
+takes_number width Places h = tt
+takes_number width Leaves h = tt
+takes_number width Closes h = tt
+takes_number width Writes h = tt
+takes_number width Ends h = tt
+takes_number width (Packs other) h = tt
+takes_number width ClosesRow h = tt
+takes_number width OpensRecords h = tt
+takes_number width (PacksRecord count) h = tt
+takes_number width ClosesRecords h = h
+takes_number width (PacksStruct other) h = tt
 
-  room_as_row : {A : Type 0} (state : State) (p : Plan A) → NeedsRoom world state p → NeedsRoom world state (as_row width p)
+takes_record : (stride : ℕ) (move : Move) → TakesMore move → TakesMore (as_struct stride move)
+takes_record stride Opens h = h
+takes_record stride Drops h = h
+takes_record stride Clears h = h
+takes_record stride Places h = tt
+takes_record stride Leaves h = tt
+takes_record stride Closes h = tt
+takes_record stride Writes h = tt
+takes_record stride Ends h = tt
+takes_record stride (Packs other) h = tt
+takes_record stride ClosesRow h = tt
+takes_record stride OpensRecords h = tt
+takes_record stride (PacksRecord count) h = tt
+takes_record stride ClosesRecords h = h
+takes_record stride (PacksStruct other) h = tt
+
+takes_packed : (row : Row) (move : Move) → TakesMore move → TakesMore (packed row move)
+takes_packed Apart move h = h
+takes_packed (Numbers width) move h = takes_number width move h
+takes_packed (Records widths) move h = takes_record (stride_of widths) move h
+
+-- nor does the element take more than the value
+number_back : (width : ℕ) (move : Move) → TakesMore (as_number width move) → TakesMore move
+number_back width Opens h = h
+number_back width Drops h = h
+number_back width Clears h = h
+number_back width Places h = tt
+number_back width Leaves h = h
+number_back width Closes h = h
+number_back width Writes h = h
+number_back width Ends h = h
+number_back width (Packs other) h = h
+number_back width ClosesRow h = h
+number_back width OpensRecords h = h
+number_back width (PacksRecord count) h = h
+number_back width ClosesRecords h = h
+number_back width (PacksStruct other) h = h
+
+struct_back : (stride : ℕ) (move : Move) → TakesMore (as_struct stride move) → TakesMore move
+struct_back stride Opens h = h
+struct_back stride Drops h = h
+struct_back stride Clears h = h
+struct_back stride Places h = h
+struct_back stride Leaves h = h
+struct_back stride Closes h = tt
+struct_back stride Writes h = h
+struct_back stride Ends h = h
+struct_back stride (Packs other) h = h
+struct_back stride ClosesRow h = h
+struct_back stride OpensRecords h = h
+struct_back stride (PacksRecord count) h = h
+struct_back stride ClosesRecords h = h
+struct_back stride (PacksStruct other) h = h
+
+pub takes_back : (row : Row) (move : Move) → TakesMore (packed row move) → TakesMore move
+takes_back Apart move h = h
+takes_back (Numbers width) move h = number_back width move h
+takes_back (Records widths) move h = struct_back (stride_of widths) move h
+
+takes_array : (row : Row) → TakesMore (array_move row)
+takes_array Apart = tt
+takes_array (Numbers width) = tt
+takes_array (Records widths) = tt
+
+step_as_row : {A : Type 0} (row : Row) (p : Plan A) → NeedsStep p → NeedsStep (as_row row p)
+step_as_row row (Ended a) h = absurd h
+step_as_row row (Tick p) h = tt
+step_as_row row (Made count move levels p) h = absurd h
+step_as_row row (Read place bits order rest) h = absurd h
+
+read_as_row : {A : Type 0} (row : Row) (p : Plan A) → NeedsRead p → NeedsRead (as_row row p)
+read_as_row row (Ended a) h = absurd h
+read_as_row row (Tick p) h = absurd h
+read_as_row row (Made count move levels p) h = absurd h
+read_as_row row (Read place bits order rest) h = tt
+
+module _ (world : World) (none : packs world.room ≡ false) (row : Row) where
+  same_after : (move : Move) (state : State) → after_move world (packed row move) state ≡ after_move world move state
+  same_after move state = rw none (unpacked row move state)
+
+  room_as_row : {A : Type 0} (state : State) (p : Plan A) → NeedsRoom world state p → NeedsRoom world state (as_row row p)
   room_as_row state (Ended a) h = absurd h
   room_as_row state (Tick p) h = absurd h
-  room_as_row state (Made count move levels p) h = record { least = h.least; before = rw (same_after move state) h.before }
+  room_as_row state (Made count move levels p) h = record { takes = takes_packed row move h.takes; least = h.least; before = rw (same_after move state) h.before }
   room_as_row state (Read place bits order rest) h = absurd h
 
-  walk_as_row : {A : Type 0} {rest : Plan A} {k' j' : ℕ} {last : State} {p : Plan A} {k j : ℕ} {state : State} → Walk world rest k' j' last p k j state → Walk world (as_row width rest) k' j' last (as_row width p) k j state
+  walk_as_row : {A : Type 0} {rest : Plan A} {k' j' : ℕ} {last : State} {p : Plan A} {k j : ℕ} {state : State} → Walk world rest k' j' last p k j state → Walk world (as_row row rest) k' j' last (as_row row p) k j state
   walk_as_row arrived = arrived
   walk_as_row (stepped w) = stepped (walk_as_row w)
   walk_as_row (kept {move} {state} has w) = kept (rw (same_after move state) has) (rw (same_after move state) (walk_as_row w))
   walk_as_row (read n m w) = read n m (walk_as_row w)
 
-  done_as_row : {A : Type 0} {limit : ℕ} {p : Plan A} {k j k' j' : ℕ} {state state' : State} {a : A} → Follows world limit p k j state k' j' state' (Done a) → Follows world limit (as_row width p) k j state k' j' state' (Done a)
-  done_as_row h = record { rest = as_row width h.rest; at = h.at; walk = walk_as_row h.walk; ends = (ap (as_row width) h.ends.0, h.ends.1) }
+  done_as_row : {A : Type 0} {limit : ℕ} {p : Plan A} {k j k' j' : ℕ} {state state' : State} {a : A} → Follows world limit p k j state k' j' state' (Done a) → Follows world limit (as_row row p) k j state k' j' state' (Done a)
+  done_as_row h = record { rest = as_row row h.rest; at = h.at; walk = walk_as_row h.walk; ends = (ap (as_row row) h.ends.0, h.ends.1) }
 
   stops_as_row : {A : Type 0} {limit : ℕ} {p : Plan (Result A FaultAt)} {k j k' j' : ℕ} {state state' : State} (stop : Stop) → Follows world limit p k j state k' j' state' (stop_finish stop) →
-      Follows world limit (as_row width p) k j state k' j' state' (stop_finish stop)
+      Follows world limit (as_row row p) k j state k' j' state' (stop_finish stop)
   stops_as_row (Fault kind place) h = done_as_row h
-  stops_as_row Limit h = record { rest = as_row width h.rest; at = h.at; walk = walk_as_row h.walk; ends = (step_as_row width h.rest h.ends.0, h.ends.1) }
-  stops_as_row Device h = record { rest = as_row width h.rest; at = h.at; walk = walk_as_row h.walk; ends = read_as_row width h.rest h.ends }
-  stops_as_row Memory h = record { rest = as_row width h.rest; at = h.at; walk = walk_as_row h.walk; ends = room_as_row h.at h.rest h.ends }
+  stops_as_row Limit h = record { rest = as_row row h.rest; at = h.at; walk = walk_as_row h.walk; ends = (step_as_row row h.rest h.ends.0, h.ends.1) }
+  stops_as_row Device h = record { rest = as_row row h.rest; at = h.at; walk = walk_as_row h.walk; ends = read_as_row row h.rest h.ends }
+  stops_as_row Memory h = record { rest = as_row row h.rest; at = h.at; walk = walk_as_row h.walk; ends = room_as_row h.at h.rest h.ends }
 
--- a store that doesn't pack such a row packs none
-packs_none : (packing : Bool) {width : ℕ} → (packing ≡ true → Some width ≡ None) → packing ≡ false
-packs_none true apart = clash (ap is_some (apart refl))
-packs_none false apart = refl
+-- a store that doesn't pack a row packs none
+packs_none : (packing : Bool) (row : Row) → (row ≡ Apart → ⊥) → (packing ≡ true → row ≡ Apart) → packing ≡ false
+packs_none true row other apart = absurd (other (apart refl))
+packs_none false row other apart = refl
 
 -- their array is closed as others are
-closes_alike : (world : World) (row : Option ℕ) → (packs world.room ≡ true → row ≡ None) → (state : State) → after_move world (array_move row) state ≡ after_move world Closes state
-closes_alike world (Some width) apart state = let none = packs_none (packs world.room) apart in rw none refl
-closes_alike world None apart state = refl
+closes_alike : (world : World) (row : Row) → (packs world.room ≡ true → row ≡ Apart) → (state : State) → after_move world (array_move row) state ≡ after_move world Closes state
+closes_alike world Apart apart state = refl
+closes_alike world (Numbers width) apart state = let none = packs_none (packs world.room) (Numbers width) (λ e. cc) apart in rw none refl
+closes_alike world (Records widths) apart state = let none = packs_none (packs world.room) (Records widths) (λ e. cc) apart in rw none refl
 
-module _ {world : World} (row : Option ℕ) (apart : packs world.room ≡ true → row ≡ None) where
-  pub element_done : {A : Type 0} {limit : ℕ} {p : Plan A} {k j k' j' : ℕ} {state state' : State} {a : A} → Follows world limit p k j state k' j' state' (Done a) → Follows world limit (in_row row p) k j state k' j' state' (Done a)
-  element_done {limit} {p} {k} {j} {k'} {j'} {state} {state'} {a} h = elim row as (λ r. (packs world.room ≡ true → r ≡ None) → Follows world limit (in_row r p) k j state k' j' state' (Done a)) [
-    | Some width ↦ λ apart. done_as_row world (packs_none (packs world.room) apart) width h
-    | None ↦ λ apart. h
-  ] apart
+module _ {world : World} where
+  pub element_done : {A : Type 0} (row : Row) → (packs world.room ≡ true → row ≡ Apart) → {limit : ℕ} {p : Plan A} {k j k' j' : ℕ} {state state' : State} {a : A} → Follows world limit p k j state k' j' state' (Done a) →
+      Follows world limit (in_row row p) k j state k' j' state' (Done a)
+  element_done Apart apart h = h
+  element_done (Numbers width) apart h = done_as_row world (packs_none (packs world.room) (Numbers width) (λ e. cc) apart) (Numbers width) h
+  element_done (Records widths) apart h = done_as_row world (packs_none (packs world.room) (Records widths) (λ e. cc) apart) (Records widths) h
 
-  pub element_stopped : {A : Type 0} {limit : ℕ} {p : Plan (Result A FaultAt)} {k j k' j' : ℕ} {state state' : State} (stop : Stop) → Follows world limit p k j state k' j' state' (stop_finish stop) → Follows world limit (in_row row p) k j state k' j' state' (stop_finish stop)
-  element_stopped {limit} {p} {k} {j} {k'} {j'} {state} {state'} stop h = elim row as (λ r. (packs world.room ≡ true → r ≡ None) → Follows world limit (in_row r p) k j state k' j' state' (stop_finish stop)) [
-    | Some width ↦ λ apart. stops_as_row world (packs_none (packs world.room) apart) width stop h
-    | None ↦ λ apart. h
-  ] apart
+  pub element_stopped : {A : Type 0} (row : Row) → (packs world.room ≡ true → row ≡ Apart) → {limit : ℕ} {p : Plan (Result A FaultAt)} {k j k' j' : ℕ} {state state' : State} (stop : Stop) → Follows world limit p k j state k' j' state' (stop_finish stop) →
+      Follows world limit (in_row row p) k j state k' j' state' (stop_finish stop)
+  element_stopped Apart apart stop h = h
+  element_stopped (Numbers width) apart stop h = stops_as_row world (packs_none (packs world.room) (Numbers width) (λ e. cc) apart) (Numbers width) stop h
+  element_stopped (Records widths) apart stop h = stops_as_row world (packs_none (packs world.room) (Records widths) (λ e. cc) apart) (Records widths) stop h
 
+module _ {world : World} (row : Row) (apart : packs world.room ≡ true → row ≡ Apart) where
   pub array_moves : {state state' : State} → MovesTo world Closes state state' → MovesTo world (array_move row) state state'
   array_moves {state} h = record { is = h.is ∙ sym (closes_alike world row apart state); has = h.has }
 
   pub array_lacks : {state : State} {levels : Levels} → LacksRoom world state Closes levels → LacksRoom world state (array_move row) levels
-  array_lacks {state} h = record { least = h.least; before = rw (closes_alike world row apart state) h.before }
+  array_lacks {state} h = record { takes = takes_array row; least = h.least; before = rw (closes_alike world row apart state) h.before }
 
 -- ---- elements that are no numbers
 
 -- a shape that is neither an integer's nor an offset's
-pub apart_shape : (types : ℕ → PokeType) (s : Shape) → ((number : IntegerType) → s ≡ shape.Integer number → ⊥) → ((number : IntegerType) (unit : ℕ) → s ≡ shape.Offset number unit → ⊥) → packed_width (open_shape types s) ≡ None
-apart_shape types (shape.Integer number) no_integer no_offset = absurd (no_integer number refl)
-apart_shape types (shape.Offset number unit) no_integer no_offset = absurd (no_offset number unit refl)
-apart_shape types shape.String no_integer no_offset = refl
-apart_shape types (shape.Array element bound) no_integer no_offset = refl
-apart_shape types (shape.Struct name pinned fields) no_integer no_offset = refl
-apart_shape types (shape.Integral name number fields) no_integer no_offset = refl
-apart_shape types (shape.Union name alternatives) no_integer no_offset = refl
+pub no_scalar : (types : ℕ → PokeType) (s : Shape) → ((number : IntegerType) → s ≡ shape.Integer number → ⊥) → ((number : IntegerType) (unit : ℕ) → s ≡ shape.Offset number unit → ⊥) → scalar_width (open_shape types s) ≡ None
+no_scalar types (shape.Integer number) no_integer no_offset = absurd (no_integer number refl)
+no_scalar types (shape.Offset number unit) no_integer no_offset = absurd (no_offset number unit refl)
+no_scalar types shape.String no_integer no_offset = refl
+no_scalar types (shape.Array element bound) no_integer no_offset = refl
+no_scalar types (shape.Struct name pinned fields) no_integer no_offset = refl
+no_scalar types (shape.Integral name number fields) no_integer no_offset = refl
+no_scalar types (shape.Union name alternatives) no_integer no_offset = refl
 
--- they have no numbers as values
-apart_value : (m : ℕ) (ty : PokeType) (levels : Levels) (s : ℕ) (v : Value) → packed_width ty ≡ None → Fits m ty levels s v → number_width (label_of v) ≡ None
-unfolding Fits FitsNumber
-apart_value m (IntegerOf type) levels s v e h = clash (ap is_some e)
-apart_value m (OffsetOf type unit) levels s v e h = clash (ap is_some e)
-apart_value m StringOf levels s v e h = ap (λ v. number_width (label_of v)) h.2
-apart_value m (ArrayOf element bound) levels s v e h = ap (λ v. number_width (label_of v)) h.8
-apart_value m (StructOf name pinned _) levels s v e h = ap (λ v. number_width (label_of v)) h.4
-apart_value m (IntegralOf name type _) levels s v e h = ap (λ v. number_width (label_of v)) h.0.2
-apart_value m (UnionOf name alternatives) levels s v e h = ap (λ v. number_width (label_of v)) h.2
+pub not_scalar : (types : ℕ → PokeType) (s : Shape) → ((number : IntegerType) → s ≡ shape.Integer number → ⊥) → ((number : IntegerType) (unit : ℕ) → s ≡ shape.Offset number unit → ⊥) → IsScalar (open_shape types s) → ⊥
+not_scalar types (shape.Integer number) no_integer no_offset h = no_integer number refl
+not_scalar types (shape.Offset number unit) no_integer no_offset h = no_offset number unit refl
+not_scalar types shape.String no_integer no_offset h = h
+not_scalar types (shape.Array element bound) no_integer no_offset h = h
+not_scalar types (shape.Struct name pinned fields) no_integer no_offset h = h
+not_scalar types (shape.Integral name number fields) no_integer no_offset h = h
+not_scalar types (shape.Union name alternatives) no_integer no_offset h = h
 
--- a frame that begins with no number stays so
-still_apart : (top : List (Option Value)) (v : Value) → row_width (gathered top) ≡ None → number_width (label_of v) ≡ None → row_width (gathered (top ++ Some v ∷ [])) ≡ None
-still_apart [] v h e = e
-still_apart (None ∷ rest) v h e = refl
-still_apart (Some w ∷ rest) v h e = h
-
-pub pushed_apart : (m : ℕ) (ty : PokeType) (before levels : Levels) (s : ℕ) (v : Value) → packed_width ty ≡ None → Fits m ty before s v → row_width (gathered (top_of levels)) ≡ None → row_width (gathered (top_of (pushed levels (Some v)))) ≡ None
-pushed_apart m ty before [] s v e fit h = apart_value m ty before s v e fit
-pushed_apart m ty before (top ∷ outer) s v e fit h = still_apart top v h (apart_value m ty before s v e fit)
+-- a shape that is no struct's either
+pub apart_shape : (types : ℕ → PokeType) (s : Shape) → ((number : IntegerType) → s ≡ shape.Integer number → ⊥) → ((number : IntegerType) (unit : ℕ) → s ≡ shape.Offset number unit → ⊥) →
+    ((name : Option Name) (pinned : Bool) (fields : Vec Field Global) → s ≡ shape.Struct name pinned fields → ⊥) → row_of (open_shape types s) ≡ Apart
+apart_shape types (shape.Integer number) no_integer no_offset no_struct = absurd (no_integer number refl)
+apart_shape types (shape.Offset number unit) no_integer no_offset no_struct = absurd (no_offset number unit refl)
+apart_shape types shape.String no_integer no_offset no_struct = refl
+apart_shape types (shape.Array element bound) no_integer no_offset no_struct = refl
+apart_shape types (shape.Struct name pinned fields) no_integer no_offset no_struct = absurd (no_struct name pinned fields refl)
+apart_shape types (shape.Integral name number fields) no_integer no_offset no_struct = refl
+apart_shape types (shape.Union name alternatives) no_integer no_offset no_struct = refl

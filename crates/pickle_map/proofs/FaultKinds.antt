@@ -24,7 +24,8 @@ use Rattle.pickle_map.specs.FaultKinds.{IsMeant, OfFault}
 use Rattle.value_store.specs.Moves.{State}
 use Rattle.pickle_map.specs.Follows.{World, Done, Follows}
 use Rattle.mapping_plans.proofs.InRow.{row_always}
-use Rattle.mapping_plans.specs.Mapping.{from_inside, constrained, number_plan, digits_plan, read_plan, after_byte, text_plan, after_element, row_width, element_plan, elements_plan, after_attempt, plan, fields_plan, alternatives_plan}
+use Rattle.mapping_plans.specs.Rows.{row_of}
+use Rattle.mapping_plans.specs.Mapping.{from_inside, constrained, number_plan, digits_plan, read_plan, after_byte, text_plan, after_element, element_plan, elements_plan, after_attempt, plan, fields_plan, alternatives_plan}
 use Rattle.pickle_meaning.specs.Means.{Opened, Taken, number_type, width_in, first_digits, ordered}
 use Rattle.mapping_plans.specs.Plan.{Plan, after, on_value, then_ok, leave_frame, framed, Always, result, after_tick, after_made, after_read}
 use Rattle.mapping_plans.proofs.Always.{of_result, after_always, then_always}
@@ -375,7 +376,7 @@ mutual
   plan_faults m (ArrayOf element bound) order levels s =
       inside_fault m s _ (after_tick (after_fault _ (extent_of bound levels s) _ (extent_fault bound levels s)
       (λ extent. frame_fault levels _ (then_fault _ _
-      (elements_fault (element_plan element (plan m element order)) m s extent (λ inside at. row_always (row_width element) (plan_faults m element order inside at)) (bounds.count_of m (least_width element)) 0 (opened levels) s)
+      (elements_fault (element_plan element (plan m element order)) m s extent (λ inside at. row_always (row_of element) (plan_faults m element order inside at)) (bounds.count_of m (least_width element)) 0 (opened levels) s)
       (λ r. after_made tt (result tt))))))
   plan_faults m (StructOf name pinned fields) order levels s =
       inside_fault m s _ (after_tick (frame_fault levels _ (then_fault _ _ (fields_faults m pinned s fields order (opened levels) s s) (λ r. after_made tt (result tt)))))

@@ -20,7 +20,8 @@ use Rattle.pickle_meaning.specs.Means.{ordered, number_type, field_names, array_
 use Rattle.value_store.specs.Moves.{Clears, Leaves, Closes, State}
 use Rattle.mapping_plans.specs.Plan.{Plan, Tick, and_then, after, then_ok, framed}
 use Rattle.pickle_map.specs.Follows.{World, MovesTo, LacksRoom, Finish, Done, NoSteps, Broken, NoRoom, Partly, Follows}
-use Rattle.mapping_plans.specs.Mapping.{from_inside, read_plan, text_plan, plan, fields_plan, element_plan, elements_plan, alternatives_plan, after_element, after_attempt, constrained, row_width, array_move, array_closes, struct_closes, union_closes}
+use Rattle.mapping_plans.specs.Rows.{row_of}
+use Rattle.mapping_plans.specs.Mapping.{from_inside, read_plan, text_plan, plan, fields_plan, element_plan, elements_plan, alternatives_plan, after_element, after_attempt, constrained, array_move, array_closes, struct_closes, union_closes}
 use Rattle.pickle_map.specs.Stops.{stop_finish, stop_misses, stop_ends}
 use Rattle.pickle_map.proofs.Clauses.{settles_ok, settles_stop}
 use Rattle.pickle_map.proofs.Walks.{follow_done, follow_here, follow_at, follow_tick, follow_no_tick, follow_made, follow_no_room, follow_then, follow_then_ok, follow_stop, follow_and_no_steps, follow_and_broken, follow_and_no_room, follow_inside, follow_past, ends_no_room, ends_made}
@@ -86,11 +87,11 @@ module _ {world : World} {limit : ℕ} (p : Plan (Result Opened FaultAt)) (s end
     struct_made moves ek ej = ends_made p (struct_closes name names s) (inside, end) Closes (outer_of inside) (struct_value name names s end inside) refl h {limit1 = limit} moves refl ek ej
 
   module _ (element : PokeType) where
-    pub array_no_room : {state2 : State} → LacksRoom world state1 (array_move (row_width element)) (pushed (outer_of inside) (Some (array_value s end inside))) → Follows world limit (then_ok p (array_closes element s)) k j state k1 j1 state2 NoRoom
-    array_no_room lacks = ends_no_room p (array_closes element s) (inside, end) (array_move (row_width element)) (outer_of inside) (array_value s end inside) refl h lacks
+    pub array_no_room : {state2 : State} → LacksRoom world state1 (array_move (row_of element)) (pushed (outer_of inside) (Some (array_value s end inside))) → Follows world limit (then_ok p (array_closes element s)) k j state k1 j1 state2 NoRoom
+    array_no_room lacks = ends_no_room p (array_closes element s) (inside, end) (array_move (row_of element)) (outer_of inside) (array_value s end inside) refl h lacks
 
-    pub array_made : {k2 j2 : ℕ} {state2 : State} → MovesTo world (array_move (row_width element)) state1 state2 → k2 ≡ k1 → j2 ≡ j1 + 1 → Follows world limit (then_ok p (array_closes element s)) k j state k2 j2 state2 (Done (Ok (array_value s end inside)))
-    array_made moves ek ej = ends_made p (array_closes element s) (inside, end) (array_move (row_width element)) (outer_of inside) (array_value s end inside) refl h {limit1 = limit} moves refl ek ej
+    pub array_made : {k2 j2 : ℕ} {state2 : State} → MovesTo world (array_move (row_of element)) state1 state2 → k2 ≡ k1 → j2 ≡ j1 + 1 → Follows world limit (then_ok p (array_closes element s)) k j state k2 j2 state2 (Done (Ok (array_value s end inside)))
+    array_made moves ek ej = ends_made p (array_closes element s) (inside, end) (array_move (row_of element)) (outer_of inside) (array_value s end inside) refl h {limit1 = limit} moves refl ek ej
 
 module _ {world : World} {limit : ℕ} (p : Plan (Result Taken FaultAt)) (name : Naming) (levels : Levels) (s : ℕ) (t : Taken) {k j k1 j1 : ℕ} {state state1 : State} (h : Follows world limit p k j state k1 j1 state1 (Done (Ok t))) where
   pub union_no_room : {state2 : State} → LacksRoom world state1 Closes (pushed levels (Some (union_value name s t))) → Follows world limit (then_ok p (union_closes name levels s)) k j state k1 j1 state2 NoRoom

@@ -9,7 +9,7 @@ use Rattle.pickle_types.specs.declared.node.Node.{Node}
 use Rattle.pickle_types.specs.Types.{PokeType}
 use Rattle.pickle_types.specs.Bounds.{least_width}
 use Rattle.value_store.specs.declared.store.slots.Shape.{Shape}
-use Rattle.value_store.specs.declared.store.slots.Shape.TheVariants.{Integer, Offset, Text, Integers, Offsets, Array, Struct, Union}
+use Rattle.value_store.specs.declared.store.slots.Shape.TheVariants.{Integer, Offset, Text, Integers, Offsets, Records, Array, Struct, Union}
 use Rattle.pickle_map.specs.declared.mapper.stop.Stop.{Stop}
 use Rattle.pickle_meaning.specs.declared.faults.MapFaultKind.TheVariants.{End}
 use Rattle.pickle_meaning.specs.Clauses.{FaultAt}
@@ -19,7 +19,8 @@ use Rattle.pickle_map.specs.Follows.{World, MovesTo, LacksRoom, Done, NoRoom, Fo
 use Rattle.pickle_map.specs.Framed.{ReadStops}
 use Rattle.pickle_map.specs.Stops.{stop_finish}
 use Rattle.pickle_meaning.specs.Means.{array_value}
-use Rattle.mapping_plans.specs.Mapping.{plan, read_plan, number_plan, row_width, array_move, element_plan}
+use Rattle.mapping_plans.specs.Mapping.{plan, read_plan, number_plan, array_move, element_plan}
+use Rattle.mapping_plans.specs.Rows.{Row, Numbers, row_of}
 use Rattle.pickle_map.specs.Row.{IsArrayOf, row_levels}
 use Rattle.value_store.specs.Slots.{Held, HasNoNode, IsPacked, IsPacking, element_width, element_value, elements, row_value}
 use Rattle.pickle_meaning.specs.Values.{Value, Mapped, ArrayLabel, Levels, end_of, pushed, gathered}
@@ -35,6 +36,7 @@ some_bits (Offset w g u) h = absurd h
 some_bits Text h = absurd h
 some_bits (Integers w g) h = h
 some_bits (Offsets w g u) h = (h.0, h.1)
+some_bits (Records stride size) h = absurd h
 some_bits Array h = absurd h
 some_bits (Struct t) h = absurd h
 some_bits (Union t i) h = absurd h
@@ -47,30 +49,32 @@ least_is (Offset w g u) ty h = absurd h
 least_is Text ty h = absurd h
 least_is (Integers w g) ty h = ap least_width h
 least_is (Offsets w g u) ty h = ap least_width h
+least_is (Records stride size) ty h = absurd h
 least_is Array ty h = absurd h
 least_is (Struct t) ty h = absurd h
 least_is (Union t i) ty h = absurd h
 
 -- their numbers have that width
-pub width_is : (shape : Shape) (ty : PokeType) → IsArrayOf shape ty → row_width ty ≡ Some (element_width shape)
+pub width_is : (shape : Shape) (ty : PokeType) → IsArrayOf shape ty → row_of ty ≡ Numbers (element_width shape)
 width_is (Integer w g) ty h = absurd h
 width_is (Offset w g u) ty h = absurd h
 width_is Text ty h = absurd h
-width_is (Integers w g) ty h = ap row_width h
-width_is (Offsets w g u) ty h = ap row_width h
+width_is (Integers w g) ty h = ap row_of h
+width_is (Offsets w g u) ty h = ap row_of h
+width_is (Records stride size) ty h = absurd h
 width_is Array ty h = absurd h
 width_is (Struct t) ty h = absurd h
 width_is (Union t i) ty h = absurd h
 
 -- their array is closed as such a row
-pub row_move : (shape : Shape) (ty : PokeType) → IsArrayOf shape ty → array_move (row_width ty) ≡ ClosesRow (element_width shape)
+pub row_move : (shape : Shape) (ty : PokeType) → IsArrayOf shape ty → array_move (row_of ty) ≡ ClosesRow
 row_move shape ty h = ap array_move (width_is shape ty h)
 
 -- a read, as that of an element of an array of numbers
-read_in_row : {A : Type 0} (bits : ℕ) (inside : Bool) (place width : ℕ) (order : Order) (rest : ℕ → Plan (Result A FaultAt)) (s : ℕ) →
-    as_row bits (if inside then Read place width order rest else Ended (Err (End, s))) ≡ (if inside then Read place width order (λ n. as_row bits (rest n)) else Ended (Err (End, s)))
-read_in_row bits true place width order rest s = refl
-read_in_row bits false place width order rest s = refl
+read_in_row : {A : Type 0} (row : Row) (inside : Bool) (place width : ℕ) (order : Order) (rest : ℕ → Plan (Result A FaultAt)) (s : ℕ) →
+    as_row row (if inside then Read place width order rest else Ended (Err (End, s))) ≡ (if inside then Read place width order (λ n. as_row row (rest n)) else Ended (Err (End, s)))
+read_in_row row true place width order rest s = refl
+read_in_row row false place width order rest s = refl
 
 -- the plan of an element: a read, and the number's value in the row
 abbrev pub goes_in_row : (width : ℕ) → Levels → Value → Plan (Result Value FaultAt)
@@ -83,9 +87,10 @@ element_is (Integer w g) m ty order levels s h inside = absurd h
 element_is (Offset w g u) m ty order levels s h inside = absurd h
 element_is Text m ty order levels s h inside = absurd h
 element_is (Integers w g) m ty order levels s h inside =
-    ap (λ t. element_plan t (plan m t order) levels s) h ∙ ap (as_row w) (number_is m _ _ order levels s refl inside) ∙ ap Tick (read_in_row w (nat_le (s + w) m) s w order _ s)
+    ap (λ t. element_plan t (plan m t order) levels s) h ∙ ap (as_row (Numbers w)) (number_is m _ _ order levels s refl inside) ∙ ap Tick (read_in_row (Numbers w) (nat_le (s + w) m) s w order _ s)
 element_is (Offsets w g u) m ty order levels s h inside =
-    ap (λ t. element_plan t (plan m t order) levels s) h ∙ ap (as_row w) (number_is m _ _ order levels s refl inside) ∙ ap Tick (read_in_row w (nat_le (s + w) m) s w order _ s)
+    ap (λ t. element_plan t (plan m t order) levels s) h ∙ ap (as_row (Numbers w)) (number_is m _ _ order levels s refl inside) ∙ ap Tick (read_in_row (Numbers w) (nat_le (s + w) m) s w order _ s)
+element_is (Records stride size) m ty order levels s h inside = absurd h
 element_is Array m ty order levels s h inside = absurd h
 element_is (Struct t) m ty order levels s h inside = absurd h
 element_is (Union t i) m ty order levels s h inside = absurd h
@@ -97,6 +102,7 @@ element_end (Offset w g u) s n h = absurd h
 element_end Text s n h = absurd h
 element_end (Integers w g) s n h = refl
 element_end (Offsets w g u) s n h = refl
+element_end (Records stride size) s n h = absurd h
 element_end Array s n h = absurd h
 element_end (Struct t) s n h = absurd h
 element_end (Union t i) s n h = absurd h

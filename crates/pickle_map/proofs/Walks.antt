@@ -133,6 +133,11 @@ module _ {world : World} {limit : ℕ} (outer : Levels) (p : Plan (Result Value 
   unfolding framed
   framed_ok h = follow_made {limit' = limit} opens refl refl (omega arith) (follow_then p (leave_frame outer) h follow_done)
 
+  -- what was to be stored of it didn't fit
+  pub framed_no_room : {mid state' : State} → Follows world limit p k j opened_state k' j' mid NoRoom → Follows world limit (framed outer p) k j state k' j' state' NoRoom
+  unfolding framed
+  framed_no_room h = follow_made {limit' = limit} opens refl refl (omega arith) (follow_and_no_room p (leave_frame outer) h)
+
   -- the call in it stopped, and it was rolled back
   pub framed_stop : {mid state' : State} → MovesTo world Drops mid state' → (stop : Stop) → Follows world limit p k j opened_state k' j' mid (stop_finish stop) → Follows world limit (framed outer p) k j state k' j' state' (stop_finish stop)
   unfolding framed

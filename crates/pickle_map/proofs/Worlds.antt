@@ -10,7 +10,7 @@ use Rattle.value_store.specs.Moves.{Move, State, Moves, CannotMove, IsWithin, mo
 use Rattle.value_store.specs.Slots.{Held, packs, HoldsInRoom, KeepsRoom}
 use Rattle.value_store.specs.Takes.{Vector, NodesOf, FamiliesOf, LinksOf, PendingOf, TextsOf, BytesOf, of_vector}
 use Rattle.mapping_plans.specs.Plan.{Plan, Ended, Tick, Made, Read}
-use Rattle.pickle_map.specs.Follows.{World, MovesTo, LacksRoom, Walk, arrived, stepped, kept, read, Finish, Done, NoSteps, Broken, NoRoom, Partly, NeedsRoom, EndsAs, Follows}
+use Rattle.pickle_map.specs.Follows.{World, MovesTo, TakesMore, LacksRoom, Walk, arrived, stepped, kept, read, Finish, Done, NoSteps, Broken, NoRoom, Partly, NeedsRoom, EndsAs, Follows}
 use Rattle.pickle_map.specs.Framed.{world_between, world_of}
 
 -- ---- capacities
@@ -75,7 +75,7 @@ module _ (known : Option (List ℕ)) (room : Room) (before before' filled filled
   lacks_wider : {A : Type 0} (state : State) (p : Plan A) → NeedsRoom inner state p → NeedsRoom around state p
   lacks_wider state (Ended a) h = absurd h
   lacks_wider state (Tick p) h = absurd h
-  lacks_wider state (Made count move these p) h = record { least = h.least; before = passes_less (moved (packs room) move state) before before' less h.before }
+  lacks_wider state (Made count move these p) h = record { takes = h.takes; least = h.least; before = passes_less (moved (packs room) move state) before before' less h.before }
   lacks_wider state (Read place width order rest) h = absurd h
 
   ends_wider : {A : Type 0} (finish : Finish A) (p : Plan A) (at now : State) (limit k : ℕ) → EndsAs inner finish p at now limit k → EndsAs around finish p at now limit k
@@ -128,8 +128,8 @@ moves_to {before} {move} earlier later holds moves = record {
 }
 
 -- a move didn't fit
-pub lacks_these : {known : Option (List ℕ)} {first before : Held} {filled : Marks} {move : Move} {these : Levels} → KeepsRoom first before → Exceeds before.room these → CannotMove before move →
+pub lacks_these : {known : Option (List ℕ)} {first before : Held} {filled : Marks} {move : Move} {these : Levels} → KeepsRoom first before → TakesMore move → Exceeds before.room these → CannotMove before move →
     LacksRoom (record { known = known; room = first.room; before = first.capacity; filled = filled }) (state_of before) move these
-lacks_these {first} {before} {move} {these} k least cannot =
+lacks_these {first} {before} {move} {these} k takes least cannot =
     let over : Passes (moved (packs first.room) move (state_of before)) before.capacity = subst (λ (r : Room). Passes (moved (packs r) move (state_of before)) before.capacity) k.room cannot in
-    record { least = subst (λ (r : Room). Exceeds r these) k.room least; before = passes_less (moved (packs first.room) move (state_of before)) before.capacity first.capacity (reaches first before k) over }
+    record { takes = takes; least = subst (λ (r : Room). Exceeds r these) k.room least; before = passes_less (moved (packs first.room) move (state_of before)) before.capacity first.capacity (reaches first before k) over }

@@ -10,7 +10,7 @@ use Rattle.pickle_types.specs.declared.node.Field.{Field}
 use Rattle.pickle_types.specs.declared.node.Node.{Node}
 use Rattle.pickle_types.specs.declared.node.Part.{Part}
 use Rattle.pickle_types.specs.declared.node.Resolved.{Resolved}
-use Rattle.pickle_types.specs.Types.{PokeType, IntegerOf, ArrayOf, StructOf, IntegralOf, UnionOf}
+use Rattle.pickle_types.specs.Types.{PokeType, IntegerOf, OffsetOf, ArrayOf, StructOf, IntegralOf, UnionOf}
 use Rattle.pickle_types.specs.Bounds.{least_width, count_of}
 use Rattle.pickle_types.specs.Table.{type_of, open_fields, open_parts, optional_term, bound_of}
 use Rattle.pickle_meaning.specs.declared.extent.Extent.{Extent}
@@ -50,6 +50,9 @@ as_number at number order start = λ nodes m levels. read_plan m (type_of nodes 
 
 abbrev pub as_integer : IntegerType → Order → (start : ℕ) → Planned Value
 as_integer number order start = λ nodes m levels. read_plan m (IntegerOf number) number order levels start
+
+abbrev pub as_offset : IntegerType → (unit : ℕ) → Order → (start : ℕ) → Planned Value
+as_offset number unit order start = λ nodes m levels. read_plan m (OffsetOf number unit) number order levels start
 
 -- a string, and its bytes in their own frame
 abbrev pub as_text : (start : ℕ) → Planned Value

@@ -6,7 +6,7 @@ use Rattle.value_store.specs.declared.store.room.Room.{Room}
 use Rattle.pickle_meaning.specs.Values.{Levels}
 use Rattle.value_store.specs.declared.store.slots.Marks.{Marks}
 use Rattle.value_store.specs.Exceeding.{Exceeds}
-use Rattle.value_store.specs.Moves.{Move, State, IsWithin, moved}
+use Rattle.value_store.specs.Moves.{Move, Opens, Drops, Clears, Places, Leaves, Closes, Writes, Ends, Packs, ClosesRow, OpensRecords, PacksRecord, ClosesRecords, PacksStruct, State, IsWithin, moved}
 use Rattle.value_store.specs.Slots.{packs}
 use Rattle.value_store.specs.Takes.{Vector, of_vector}
 use Rattle.mapping_plans.specs.Plan.{Plan, Ended, Tick, Made, Read}
@@ -32,9 +32,27 @@ pub record MovesTo (world : World) (move : Move) (state state' : State) : Type 0
   pub is : state' ≡ after_move world move state
   pub has : HasRoom world state'
 
+-- a move that takes something of a vector, and so may not fit
+abbrev pub TakesMore : Move → Type 0
+TakesMore Opens = ⊥
+TakesMore Drops = ⊥
+TakesMore Clears = ⊥
+TakesMore Places = Unit {0}
+TakesMore Leaves = Unit {0}
+TakesMore Closes = Unit {0}
+TakesMore Writes = Unit {0}
+TakesMore Ends = Unit {0}
+TakesMore (Packs width) = Unit {0}
+TakesMore ClosesRow = Unit {0}
+TakesMore OpensRecords = Unit {0}
+TakesMore (PacksRecord count) = Unit {0}
+TakesMore ClosesRecords = ⊥
+TakesMore (PacksStruct stride) = Unit {0}
+
 -- A move to such frames didn't fit: neither in the slots that the store was made with, nor in the capacity of its
 -- vectors.
 pub record LacksRoom (world : World) (state : State) (move : Move) (levels : Levels) : Type 0 where
+  pub takes : TakesMore move
   pub least : Exceeds world.room levels
   pub before : (vector : Vector) × (of_vector vector world.before < of_vector vector (after_move world move state).now)
 

@@ -15,7 +15,7 @@ use Rattle.mapping_plans.specs.Plan.{Plan}
 use Rattle.pickle_map.specs.Follows.{World, Finish, Done, Follows}
 use Rattle.pickle_map.specs.Stops.{stop_finish}
 use Rattle.value_store.specs.Moves.{State, Moves, Drops, state_of}
-use Rattle.value_store.specs.Slots.{Held, HoldsInRoom, KeepsRoom, levels, level_count}
+use Rattle.value_store.specs.Slots.{Held, HoldsInRoom, KeepsRoom, levels, level_count, cut_to, innermost}
 
 -- What every call leaves, whatever its result: the meter's limit, the store's capacity, which may only rise, and the
 -- bytes of the space. A count of failures never falls. A call makes no more values than it takes steps, counting the
@@ -63,6 +63,7 @@ LeavesLevel nodes store store' (Err stop) = LevelStays nodes store store'
 pub record DropsLevel (store store' : Held) : Type 0 where
   pub levels : (nodes : List Node) → levels nodes store' ≡ outer_of (levels nodes store)
   pub depth : level_count store' + 1 ≡ level_count store
+  pub slots : store'.slots ≡ cut_to (innermost store.frames) store.slots
   pub moves : Moves store store' Drops
   pub within : HoldsInRoom store'
 

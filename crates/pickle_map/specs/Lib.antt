@@ -5,6 +5,8 @@ pub mod Row
 pub mod Stops
 pub mod Calls
 pub mod AtWork
+pub mod Columns
+pub mod Records
 pub mod Settles
 pub mod Settled
 pub mod Mappable

@@ -9,9 +9,11 @@ ghost use Rattle.value_store.specs.Slots.{emptied, HoldsInRoom, KeepsRoom};
 
 pub(crate) mod blame;
 pub mod clauses;
+pub(crate) mod columns;
 pub(crate) mod level;
 pub mod number;
 pub mod read;
+pub(crate) mod records;
 pub(crate) mod row;
 pub mod state;
 pub mod stop;

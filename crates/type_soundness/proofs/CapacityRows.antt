@@ -1,6 +1,6 @@
 -- Rows of capacity bounds, computed by their definition.
-use Rattle.std.proofs.Common.{◌≡◌, Bool, true, false, ℕ, None, refl}
-use Rattle.pickle_types.specs.Types.{PokeType, IntegerOf, StringOf, ArrayOf, StructOf, UnionOf, Unbounded, NoFields, FieldThen, NoParts, PartThen}
+use Rattle.std.proofs.Common.{◌≡◌, Bool, true, false, ℕ, Some, None, refl}
+use Rattle.pickle_types.specs.Types.{Name, PokeType, IntegerOf, StringOf, ArrayOf, StructOf, UnionOf, Unbounded, NoFields, FieldThen, NoParts, PartThen}
 use Rattle.pickle_types.specs.Bounds.{least_width, room}
 use Rattle.pickle_types.specs.Operators.{whole}
 use Rattle.value_store.specs.Takes.{NodesOf, FamiliesOf, LinksOf, PendingOf, TextsOf, BytesOf}
@@ -27,6 +27,14 @@ record_type = StructOf None false (FieldThen None None (IntegerOf (whole 8 false
 choice : PokeType
 choice = UnionOf None (PartThen None None numbers None (PartThen None None StringOf None NoParts))
 
+-- struct { uint<8> x; uint<16> y; }[]
+pairs : PokeType
+pairs = ArrayOf (StructOf None false (FieldThen None None (IntegerOf (whole 8 false)) None None None (FieldThen None None (IntegerOf (whole 16 false)) None None None NoFields))) Unbounded
+
+-- struct { uint<8> x : ..; }[], where the constraint names the first member of the frame at a level
+constrained : (level : ℕ) → PokeType
+constrained level = ArrayOf (StructOf None false (FieldThen None None (IntegerOf (whole 8 false)) (Some (Name level 0)) None None NoFields)) Unbounded
+
 -- ten bytes: at most five numbers of 16 bits, and one more is tried
 packed_numbers : AreBounds true numbers 80 1 1 0 1 1 12
 unfolding capacity_bound least_width numbers
@@ -47,3 +55,31 @@ packed_choice = record { of_nodes = refl; of_families = refl; of_links = refl; o
 numbers_room : room numbers 80 ≡ 13
 unfolding room least_width numbers
 numbers_room = refl
+
+-- at most three structs of three bytes, and one more is tried
+packed_pairs : AreBounds true pairs 80 6 1 2 3 1 12
+unfolding capacity_bound least_width pairs
+packed_pairs = record { of_nodes = refl; of_families = refl; of_links = refl; of_pending = refl; of_texts = refl; of_bytes = refl }
+
+single_pairs : AreBounds false pairs 80 13 5 12 13 0 0
+unfolding capacity_bound least_width pairs
+single_pairs = record { of_nodes = refl; of_families = refl; of_links = refl; of_pending = refl; of_texts = refl; of_bytes = refl }
+
+pairs_room : room pairs 80 ≡ 25
+unfolding room least_width pairs
+pairs_room = refl
+
+-- a constraint that names its own number
+own_constrained : AreBounds true (constrained 0) 80 4 1 1 2 1 11
+unfolding capacity_bound least_width constrained
+own_constrained = record { of_nodes = refl; of_families = refl; of_links = refl; of_pending = refl; of_texts = refl; of_bytes = refl }
+
+-- one that names a member of the frame around the struct, which is the array's: these aren't packed
+next_constrained : AreBounds true (constrained 1) 80 23 12 22 23 0 0
+unfolding capacity_bound least_width constrained
+next_constrained = record { of_nodes = refl; of_families = refl; of_links = refl; of_pending = refl; of_texts = refl; of_bytes = refl }
+
+-- one that names a field of the struct around the array
+outer_constrained : AreBounds true (constrained 2) 80 4 1 1 2 1 11
+unfolding capacity_bound least_width constrained
+outer_constrained = record { of_nodes = refl; of_families = refl; of_links = refl; of_pending = refl; of_texts = refl; of_bytes = refl }

@@ -1,5 +1,5 @@
 -- The capacity bound of a type is at most what `room` slots take.
-use Rattle.std.proofs.Common.{◌≡◌, ℕ, zero, suc, ◌+◌, ◌*◌, ◌/◌, ◌≤◌, max, Bool, true, false, List, [], ◌∷◌, Option, Some, None, refl, sym, subst, arith}
+use Rattle.std.proofs.Common.{◌≡◌, ℕ, zero, suc, ◌+◌, ◌*◌, ◌/◌, ◌≤◌, max, length, Bool, true, false, List, [], ◌∷◌, Option, Some, None, refl, sym, ap, subst, ◌∙◌, arith}
 use Rattle.std.specs.Prelude.{slice_get}
 use Rattle.std.proofs.Math.Nat.{mul-le-mul_left, mul-le-mul_right}
 use Rattle.pickle_types.specs.declared.node.Field.{Field}
@@ -11,11 +11,12 @@ use Rattle.pickle_types.specs.Types.{PokeType, IntegerOf, OffsetOf, StringOf, Ar
 use Rattle.pickle_types.specs.Bounds.{least_width, count_of, room, fields_room, parts_room, greatest_room}
 use Rattle.pickle_types.specs.Table.{open_fields, open_parts, open_shape, open_found, type_at, type_of, NamesBelow}
 use Rattle.value_store.specs.Packed.{bytes_for}
-use Rattle.value_store.specs.Takes.{Vector, NodesOf, FamiliesOf, LinksOf, PendingOf, TextsOf, BytesOf, where_packed}
-use Rattle.mapping_plans.specs.Mapping.{row_width as element_bits}
-use Rattle.type_soundness.specs.Capacity.{number_bound, string_bound, family_bound, link_bound, row_bound, array_bound, capacity_bound, fields_bound, parts_bound, greatest_bound, slot_takes}
+use Rattle.value_store.specs.Takes.{Vector, NodesOf, FamiliesOf, LinksOf, PendingOf, TextsOf, BytesOf}
+use Rattle.mapping_plans.specs.Rows.{Row, Apart, Numbers, Records, scalar_width, column_width, column_widths, stride_of, row_of}
+use Rattle.mapping_plans.proofs.StructRows.{both_are, column_is, packed_struct_is}
+use Rattle.type_soundness.specs.Capacity.{number_bound, string_bound, family_bound, link_bound, row_bound, records_bound, array_bound, where_rows, capacity_bound, fields_bound, parts_bound, greatest_bound, slot_takes}
 use Rattle.type_soundness.specs.CapacityLaws.{BoundsAreSlots}
-use Rattle.type_soundness.proofs.Taking.{is_packed}
+use Rattle.type_soundness.proofs.Packing.{packed_number_is, is_packed}
 
 unfoldable mutual
   -- numbers of at most 64 bits
@@ -44,6 +45,7 @@ pub record IsSlot (packs : Bool) (vector : Vector) (k m : ℕ) : Type 0 where
   pub family : family_bound vector ≤ k
   pub link : link_bound vector ≤ k
   pub row : packs ≡ true → (width count : ℕ) → width ≤ 64 → row_bound vector width count ≤ k * (1 + count * (1 + 1))
+  pub records : packs ≡ true → (widths : List ℕ) (count : ℕ) → 1 ≤ count → stride_of widths ≤ 8 * length widths → records_bound vector widths count ≤ k * (1 + count * (2 + 2 * length widths))
 
 members_few : (k count family link each r : ℕ) → family ≤ k → link ≤ k → each ≤ k * r → family + count * (link + each) ≤ k * (1 + count * (1 + r))
 members_few k count family link each r f l e =
@@ -59,25 +61,55 @@ greatest_few k a b c d le ge =
     let y = mul-le-mul_left k on in
     omega arith
 
--- packed numbers
-element_narrow : (m : ℕ) (element : PokeType) (width : ℕ) → element_bits element ≡ Some width → IsNarrow element → (width ≤ 64) × (room element m ≡ 1)
+-- a packed number
+scalar_narrow : (m : ℕ) (type : PokeType) (width : ℕ) → scalar_width type ≡ Some width → IsNarrow type → (width ≤ 64) × (room type m ≡ 1)
 unfolding IsNarrow room
-element_narrow m (IntegerOf type) width e h = (let same : type.width ≡ width = cc in omega arith, refl)
-element_narrow m (OffsetOf type unit) width e h = (let same : type.width ≡ width = cc in omega arith, refl)
-element_narrow m StringOf width e h = absurd cc
-element_narrow m (ArrayOf element bound) width e h = absurd cc
-element_narrow m (StructOf name pinned _) width e h = absurd cc
-element_narrow m (IntegralOf name type _) width e h = absurd cc
-element_narrow m (UnionOf name alternatives) width e h = absurd cc
+scalar_narrow m (IntegerOf type) width e h = (let same : type.width ≡ width = cc in omega arith, refl)
+scalar_narrow m (OffsetOf type unit) width e h = (let same : type.width ≡ width = cc in omega arith, refl)
+scalar_narrow m StringOf width e h = absurd cc
+scalar_narrow m (ArrayOf element bound) width e h = absurd cc
+scalar_narrow m (StructOf name pinned _) width e h = absurd cc
+scalar_narrow m (IntegralOf name type _) width e h = absurd cc
+scalar_narrow m (UnionOf name alternatives) width e h = absurd cc
+
+-- the fields of a packed struct
+columns_narrow : (m : ℕ) (fields : Fields) (widths : List ℕ) → column_widths fields ≡ Some widths → AreNarrowFields fields → (stride_of widths ≤ 8 * length widths) × (fields_room fields m ≡ 2 * length widths)
+unfolding IsNarrow room
+columns_narrow m NoFields widths e h =
+    let is : [] ≡ widths = cc in
+    subst (λ (ws : List ℕ). (stride_of ws ≤ 8 * length ws) × (0 ≡ 2 * length ws)) is (omega arith, omega arith)
+columns_narrow m (FieldThen name order type constraint label condition rest) widths e h =
+    let both = both_are (column_width type constraint label condition) (column_widths rest) widths e in
+    let column = column_is type constraint label condition both.width both.first in
+    let one = scalar_narrow m type both.width column.width h.0 in
+    let more = columns_narrow m rest both.rest both.others h.1 in
+    let few : bytes_for both.width ≤ 8 = let le = one.0 in omega arith in
+    let low = more.0 in
+    let here = one.1 in
+    let others = more.1 in
+    subst (λ (ws : List ℕ). (stride_of ws ≤ 8 * length ws) × ((1 + room type m) + fields_room rest m ≡ 2 * length ws)) (sym both.are) (omega (arith, few, low), omega (arith, here, others))
+
+struct_narrow : (m : ℕ) (type : PokeType) (widths : List ℕ) → row_of type ≡ Records widths → IsNarrow type → (stride_of widths ≤ 8 * length widths) × (room type m ≡ 1 + 2 * length widths)
+unfolding IsNarrow room
+struct_narrow m type widths e h =
+    let r = packed_struct_is type widths e in
+    let fields = columns_narrow m r.fields widths r.wide (subst IsNarrow r.is h) in
+    (fields.0, ap (λ (t : PokeType). room t m) r.is ∙ ap (λ n. 1 + n) fields.1)
 
 module _ (packs : Bool) (vector : Vector) (k m : ℕ) (slot : IsSlot packs vector k m) where
-  array_slots : (element : PokeType) → (packs ≡ true → IsNarrow element) → (o : Option ℕ) → where_packed packs (element_bits element) ≡ o → capacity_bound packs vector element m ≤ k * room element m →
-      array_bound o vector (count_of m (least_width element)) (capacity_bound packs vector element m) ≤ k * (1 + count_of m (least_width element) * (1 + room element m))
-  array_slots element narrow None e le = members_few k (count_of m (least_width element)) (family_bound vector) (link_bound vector) (capacity_bound packs vector element m) (room element m) slot.family slot.link le
-  array_slots element narrow (Some width) e le =
-      let is = is_packed packs (element_bits element) width e in
-      let h = element_narrow m element width is.1 (narrow is.0) in
+  array_slots : (element : PokeType) → (packs ≡ true → IsNarrow element) → (row : Row) → where_rows packs (row_of element) ≡ row → capacity_bound packs vector element m ≤ k * room element m →
+      array_bound row vector (count_of m (least_width element)) (capacity_bound packs vector element m) ≤ k * (1 + count_of m (least_width element) * (1 + room element m))
+  array_slots element narrow Apart e le = members_few k (count_of m (least_width element)) (family_bound vector) (link_bound vector) (capacity_bound packs vector element m) (room element m) slot.family slot.link le
+  array_slots element narrow (Numbers width) e le =
+      let is = is_packed packs (row_of element) (Numbers width) e (λ same. cc) in
+      let h = scalar_narrow m element width (packed_number_is element width is.1) (narrow is.0) in
       subst (λ r. row_bound vector width (count_of m (least_width element)) ≤ k * (1 + count_of m (least_width element) * (1 + r))) (sym h.1) (slot.row is.0 width (count_of m (least_width element)) h.0)
+  array_slots element narrow (Records widths) e le =
+      let is = is_packed packs (row_of element) (Records widths) e (λ same. cc) in
+      let h = struct_narrow m element widths is.1 (narrow is.0) in
+      let count = count_of m (least_width element) in
+      let all : 1 + (1 + 2 * length widths) ≡ 2 + 2 * length widths = omega arith in
+      subst (λ r. records_bound vector widths count ≤ k * (1 + count * (1 + r))) (sym h.1) (rw all (slot.records is.0 widths count (omega arith) h.0))
 
   mutual
     unfolding capacity_bound room IsNarrow
@@ -86,7 +118,7 @@ module _ (packs : Bool) (vector : Vector) (k m : ℕ) (slot : IsSlot packs vecto
     in_slots (IntegerOf type) h = let f = slot.number in omega arith
     in_slots (OffsetOf type unit) h = let f = slot.number in omega arith
     in_slots StringOf h = slot.string
-    in_slots (ArrayOf element bound) h = array_slots element h (where_packed packs (element_bits element)) refl (in_slots element h)
+    in_slots (ArrayOf element bound) h = array_slots element h (where_rows packs (row_of element)) refl (in_slots element h)
     in_slots (StructOf name pinned fields) h = let f = slot.family in let i = fields_slots fields h in omega arith
     in_slots (IntegralOf name type fields) h = let f = slot.family in let i = parts_slots fields h in omega arith
     in_slots (UnionOf name alternatives) h = let f = slot.family in let i = greatest_slots alternatives h in omega arith
@@ -127,22 +159,26 @@ row_slots BytesOf width count le =
     let all = mul-le-mul_right count few in
     omega arith
 
+records_slots : (vector : Vector) (widths : List ℕ) (count : ℕ) → 1 ≤ count → stride_of widths ≤ 8 * length widths → records_bound vector widths count ≤ slot_takes vector * (1 + count * (2 + 2 * length widths))
+records_slots BytesOf widths count some le = let all = mul-le-mul_right count le in omega arith
+records_slots vector widths count some le = let all = mul-le-mul_left (2 + 2 * length widths) some in omega arith
+
 vector_slot : (packs : Bool) (vector : Vector) (m : ℕ) → IsSlot packs vector (slot_takes vector) m
-vector_slot packs NodesOf m = record { number = omega arith; string = omega arith; family = omega arith; link = omega arith; row = λ e. row_slots NodesOf }
-vector_slot packs FamiliesOf m = record { number = omega arith; string = omega arith; family = omega arith; link = omega arith; row = λ e. row_slots FamiliesOf }
-vector_slot packs LinksOf m = record { number = omega arith; string = omega arith; family = omega arith; link = omega arith; row = λ e. row_slots LinksOf }
-vector_slot packs PendingOf m = record { number = omega arith; string = omega arith; family = omega arith; link = omega arith; row = λ e. row_slots PendingOf }
-vector_slot packs TextsOf m = record { number = omega arith; string = omega arith; family = omega arith; link = omega arith; row = λ e. row_slots TextsOf }
-vector_slot packs BytesOf m = record { number = omega arith; string = omega arith; family = omega arith; link = omega arith; row = λ e. row_slots BytesOf }
+vector_slot packs NodesOf m = record { number = omega arith; string = omega arith; family = omega arith; link = omega arith; row = λ e. row_slots NodesOf; records = λ e. records_slots NodesOf }
+vector_slot packs FamiliesOf m = record { number = omega arith; string = omega arith; family = omega arith; link = omega arith; row = λ e. row_slots FamiliesOf; records = λ e. records_slots FamiliesOf }
+vector_slot packs LinksOf m = record { number = omega arith; string = omega arith; family = omega arith; link = omega arith; row = λ e. row_slots LinksOf; records = λ e. records_slots LinksOf }
+vector_slot packs PendingOf m = record { number = omega arith; string = omega arith; family = omega arith; link = omega arith; row = λ e. row_slots PendingOf; records = λ e. records_slots PendingOf }
+vector_slot packs TextsOf m = record { number = omega arith; string = omega arith; family = omega arith; link = omega arith; row = λ e. row_slots TextsOf; records = λ e. records_slots TextsOf }
+vector_slot packs BytesOf m = record { number = omega arith; string = omega arith; family = omega arith; link = omega arith; row = λ e. row_slots BytesOf; records = λ e. records_slots BytesOf }
 
 -- where nothing is packed, a slot of any kind takes one entry
 one_slot : (vector : Vector) (m : ℕ) → IsSlot false vector 1 m
-one_slot NodesOf m = record { number = omega arith; string = omega arith; family = omega arith; link = omega arith; row = λ e width count le. absurd cc }
-one_slot FamiliesOf m = record { number = omega arith; string = omega arith; family = omega arith; link = omega arith; row = λ e width count le. absurd cc }
-one_slot LinksOf m = record { number = omega arith; string = omega arith; family = omega arith; link = omega arith; row = λ e width count le. absurd cc }
-one_slot PendingOf m = record { number = omega arith; string = omega arith; family = omega arith; link = omega arith; row = λ e width count le. absurd cc }
-one_slot TextsOf m = record { number = omega arith; string = omega arith; family = omega arith; link = omega arith; row = λ e width count le. absurd cc }
-one_slot BytesOf m = record { number = omega arith; string = omega arith; family = omega arith; link = omega arith; row = λ e width count le. absurd cc }
+one_slot NodesOf m = record { number = omega arith; string = omega arith; family = omega arith; link = omega arith; row = λ e width count le. absurd cc; records = λ e widths count some le. absurd cc }
+one_slot FamiliesOf m = record { number = omega arith; string = omega arith; family = omega arith; link = omega arith; row = λ e width count le. absurd cc; records = λ e widths count some le. absurd cc }
+one_slot LinksOf m = record { number = omega arith; string = omega arith; family = omega arith; link = omega arith; row = λ e width count le. absurd cc; records = λ e widths count some le. absurd cc }
+one_slot PendingOf m = record { number = omega arith; string = omega arith; family = omega arith; link = omega arith; row = λ e width count le. absurd cc; records = λ e widths count some le. absurd cc }
+one_slot TextsOf m = record { number = omega arith; string = omega arith; family = omega arith; link = omega arith; row = λ e width count le. absurd cc; records = λ e widths count some le. absurd cc }
+one_slot BytesOf m = record { number = omega arith; string = omega arith; family = omega arith; link = omega arith; row = λ e width count le. absurd cc; records = λ e widths count some le. absurd cc }
 
 pub unpacked_slots : (vector : Vector) (ty : PokeType) (m : ℕ) → capacity_bound false vector ty m ≤ room ty m
 unpacked_slots vector ty m = let h = in_slots false vector 1 m (one_slot vector m) ty (λ e. absurd cc) in omega arith

@@ -8,7 +8,7 @@ use Rattle.mapping_plans.specs.Plan.{Plan, Ended, Tick, Made, Read}
 use Rattle.mapping_plans.specs.Mapping.{plan}
 use Rattle.pickle_map.specs.Follows.{World, NoRoom, NeedsRoom, Follows}
 use Rattle.pickle_map.specs.Mapped.{fault_finish, RunsTo}
-use Rattle.value_store.specs.Moves.{State}
+use Rattle.value_store.specs.Moves.{State, moved}
 use Rattle.value_store.specs.Slots.{packs, root_marks}
 use Rattle.value_store.specs.Takes.{Vector, NodesOf, FamiliesOf, LinksOf, PendingOf, TextsOf, BytesOf, of_vector}
 use Rattle.type_soundness.specs.Capacity.{capacity_bound}
@@ -21,7 +21,7 @@ abbrev Lacks : World → (Vector → ℕ) → Type 0
 Lacks world most = (vector : Vector) × (of_vector vector world.before < most vector)
 
 -- something that was to be stored didn't fit, though it takes at most so much
-lacking : {A : Type 0} {Q : Vector → A → State → Type 0} (world : World) (most : Vector → ℕ) (q : Plan A) (state : State) → NeedsRoom world state q → ((vector : Vector) → Stores (packs world.room) (λ now. of_vector vector now.now ≤ most vector) (Q vector) q state) → Lacks world most
+lacking : {A : Type 0} {Q : Vector → A → State → Type 0} (world : World) (most : Vector → ℕ) (q : Plan A) (state : State) → NeedsRoom world state q → ((vector : Vector) → Stores (moved (packs world.room)) (λ now. of_vector vector now.now ≤ most vector) (Q vector) q state) → Lacks world most
 lacking world most (Ended a) state h l = absurd h
 lacking world most (Tick p) state h l = absurd h
 lacking world most (Made count move levels p) state h l =
@@ -36,7 +36,7 @@ module _ {world : World} {limit : ℕ} (m : ℕ) (ty : PokeType) (order : Order)
       lacking {Q = λ vector. Leaves (λ v. Added (packs world.room) vector (capacity_bound (packs world.room) vector ty m) state) (λ last. last ≡ state)} world (λ vector. of_vector vector state.now + capacity_bound (packs world.room) vector ty m) h.rest h.at h.ends
       (λ vector. walk_stores h.walk (moves_within (packs world.room) vector m ty order levels s state))
 
-nothing : (vector : Vector) → of_vector vector root_marks ≡ 0
+pub nothing : (vector : Vector) → of_vector vector root_marks ≡ 0
 nothing NodesOf = refl
 nothing FamiliesOf = refl
 nothing LinksOf = refl

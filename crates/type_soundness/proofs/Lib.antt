@@ -13,10 +13,12 @@ mod Answered
 mod Rows
 mod Stored
 mod Yields
+mod Packing
 mod Moving
 mod Taking
 mod Capacity
 mod Lacking
+mod Held
 mod InSlots
 mod Bounded
 mod CapacityRows

@@ -1,8 +1,7 @@
 -- While a type is mapped, the vectors of the store grow by at most the type's bound, whatever is read.
 use Rattle.std.proofs.Common.{◌≡◌, ℕ, zero, suc, ◌+◌, ◌-◌, ◌*◌, ◌/◌, ◌≤◌, max, length, Bool, true, false, List, [], ◌∷◌, ◌++◌, Option, Some, None, Result, Ok, Err, refl, sym, ap, subst, ◌∙◌, arith}
 use Rattle.std.specs.Prelude.{if◌then◌else◌, nat_le, nat_eq}
-use Rattle.std.proofs.Math.Nat.{mul-add, mul-le-mul_left}
-use Rattle.std.proofs.lemmas.Bool.{leb-true, eq-eqb, ne_eqb}
+use Rattle.std.proofs.lemmas.Bool.{leb-true}
 use Rattle.bit_space.specs.declared.order.Order.{Order}
 use Rattle.bit_space.specs.declared.order.Order.TheVariants.{Big}
 use Rattle.pickle_types.specs.declared.integer.IntegerType.{IntegerType}
@@ -12,17 +11,18 @@ use Rattle.pickle_meaning.specs.declared.extent.Extent.{Extent}
 use Rattle.pickle_meaning.specs.declared.faults.MapFaultKind.TheVariants as fault
 use Rattle.pickle_meaning.specs.Values.{Naming, Value, end_of, Levels, pushed, opened}
 use Rattle.pickle_meaning.specs.Clauses.{FaultAt, condition, field_start, extent_of, is_due, is_met, ends_before, misses}
-use Rattle.pickle_meaning.specs.Means.{Opened, Taken, number_type, width_in, first_digits, ordered, field_names, part_names, struct_value, integer_value, offset_value}
-use Rattle.mapping_plans.specs.Plan.{Plan, Ended, Tick, Made, Read, as_row, in_row, then_ok}
-use Rattle.mapping_plans.specs.Mapping.{from_inside, makes, closes, constrained, number_plan, digits_plan, read_plan, after_byte, text_plan, after_element, row_width, array_move, element_plan, elements_plan, after_attempt, array_closes, plan, fields_plan, alternatives_plan}
+use Rattle.pickle_meaning.specs.Means.{Opened, Taken, number_type, width_in, first_digits, ordered, field_names, part_names, struct_value}
+use Rattle.mapping_plans.specs.Plan.{Plan, Ended, Read, in_row, then_ok}
+use Rattle.mapping_plans.specs.Mapping.{makes, closes, constrained, number_plan, digits_plan, read_plan, after_byte, text_plan, after_element, array_move, element_plan, elements_plan, after_attempt, array_closes, plan, fields_plan, alternatives_plan}
+use Rattle.mapping_plans.specs.Rows.{Row, Apart, Numbers, Records, row_of}
 use Rattle.mapping_plans.proofs.Fitting.{longer}
 use Rattle.value_store.specs.declared.store.slots.Marks.{Marks}
-use Rattle.value_store.specs.Moves.{Opens, Clears, Places, Leaves as LeavesOut, Closes, Writes, Ends, Packs, ClosesRow, State, moved, with_number, with_text, with_links, with_row}
-use Rattle.value_store.specs.Packed.{bytes_for}
+use Rattle.value_store.specs.Moves.{Opens, Clears, Places, Leaves as LeavesOut, Closes, Writes, Ends, ClosesRow, State, moved, with_number, with_text, with_links}
 use Rattle.value_store.specs.Slots.{innermost, around}
-use Rattle.value_store.specs.Takes.{Vector, NodesOf, FamiliesOf, LinksOf, PendingOf, TextsOf, BytesOf, of_vector, where_packed}
-use Rattle.type_soundness.specs.Capacity.{number_bound, string_bound, family_bound, link_bound, row_bound, array_bound, capacity_bound, fields_bound, parts_bound, greatest_bound}
-use Rattle.type_soundness.proofs.Stored.{Stores, at_end, at_tick, at_made, at_read, Leaves, weaker_stores, then_stores, ok_stores, told_stores, one_stores, inside_stores, framed_stores, row_stores}
+use Rattle.value_store.specs.Takes.{Vector, NodesOf, FamiliesOf, LinksOf, PendingOf, TextsOf, BytesOf, of_vector}
+use Rattle.type_soundness.specs.Capacity.{number_bound, string_bound, family_bound, link_bound, array_bound, where_rows, capacity_bound, fields_bound, parts_bound, greatest_bound}
+use Rattle.type_soundness.proofs.Stored.{Stores, at_end, at_tick, at_made, at_read, Leaves, weaker_stores, then_stores, ok_stores, told_stores, one_stores, inside_stores, checked_stores, framed_stores, row_stores, apart_stores}
+use Rattle.type_soundness.proofs.Packing.{is_packed, closed_row, row_pending, IsPacked, none_packed, packed_elements}
 
 -- ---- lengths
 
@@ -60,17 +60,18 @@ number_size PendingOf n = omega arith
 number_size TextsOf n = omega arith
 number_size BytesOf n = omega arith
 
-array_place : (o : Option ℕ) (count each : ℕ) → 1 ≤ array_bound o PendingOf count each
-array_place None count each = omega arith
-array_place (Some width) count each = omega arith
+array_place : (row : Row) (count each : ℕ) → 1 ≤ array_bound row PendingOf count each
+array_place Apart count each = omega arith
+array_place (Numbers width) count each = omega arith
+array_place (Records widths) count each = omega arith
 
 -- a value has a place in its frame
-place_bound : (packing : Bool) (ty : PokeType) (m : ℕ) → 1 ≤ capacity_bound packing PendingOf ty m
+pub place_bound : (packing : Bool) (ty : PokeType) (m : ℕ) → 1 ≤ capacity_bound packing PendingOf ty m
 unfolding capacity_bound
 place_bound packing (IntegerOf type) m = omega arith
 place_bound packing (OffsetOf type unit) m = omega arith
 place_bound packing StringOf m = omega arith
-place_bound packing (ArrayOf element bound) m = array_place (where_packed packing (row_width element)) (count_of m (least_width element)) (capacity_bound packing PendingOf element m)
+place_bound packing (ArrayOf element bound) m = array_place (where_rows packing (row_of element)) (count_of m (least_width element)) (capacity_bound packing PendingOf element m)
 place_bound packing (StructOf name pinned _) m = omega arith
 place_bound packing (IntegralOf name type _) m = omega arith
 place_bound packing (UnionOf name alternatives) m = omega arith
@@ -102,61 +103,29 @@ text_size PendingOf k bytes m le = omega arith
 text_size TextsOf k bytes m le = omega arith
 text_size BytesOf k bytes m le = omega (arith, le)
 
--- packed numbers, of at most so many bytes
-packed_size : (vector : Vector) (k : Marks) (bytes width count : ℕ) → bytes ≤ k.bytes + bytes_for width * count → of_vector vector (with_text k bytes) ≤ of_vector vector k + row_bound vector width count
-packed_size NodesOf k bytes width count le = omega arith
-packed_size FamiliesOf k bytes width count le = omega arith
-packed_size LinksOf k bytes width count le = omega arith
-packed_size PendingOf k bytes width count le = omega arith
-packed_size TextsOf k bytes width count le = omega arith
-packed_size BytesOf k bytes width count le = omega (arith, le)
+-- ---- elements
 
--- an array of numbers that has none
-empty_size : (vector : Vector) (k : Marks) (width count : ℕ) → of_vector vector (with_links k k) ≤ of_vector vector k + row_bound vector width count
-empty_size NodesOf k width count = omega arith
-empty_size FamiliesOf k width count = omega arith
-empty_size LinksOf k width count = omega arith
-empty_size PendingOf k width count = omega arith
-empty_size TextsOf k width count = omega arith
-empty_size BytesOf k width count = omega arith
-
--- what an open array of packed numbers has, which began at k
-data IsRow (k : Marks) : Marks → Type 0 where
-  no_number : IsRow k k
-  some_numbers : {bytes : ℕ} → IsRow k (with_text k bytes)
-
-closed_row : (vector : Vector) (k n : Marks) (width count : ℕ) → IsRow k n → n.bytes ≤ k.bytes + bytes_for width * count → of_vector vector (with_row true k n) ≤ of_vector vector k + row_bound vector width count
-closed_row vector k _ width count no_number le = rw (eq-eqb k.nodes k.nodes refl) (empty_size vector k width count)
-closed_row vector k _ width count (some_numbers {bytes}) le =
-    let other : k.nodes + 1 ≡ k.nodes → ⊥ = λ e. omega (arith, e) in
-    rw (ne_eqb (k.nodes + 1) k.nodes other) (packed_size vector k bytes width count le)
-
-row_pending : (k n : Marks) → IsRow k n → (with_row true k n).pending ≡ k.pending + 1
-row_pending k _ no_number = rw (eq-eqb k.nodes k.nodes refl) refl
-row_pending k _ (some_numbers {bytes}) =
-    let other : k.nodes + 1 ≡ k.nodes → ⊥ = λ e. omega (arith, e) in
-    rw (ne_eqb (k.nodes + 1) k.nodes other) refl
-
--- ---- elements that aren't packed
-
--- a plan as that of such an element
-apart_row : (packing : Bool) (row : Option ℕ) → where_packed packing row ≡ None → {A : Type 0} {M : State → Type 0} {Q : A → State → Type 0} {p : Plan A} {state : State} → Stores packing M Q p state → Stores packing M Q (in_row row p) state
-apart_row false None e h = h
-apart_row false (Some width) e h = row_stores width h
-apart_row true None e h = h
-apart_row true (Some width) e h = absurd cc
+-- one that isn't packed
+apart_row : (packing : Bool) (row : Row) → where_rows packing row ≡ Apart → {A : Type 0} {M : State → Type 0} {Q : A → State → Type 0} {p : Plan A} {state : State} → Stores (moved packing) M Q p state → Stores (moved packing) M Q (in_row row p) state
+apart_row false row e h = row_stores false row (apart_stores row h)
+apart_row true Apart e h = h
+apart_row true (Numbers width) e h = absurd cc
+apart_row true (Records widths) e h = absurd cc
 
 -- the array of them is closed as a frame is
-apart_closes : (packing : Bool) (row : Option ℕ) → where_packed packing row ≡ None → (state : State) → moved packing (array_move row) state ≡ moved packing Closes state
-apart_closes false None e state = refl
-apart_closes false (Some width) e state = refl
-apart_closes true None e state = refl
-apart_closes true (Some width) e state = absurd cc
+apart_closes : (packing : Bool) (row : Row) → where_rows packing row ≡ Apart → (state : State) → moved packing (array_move row) state ≡ moved packing Closes state
+apart_closes false Apart e state = refl
+apart_closes false (Numbers width) e state = refl
+apart_closes false (Records widths) e state = refl
+apart_closes true Apart e state = refl
+apart_closes true (Numbers width) e state = absurd cc
+apart_closes true (Records widths) e state = absurd cc
 
--- a width that is packed, and a store that packs
-is_packed : (packing : Bool) (width : Option ℕ) (w : ℕ) → where_packed packing width ≡ Some w → (packing ≡ true) × (width ≡ Some w)
-is_packed true width w e = (refl, e)
-is_packed false width w e = absurd cc
+-- and one of packed elements in its own way
+packed_closes : (row : Row) → (row ≡ Apart → ⊥) → array_move row ≡ ClosesRow
+packed_closes Apart other = absurd (other refl)
+packed_closes (Numbers width) other = refl
+packed_closes (Records widths) other = refl
 
 module _ (packing : Bool) (vector : Vector) where
   abbrev size : State → ℕ
@@ -223,7 +192,7 @@ module _ (packing : Bool) (vector : Vector) where
     Within state = size state ≤ b
 
     abbrev Keeps : {A : Type 0} → (Q : A → State → Type 0) → (E : State → Type 0) → Plan (Result A FaultAt) → State → Type 0
-    Keeps Q E p state = Stores packing Within (Leaves Q E) p state
+    Keeps Q E p state = Stores (moved packing) Within (Leaves Q E) p state
 
     abbrev most : PokeType → ℕ
     most ty = capacity_bound packing vector ty m
@@ -245,20 +214,9 @@ module _ (packing : Bool) (vector : Vector) where
         {E : State → Type 0} → Keeps (λ v. Added (family + n) state) E (closes Closes make inside) last
     closes_stores n make inside state last g le = let a = closed_adds n state last g in let few = a.few in at_made (omega (arith, few, le)) (at_end a)
 
-    -- a value and its constraint
-    constrained_stores : (n : ℕ) (c : Option Term) (levels : Levels) (at : ℕ) (v : Value) (state last : State) → Added n state last → Keeps (λ v. Added n state) (Framed state) (constrained c levels at v) last
-    unfolding constrained
-    constrained_stores n c levels at v state last a = told_stores {Q = λ v. Added n state} {E = Framed state} _ _ _ a.frames (λ u. at_end a)
-
-    -- a fault that leaves all as it was leaves the frames
-    framed_too : {A : Type 0} (Q : A → State → Type 0) (state : State) (r : Result A FaultAt) (last : State) → Leaves Q (λ last. last ≡ state) r last → Leaves Q (Framed state) r last
-    framed_too Q state (Ok a) last h = h
-    framed_too Q state (Err f) last h = ap (λ (now : State). now.frames) h
-
     -- a type's value with its constraint
-    checked_stores : (n : ℕ) (c : Option Term) (levels : Levels) (at : ℕ) (state : State) {p : Plan (Result Value FaultAt)} → Keeps (λ v. Added n state) (λ last. last ≡ state) p state → Keeps (λ v. Added n state) (Framed state) (then_ok p (constrained c levels at)) state
-    checked_stores n c levels at state h =
-        ok_stores {P = λ v. Added n state} {Q = λ v. Added n state} {E = Framed state} _ (λ v last a. constrained_stores n c levels at v state last a) (weaker_stores (framed_too (λ v. Added n state) state) h)
+    valued_stores : (n : ℕ) (c : Option Term) (levels : Levels) (at : ℕ) (state : State) {p : Plan (Result Value FaultAt)} → Keeps (λ v. Added n state) (λ last. last ≡ state) p state → Keeps (λ v. Added n state) (Framed state) (then_ok p (constrained c levels at)) state
+    valued_stores n c levels at state h = checked_stores {Q = Added n state} {E = Framed state} (λ last a. a.frames) c levels at refl h
 
     -- ---- strings
 
@@ -333,123 +291,54 @@ module _ (packing : Bool) (vector : Vector) where
         less (Ok u) last h = less_grown ((link + c) + n * (link + c)) (suc n * (link + c)) (omega arith) state last h
         less (Err f) last h = h
 
-    -- packed numbers, in the frame of their array, which was opened here
-    record IsPacked (width count : ℕ) (state last : State) : Type 0 where
-      frames : last.frames ≡ state.now ∷ state.frames
-      row : IsRow state.now last.now
-      few : last.now.bytes ≤ state.now.bytes + bytes_for width * count
+    -- all elements, and the end of the array
+    abbrev array_plan : PokeType → Order → Extent → Levels → (s : ℕ) → Plan (Result Value FaultAt)
+    array_plan element order extent levels s = then_ok (elements_plan (element_plan element (plan m element order)) m s extent (tries element) 0 (opened levels) s) (array_closes element s)
 
-    module _ (packed : packing ≡ true) where
-      one_packed : (width count : ℕ) (state last : State) → IsPacked width count state last → IsPacked width (count + 1) state (moved packing (Packs width) last)
-      one_packed width count state last p =
-          let inner : innermost last.frames ≡ state.now = ap innermost p.frames in
-          let more = mul-add (bytes_for width) count 1 in
-          let few = p.few in
-          rw (packed, inner) (record { frames = p.frames; row = some_numbers; few = omega (arith, more, few) })
+    -- in a store that packs them
+    packed_stores : (element : PokeType) (order : Order) (extent : Extent) (levels : Levels) (s : ℕ) (state : State) → packing ≡ true → (row_of element ≡ Apart → ⊥) → size state + array_bound (row_of element) vector (tries element) (most element) ≤ b →
+        Keeps (λ v. Added (array_bound (row_of element) vector (tries element) (most element)) state) (Framed (moved packing Opens state)) (array_plan element order extent levels s) (moved packing Opens state)
+    packed_stores element order extent levels s state e other le =
+        let row = row_of element in
+        let count = tries element in
+        let each = most element in
+        let start : State = moved true Opens state in
+        subst (λ packs. Stores (moved packs) Within (Leaves (λ v. Added (array_bound row vector count each) state) (Framed start)) (array_plan element order extent levels s) start) (sym e)
+        (ok_stores {P = λ r. IsPacked row count state} {Q = λ v. Added (array_bound row vector count each) state} {E = Framed start} _
+        (λ r last p.
+        let inner : innermost last.frames ≡ state.now = ap innermost p.frames in
+        let closed = closed_row vector row state.now last.now count each p.filled p.few in
+        let one = row_pending row state.now last.now p.filled in
+        let a : Added (array_bound row vector count each) state (moved true ClosesRow last) = rw inner (record { frames = ap around p.frames; few = closed; one = one }) in
+        let a = subst (λ move. Added (array_bound row vector count each) state (moved true move last)) (sym (packed_closes row other)) a in
+        let few = a.few in
+        at_made (omega (arith, few, le)) (at_end a))
+        (packed_elements vector b m element other order count each s extent state le count 0 0 (opened levels) s start (none_packed row 0 state) (omega arith)))
 
-      fewer_packed : (width c count : ℕ) → c ≤ count → (state last : State) → IsPacked width c state last → IsPacked width count state last
-      fewer_packed width c count le state last p =
-          let more = mul-le-mul_left (bytes_for width) le in
-          let few = p.few in
-          record { frames = p.frames; row = p.row; few = omega (arith, more, few) }
-
-      packed_within : (width count : ℕ) (state last : State) → size state + row_bound vector width count ≤ b → IsPacked width count state last → Within last
-      packed_within width count state last le p = by_row last.now p.row p.few
-        where
-          by_row : (n : Marks) → IsRow state.now n → n.bytes ≤ state.now.bytes + bytes_for width * count → of_vector vector n ≤ b
-          by_row _ no_number few = omega (arith, le)
-          by_row _ (some_numbers {bytes}) few = let up = packed_size vector state.now bytes width count few in omega (arith, up, le)
-
-      row_one : {A : Type 0} {Q : A → State → Type 0} (width : ℕ) (p q : Plan A) {state : State} (t : Bool) → Stores packing Within Q (as_row width p) state → Stores packing Within Q (as_row width q) state → Stores packing Within Q (as_row width (if t then p else q)) state
-      row_one width p q true h g = h
-      row_one width p q false h g = g
-
-      -- a number that is read and is one more element
-      number_packed : (width c count : ℕ) → c + 1 ≤ count → (order : Order) (now : ℕ → Levels) (v : ℕ → Value) (at : ℕ) (state last : State) → size state + row_bound vector width count ≤ b → IsPacked width c state last →
-          Keeps (λ v. IsPacked width (c + 1) state) (λ now. now ≡ last)
-          (as_row width (if nat_le at m then Tick (if nat_le (at + width) m then Read at width order (λ n. Made 1 Places (now n) (Ended (Ok (v n)))) else Ended (Err (fault.End, at))) else Ended (Err (fault.End, at)))) last
-      number_packed width c count less order now v at state last le p =
-          let next = one_packed width c state last p in
-          let here = packed_within width count state (moved packing (Packs width) last) le (fewer_packed width (c + 1) count less state (moved packing (Packs width) last) next) in
-          let ended : Plan (Result Value FaultAt) = Ended (Err (fault.End, at)) in
-          let reads : Plan (Result Value FaultAt) = Read at width order (λ n. Made 1 Places (now n) (Ended (Ok (v n)))) in
-          row_one width (Tick (if nat_le (at + width) m then reads else ended)) ended (nat_le at m) (at_tick (row_one width reads ended (nat_le (at + width) m) (at_read (λ n. at_made here (at_end next))) (at_end refl))) (at_end refl)
-
-      number_row : (ty : PokeType) (width c count : ℕ) → row_width ty ≡ Some width → c + 1 ≤ count → (order : Order) (levels : Levels) (at : ℕ) (state last : State) → size state + row_bound vector width count ≤ b → IsPacked width c state last →
-          Keeps (λ v. IsPacked width (c + 1) state) (λ now. now ≡ last) (element_plan ty (plan m ty order) levels at) last
-      unfolding plan from_inside read_plan number_plan
-      number_row (IntegerOf type) width c count e less order levels at state last le p =
-          let same : type.width ≡ width = cc in
-          let le = subst (λ w. size state + row_bound vector w count ≤ b) (sym same) le in
-          let p = subst (λ w. IsPacked w c state last) (sym same) p in
-          subst (λ w. Keeps (λ v. IsPacked w (c + 1) state) (λ now. now ≡ last) (element_plan (IntegerOf type) (plan m (IntegerOf type) order) levels at) last) same
-          (number_packed type.width c count less order (λ n. pushed levels (Some (integer_value type n at))) (λ n. integer_value type n at) at state last le p)
-      number_row (OffsetOf type unit) width c count e less order levels at state last le p =
-          let same : type.width ≡ width = cc in
-          let le = subst (λ w. size state + row_bound vector w count ≤ b) (sym same) le in
-          let p = subst (λ w. IsPacked w c state last) (sym same) p in
-          subst (λ w. Keeps (λ v. IsPacked w (c + 1) state) (λ now. now ≡ last) (element_plan (OffsetOf type unit) (plan m (OffsetOf type unit) order) levels at) last) same
-          (number_packed type.width c count less order (λ n. pushed levels (Some (offset_value type unit n at))) (λ n. offset_value type unit n at) at state last le p)
-      number_row StringOf width c count e less order levels at state last le p = absurd cc
-      number_row (ArrayOf element bound) width c count e less order levels at state last le p = absurd cc
-      number_row (StructOf name pinned _) width c count e less order levels at state last le p = absurd cc
-      number_row (IntegralOf name type _) width c count e less order levels at state last le p = absurd cc
-      number_row (UnionOf name alternatives) width c count e less order levels at state last le p = absurd cc
-
-      row_after : (width count n c : ℕ) (extent : Extent) (next : Levels → ℕ → Plan (Result Opened FaultAt)) (levels : Levels) (state last : State) → IsPacked width c state last → c + suc n ≤ count →
-          ((l : Levels) (at : ℕ) (now : State) → IsPacked width (c + 1) state now → Keeps (λ r. IsPacked width count state) (λ now. now.frames ≡ state.now ∷ state.frames) (next l at) now) →
-          (at : ℕ) (r : Result Value FaultAt) (now : State) → Leaves (λ v. IsPacked width (c + 1) state) (λ now. now ≡ last) r now →
-          Keeps (λ r. IsPacked width count state) (λ now. now.frames ≡ state.now ∷ state.frames) (after_element extent next levels at r) now
-      unfolding after_element
-      row_after width count n c extent next levels state last p le g at (Ok v) now more = one_stores (nat_eq (end_of v) at) (at_end more.frames) (g (pushed levels (Some v)) (end_of v) now more)
-      row_after width count n c extent next levels state last p le g at (Err f) now same =
-          let here = subst (IsPacked width c state) (sym same) p in
-          one_stores (ends_before extent f.0) (at_end (fewer_packed width c count (omega arith) state now here)) (at_end here.frames)
-
-      row_elements : (element : PokeType) (order : Order) (width count s : ℕ) → row_width element ≡ Some width → (extent : Extent) (state : State) → size state + row_bound vector width count ≤ b →
-          (n i c : ℕ) (levels : Levels) (at : ℕ) (last : State) → IsPacked width c state last → c + n ≤ count → Keeps (λ r. IsPacked width count state) (λ now. now.frames ≡ state.now ∷ state.frames) (elements_plan (element_plan element (plan m element order)) m s extent n i levels at) last
-      unfolding elements_plan
-      row_elements element order width count s e extent state room zero i c levels at last p le = at_end p.frames
-      row_elements element order width count s e extent state room (suc n) i c levels at last p le =
-          one_stores (is_due extent m s i at)
-          (at_tick (then_stores {P = Leaves (λ v. IsPacked width (c + 1) state) (λ now. now ≡ last)} _
-          (row_after width count n c extent (elements_plan (element_plan element (plan m element order)) m s extent n (i + 1)) levels state last p le (λ l p now more. row_elements element order width count s e extent state room n (i + 1) (c + 1) l p now more (omega arith)) at)
-          (number_row element width c count e (omega arith) order levels at state last room p)))
-          (one_stores (is_met extent s at) (at_end (fewer_packed width c count (omega arith) state last p)) (at_end p.frames))
-
-      row_closes : (element : PokeType) (width count s : ℕ) → row_width element ≡ Some width → (state last : State) → size state + row_bound vector width count ≤ b → IsPacked width count state last → {E : State → Type 0} (r : Opened) →
-          Keeps (λ v. Added (row_bound vector width count) state) E (array_closes element s r) last
-      row_closes element width count s e state last room p r =
-          let inner : innermost last.frames ≡ state.now = ap innermost p.frames in
-          let closed = closed_row vector state.now last.now width count p.row p.few in
-          let one = row_pending state.now last.now p.row in
-          let a : Added (row_bound vector width count) state (moved packing (ClosesRow width) last) = rw (packed, inner) (record { frames = ap around p.frames; few = closed; one = one }) in
-          let up = a.few in
-          let move : array_move (row_width element) ≡ ClosesRow width = ap array_move e in
-          at_made (subst (λ v. Within (moved packing v last)) (sym move) (omega (arith, up, room))) (at_end (subst (λ v. Added (row_bound vector width count) state (moved packing v last)) (sym move) a))
+    packed_row : (element : PokeType) (order : Order) (extent : Extent) (levels : Levels) (s : ℕ) (state : State) (row : Row) → where_rows packing (row_of element) ≡ row → (row ≡ Apart → ⊥) → size state + array_bound row vector (tries element) (most element) ≤ b →
+        Keeps (λ v. Added (array_bound row vector (tries element) (most element)) state) (Framed (moved packing Opens state)) (array_plan element order extent levels s) (moved packing Opens state)
+    packed_row element order extent levels s state row e other le =
+        let is = is_packed packing (row_of element) row e other in
+        subst (λ kept. Keeps (λ v. Added (array_bound kept vector (tries element) (most element)) state) (Framed (moved packing Opens state)) (array_plan element order extent levels s) (moved packing Opens state)) is.1
+        (packed_stores element order extent levels s state is.0 (λ same. other (sym is.1 ∙ same)) (subst (λ kept. size state + array_bound kept vector (tries element) (most element) ≤ b) (sym is.1) le))
 
     array_stores : (element : PokeType) (order : Order) →
         ((l : Levels) (at : ℕ) (now : State) → size now + most element ≤ b → Keeps (λ v. Added (most element) now) (λ last. last ≡ now) (plan m element order l at) now) →
-        (extent : Extent) (levels : Levels) (s : ℕ) (state : State) (o : Option ℕ) → where_packed packing (row_width element) ≡ o →
-        size state + array_bound o vector (tries element) (most element) ≤ b →
-        Keeps (λ v. Added (array_bound o vector (tries element) (most element)) state) (Framed (moved packing Opens state))
-        (then_ok (elements_plan (element_plan element (plan m element order)) m s extent (tries element) 0 (opened levels) s) (array_closes element s)) (moved packing Opens state)
-    array_stores element order g extent levels s state None e le =
+        (extent : Extent) (levels : Levels) (s : ℕ) (state : State) (row : Row) → where_rows packing (row_of element) ≡ row →
+        size state + array_bound row vector (tries element) (most element) ≤ b →
+        Keeps (λ v. Added (array_bound row vector (tries element) (most element)) state) (Framed (moved packing Opens state)) (array_plan element order extent levels s) (moved packing Opens state)
+    array_stores element order g extent levels s state Apart e le =
         let start : State = moved packing Opens state in
         let none = none_of vector state.now.pending in
         ok_stores {P = λ r. Grown (tries element * (link + most element)) start} {Q = λ v. Added (family + tries element * (link + most element)) state} {E = Framed start} _
         (λ r last grown.
         let a = closed_adds (tries element * (link + most element)) state last grown in
-        let a = subst (Added (family + tries element * (link + most element)) state) (sym (apart_closes packing (row_width element) e last)) a in
+        let a = subst (Added (family + tries element * (link + most element)) state) (sym (apart_closes packing (row_of element) e last)) a in
         let few = a.few in
         at_made (omega (arith, few, le)) (at_end a))
-        (elements_stores (most element) s extent (element_plan element (plan m element order)) (λ l p now up. apart_row packing (row_width element) e (g l p now up)) (tries element) 0 (opened levels) s start (omega (arith, none, le)))
-    array_stores element order g extent levels s state (Some width) e le =
-        let is = is_packed packing (row_width element) width e in
-        let start : State = moved packing Opens state in
-        ok_stores {P = λ r. IsPacked width (tries element) state} {Q = λ v. Added (row_bound vector width (tries element)) state} {E = Framed start} _
-        (λ r last p. row_closes is.0 element width (tries element) s is.1 state last le p r)
-        (row_elements is.0 element order width (tries element) s is.1 extent state le (tries element) 0 0 (opened levels) s start (record { frames = refl; row = no_number; few = omega arith }) (omega arith))
+        (elements_stores (most element) s extent (element_plan element (plan m element order)) (λ l p now up. apart_row packing (row_of element) e (g l p now up)) (tries element) 0 (opened levels) s start (omega (arith, none, le)))
+    array_stores element order g extent levels s state (Numbers width) e le = packed_row element order extent levels s state (Numbers width) e (λ same. cc) le
+    array_stores element order g extent levels s state (Records widths) e le = packed_row element order extent levels s state (Records widths) e (λ same. cc) le
 
     -- ---- unions
 
@@ -478,7 +367,7 @@ module _ (packing : Bool) (vector : Vector) where
       number_stores (IntegralOf name type fields) n levels s state le =
           let none = none_of vector state.now.pending in
           let start : State = moved packing Opens state in
-          framed_stores {Q = λ v. Added (family + parts_most fields) state} levels (omega (arith, le)) (omega (arith, le))
+          framed_stores {Q = λ v. Added (family + parts_most fields) state} (λ last. refl) levels (omega (arith, le)) (omega (arith, le))
           (ok_stores {P = λ r. Grown (parts_most fields) start} {Q = λ v. Added (family + parts_most fields) state} {E = Framed start} _
           (λ r last grown. closes_stores (parts_most fields) (struct_value name (part_names fields) s (s + type.width)) r state last grown le)
           (digits_stores fields n type.width (opened levels) s start (omega (arith, none, le))))
@@ -492,7 +381,7 @@ module _ (packing : Bool) (vector : Vector) where
           let g = added_grows (most ty) state last a in
           let up = g.few in
           weaker_stores (grown_on (link + most ty) (parts_most rest) state last g) (digits_stores rest n (left - width_in (number_type ty)) (pushed levels (Some v)) s last (omega (arith, up, le))))
-          (checked_stores (most ty) c levels s state (at_tick (number_stores ty (first_digits n left (width_in (number_type ty))) levels s state (omega (arith, le))))))
+          (valued_stores (most ty) c levels s state (at_tick (number_stores ty (first_digits n left (width_in (number_type ty))) levels s state (omega (arith, le))))))
 
     read_stores : (ty : PokeType) (type : IntegerType) (order : Order) (levels : Levels) (s : ℕ) (state : State) → size state + most ty ≤ b → Keeps (λ v. Added (most ty) state) (λ last. last ≡ state) (read_plan m ty type order levels s) state
     unfolding read_plan
@@ -505,16 +394,16 @@ module _ (packing : Bool) (vector : Vector) where
       plan_stores (IntegerOf type) order levels s state le = inside_stores m s refl (read_stores (IntegerOf type) type order levels s state le)
       plan_stores (OffsetOf type unit) order levels s state le = inside_stores m s refl (read_stores (OffsetOf type unit) type order levels s state le)
       plan_stores StringOf order levels s state le =
-          inside_stores m s refl (at_tick (framed_stores {Q = λ v. Added (string_bound vector m) state} levels (omega (arith, le)) (omega (arith, le))
+          inside_stores m s refl (at_tick (framed_stores {Q = λ v. Added (string_bound vector m) state} (λ last. refl) levels (omega (arith, le)) (omega (arith, le))
           (text_stores state le (m / 8 + 1) [] levels s s (moved packing Opens state) (omega arith) (record { frames = refl; few = omega arith }) (omega arith))))
       plan_stores (ArrayOf element bound) order levels s state le =
           inside_stores m s refl (at_tick (told_stores {Q = λ v. Added (most (ArrayOf element bound)) state} {E = λ last. last ≡ state} _ (extent_of bound levels s) _ refl
-          (λ extent. framed_stores {Q = λ v. Added (most (ArrayOf element bound)) state} levels (omega (arith, le)) (omega (arith, le))
-          (array_stores element order (λ l p now up. plan_stores element order l p now up) extent levels s state (where_packed packing (row_width element)) refl le))))
+          (λ extent. framed_stores {Q = λ v. Added (most (ArrayOf element bound)) state} (λ last. refl) levels (omega (arith, le)) (omega (arith, le))
+          (array_stores element order (λ l p now up. plan_stores element order l p now up) extent levels s state (where_rows packing (row_of element)) refl le))))
       plan_stores (StructOf name pinned fields) order levels s state le =
           let none = none_of vector state.now.pending in
           let start : State = moved packing Opens state in
-          inside_stores m s refl (at_tick (framed_stores {Q = λ v. Added (family + fields_most fields) state} levels (omega (arith, le)) (omega (arith, le))
+          inside_stores m s refl (at_tick (framed_stores {Q = λ v. Added (family + fields_most fields) state} (λ last. refl) levels (omega (arith, le)) (omega (arith, le))
           (ok_stores {P = λ r. Grown (fields_most fields) start} {Q = λ v. Added (family + fields_most fields) state} {E = Framed start} _
           (λ r last grown. closes_stores (fields_most fields) (struct_value name (field_names fields) s r.1) r.0 state last grown le)
           (fields_stores pinned s fields order (opened levels) s s start (omega (arith, none, le))))))
@@ -522,7 +411,7 @@ module _ (packing : Bool) (vector : Vector) where
       plan_stores (UnionOf name alternatives) order levels s state le =
           let none = none_of vector state.now.pending in
           let start : State = moved packing Opens state in
-          inside_stores m s refl (at_tick (framed_stores {Q = λ v. Added (family + greatest alternatives) state} levels (omega (arith, le)) (omega (arith, le))
+          inside_stores m s refl (at_tick (framed_stores {Q = λ v. Added (family + greatest alternatives) state} (λ last. refl) levels (omega (arith, le)) (omega (arith, le))
           (ok_stores {P = λ t. Grown (greatest alternatives) start} {Q = λ v. Added (family + greatest alternatives) state} {E = Framed start} _
           (λ t last grown. let a = closed_adds (greatest alternatives) state last grown in let few = a.few in at_made (omega (arith, few, le)) (at_end a))
           (alternatives_stores alternatives 0 order (opened levels) s start refl (omega (arith, none, le))))))
@@ -538,7 +427,7 @@ module _ (packing : Bool) (vector : Vector) where
           let g = added_grows (most ty) state last a in
           let up = g.few in
           weaker_stores (grown_on (link + most ty) (fields_most rest) state last g) (fields_stores pinned s rest order (pushed levels (Some v)) (end_of v) (max top (end_of v)) last (omega (arith, up, le))))
-          (checked_stores (most ty) c levels p state (plan_stores ty (ordered set order) levels p state (omega (arith, le))))))
+          (valued_stores (most ty) c levels p state (plan_stores ty (ordered set order) levels p state (omega (arith, le))))))
           (let a : Added (most ty) state (moved packing LeavesOut state) = record { frames = refl; few = absent_size packing vector ty m state.now; one = refl } in
           let g = added_grows (most ty) state (moved packing LeavesOut state) a in
           let few = a.few in
@@ -551,7 +440,7 @@ module _ (packing : Bool) (vector : Vector) where
           at_tick (then_stores {P = Leaves (λ v. Added (most ty) state) (Framed state)} _
           (attempt_stores (max (link + most ty) (greatest rest)) (most ty) levels _ state fresh (omega (arith, le))
           (weaker_stores wider (alternatives_stores rest (index + 1) order levels s state fresh (omega (arith, le)))) (omega arith) index name)
-          (checked_stores (most ty) c levels s state (plan_stores ty (ordered set order) levels s state (omega (arith, le)))))
+          (valued_stores (most ty) c levels s state (plan_stores ty (ordered set order) levels s state (omega (arith, le)))))
         where
           wider : (r : Result Taken FaultAt) (last : State) → Leaves (λ t. Grown (greatest rest) state) (Framed state) r last → Leaves (λ t. Grown (max (link + most ty) (greatest rest)) state) (Framed state) r last
           wider (Ok t) last h = less_grown (greatest rest) (max (link + most ty) (greatest rest)) (omega arith) state last h
@@ -559,5 +448,5 @@ module _ (packing : Bool) (vector : Vector) where
 
 -- on the way a vector takes at most the type's bound more than it did before
 pub moves_within : (packing : Bool) (vector : Vector) (m : ℕ) (ty : PokeType) (order : Order) (levels : Levels) (s : ℕ) (state : State) →
-    Stores packing (λ now. of_vector vector now.now ≤ of_vector vector state.now + capacity_bound packing vector ty m) (Leaves (λ v. Added packing vector (capacity_bound packing vector ty m) state) (λ last. last ≡ state)) (plan m ty order levels s) state
+    Stores (moved packing) (λ now. of_vector vector now.now ≤ of_vector vector state.now + capacity_bound packing vector ty m) (Leaves (λ v. Added packing vector (capacity_bound packing vector ty m) state) (λ last. last ≡ state)) (plan m ty order levels s) state
 moves_within packing vector m ty order levels s state = plan_stores packing vector (of_vector vector state.now + capacity_bound packing vector ty m) m ty order levels s state (omega arith)

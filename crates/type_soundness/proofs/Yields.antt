@@ -1,5 +1,5 @@
 -- What holds of each result of a plan, whatever it reads.
-use Rattle.std.proofs.Common.{ℕ, zero, suc, Bool, true, false, List, Option, Some, None, Result, Ok, Err}
+use Rattle.std.proofs.Common.{ℕ, zero, suc, Bool, true, false, List, Result, Ok, Err}
 use Rattle.std.specs.Prelude.{if◌then◌else◌, nat_le}
 use Rattle.bit_space.specs.declared.order.Order.{Order}
 use Rattle.pickle_meaning.specs.Numbers.{number_at}
@@ -7,6 +7,7 @@ use Rattle.pickle_meaning.specs.Values.{Levels}
 use Rattle.pickle_meaning.specs.Clauses.{FaultAt}
 use Rattle.mapping_plans.specs.Plan.{Plan, Ended, Tick, Made, Read, and_then, after, on_value, then_ok, leave_frame, framed, as_row, in_row, result_of}
 use Rattle.mapping_plans.specs.Mapping.{from_inside}
+use Rattle.mapping_plans.specs.Rows.{Row, Apart, Numbers, Records}
 use Rattle.mapping_plans.proofs.Always.{OfValue}
 use Rattle.value_store.specs.Moves.{Move}
 
@@ -29,16 +30,17 @@ weaker g (on_tick h) = on_tick (weaker g h)
 weaker g (on_made h) = on_made (weaker g h)
 weaker g (on_read h) = on_read (λ n. weaker g (h n))
 
-as_row_yields : {A : Type 0} {Q : A → Type 0} (width : ℕ) {p : Plan A} → Yields Q p → Yields Q (as_row width p)
-as_row_yields width (yields h) = yields h
-as_row_yields width (on_tick h) = on_tick (as_row_yields width h)
-as_row_yields width (on_made h) = on_made (as_row_yields width h)
-as_row_yields width (on_read h) = on_read (λ n. as_row_yields width (h n))
+as_row_yields : {A : Type 0} {Q : A → Type 0} (row : Row) {p : Plan A} → Yields Q p → Yields Q (as_row row p)
+as_row_yields row (yields h) = yields h
+as_row_yields row (on_tick h) = on_tick (as_row_yields row h)
+as_row_yields row (on_made h) = on_made (as_row_yields row h)
+as_row_yields row (on_read h) = on_read (λ n. as_row_yields row (h n))
 
 -- the same plan as that of an element
-pub row_yields : {A : Type 0} {Q : A → Type 0} (row : Option ℕ) {p : Plan A} → Yields Q p → Yields Q (in_row row p)
-row_yields (Some width) h = as_row_yields width h
-row_yields None h = h
+pub row_yields : {A : Type 0} {Q : A → Type 0} (row : Row) {p : Plan A} → Yields Q p → Yields Q (in_row row p)
+row_yields Apart h = h
+row_yields (Numbers width) h = as_row_yields (Numbers width) h
+row_yields (Records widths) h = as_row_yields (Records widths) h
 
 pub then_yields : {A B : Type 0} {P : A → Type 0} {Q : B → Type 0} (f : A → Plan B) → ((a : A) → P a → Yields Q (f a)) → {p : Plan A} → Yields P p → Yields Q (and_then p f)
 then_yields f g (yields {a} h) = g a h

@@ -1,10 +1,10 @@
 -- How much of each vector of a store a mapping of a type takes at most, on m bits.
-use Rattle.std.specs.Prelude.{ℕ, ◌+◌, ◌*◌, ◌/◌, max, Bool, Option, Some, None}
+use Rattle.std.specs.Prelude.{ℕ, ◌+◌, ◌*◌, ◌/◌, max, Bool, true, false, List, length}
 use Rattle.pickle_types.specs.Types.{PokeType, IntegerOf, OffsetOf, StringOf, ArrayOf, StructOf, IntegralOf, UnionOf, Fields, NoFields, FieldThen, Parts, NoParts, PartThen}
 use Rattle.pickle_types.specs.Bounds.{least_width, count_of}
-use Rattle.mapping_plans.specs.Mapping.{row_width}
+use Rattle.mapping_plans.specs.Rows.{Row, Apart, Numbers, Records, row_of, stride_of}
 use Rattle.value_store.specs.Packed.{bytes_for}
-use Rattle.value_store.specs.Takes.{Vector, NodesOf, FamiliesOf, LinksOf, PendingOf, TextsOf, BytesOf, where_packed}
+use Rattle.value_store.specs.Takes.{Vector, NodesOf, FamiliesOf, LinksOf, PendingOf, TextsOf, BytesOf}
 
 -- a number takes a node, and its place in a frame
 abbrev pub number_bound : Vector → ℕ
@@ -51,20 +51,38 @@ row_bound PendingOf width count = 1
 row_bound TextsOf width count = 1
 row_bound BytesOf width count = bytes_for width * count
 
--- an array of at most `count` elements: packed numbers of a width, or values that take `each`
-abbrev pub array_bound : Option ℕ → Vector → (count each : ℕ) → ℕ
-array_bound None vector count each = family_bound vector + count * (link_bound vector + each)
-array_bound (Some width) vector count each = row_bound vector width count
+-- Packed structs take one text, with the bytes of all, and the nodes and links of one struct, their template. While a
+-- struct is mapped, each of its numbers takes a node and a place in a frame of its own. An array without elements takes a
+-- family.
+abbrev pub records_bound : Vector → (widths : List ℕ) → (count : ℕ) → ℕ
+records_bound NodesOf widths count = 2 * length widths + 2
+records_bound FamiliesOf widths count = 1
+records_bound LinksOf widths count = length widths
+records_bound PendingOf widths count = length widths + 1
+records_bound TextsOf widths count = 1
+records_bound BytesOf widths count = stride_of widths * count
+
+-- an array of at most `count` elements: values that take `each`, packed numbers of a width, or packed structs of numbers
+-- of such widths
+abbrev pub array_bound : Row → Vector → (count each : ℕ) → ℕ
+array_bound Apart vector count each = family_bound vector + count * (link_bound vector + each)
+array_bound (Numbers width) vector count each = row_bound vector width count
+array_bound (Records widths) vector count each = records_bound vector widths count
+
+-- how a store keeps the elements of an array: one that doesn't pack keeps all as other values
+abbrev pub where_rows : (packs : Bool) → Row → Row
+where_rows true row = row
+where_rows false row = Apart
 
 unfoldable mutual
-  -- what a mapping of a type on m bits takes of a vector at most, in a store that packs arrays of numbers or in one that
-  -- doesn't
+  -- what a mapping of a type on m bits takes of a vector at most, in a store that packs arrays of numbers and of structs
+  -- of numbers, or in one that doesn't
   pub capacity_bound : (packs : Bool) → Vector → PokeType → (m : ℕ) → ℕ
   capacity_bound packs vector (IntegerOf type) m = number_bound vector
   capacity_bound packs vector (OffsetOf type unit) m = number_bound vector
   capacity_bound packs vector StringOf m = string_bound vector m
   capacity_bound packs vector (ArrayOf element bound) m =
-      array_bound (where_packed packs (row_width element)) vector (count_of m (least_width element)) (capacity_bound packs vector element m)
+      array_bound (where_rows packs (row_of element)) vector (count_of m (least_width element)) (capacity_bound packs vector element m)
   capacity_bound packs vector (StructOf name pinned fields) m = family_bound vector + fields_bound packs vector fields m
   capacity_bound packs vector (IntegralOf name type fields) m = family_bound vector + parts_bound packs vector fields m
   capacity_bound packs vector (UnionOf name alternatives) m = family_bound vector + greatest_bound packs vector alternatives m

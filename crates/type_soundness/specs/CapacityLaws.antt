@@ -1,5 +1,5 @@
 -- The laws of the capacity that a mapping of a type takes.
-use Rattle.std.specs.Prelude.{◌≡◌, ℕ, ◌*◌, ◌<◌, ◌≤◌, length, Bool, List, Result, Ok, IfErr}
+use Rattle.std.specs.Prelude.{◌≡◌, ℕ, ◌*◌, ◌<◌, ◌≤◌, length, Bool, false, List, Result, Ok, IfErr, OnOk}
 use Rattle.bit_space.specs.declared.meter.Meter.{Meter}
 use Rattle.bit_space.specs.declared.order.Order.{Order}
 use Rattle.bit_space.specs.SpaceView.{SpaceView}
@@ -14,7 +14,7 @@ use Rattle.pickle_meaning.specs.Values.{Value, Levels}
 use Rattle.pickle_meaning.specs.Means.{Means}
 use Rattle.pickle_meaning.specs.Room.{Slot, value_slots}
 use Rattle.pickle_map.specs.Mapped.{RunsNamed}
-use Rattle.value_store.specs.Slots.{Held, packs}
+use Rattle.value_store.specs.Slots.{Held, packs, marks_of}
 use Rattle.value_store.specs.Takes.{Vector, of_vector, value_takes}
 use Rattle.type_soundness.specs.Capacity.{capacity_bound, slot_takes}
 
@@ -24,14 +24,22 @@ MemoryLacksCapacity = (table : Table) (id : TypeId) (order : Order) (start : ℕ
     RunsNamed table id order start space meter meter' store store' result →
     IfErr result (λ f. f.kind ≡ faults.Memory → (vector : Vector) × (of_vector vector store.capacity < capacity_bound (packs store.room) vector (type_named table id) (8 * space.len)))
 
+-- where `map` returned without a fault, each vector of the store has at most the type's bound
+abbrev pub StoresTakeBound : Type 0
+StoresTakeBound = (table : Table) (id : TypeId) (order : Order) (start : ℕ) (space : SpaceView) (meter meter' : Meter)
+    (store store' : Held) (result : Result (Unit {0}) MapFault) →
+    RunsNamed table id order start space meter meter' store store' result →
+    OnOk result ((vector : Vector) →
+    of_vector vector (marks_of store'.slots) ≤ capacity_bound (packs store.room) vector (type_named table id) (8 * space.len))
+
 -- the bound of a type of a table is at most what `room` slots take
 abbrev pub BoundsAreSlots : Type 0
 BoundsAreSlots = (table : Table) (id : TypeId) (packs : Bool) (vector : Vector) (m : ℕ) → capacity_bound packs vector (type_named table id) m ≤ slot_takes vector * room (type_named table id) m
 
--- a value that a type means takes of each vector at most the type's bound
+-- a value that a type means takes of each vector at most the type's bound, where nothing is packed
 abbrev pub ValuesTakeBound : Type 0
 ValuesTakeBound = (bits : List ℕ) (type : PokeType) (order : Order) (levels : Levels) (s : ℕ) (v : Value) (k j : ℕ) → Means bits type order levels s (Ok v) k j →
-    (packs : Bool) (vector : Vector) → value_takes packs vector v ≤ capacity_bound packs vector type (length bits)
+    (vector : Vector) → value_takes false vector v ≤ capacity_bound false vector type (length bits)
 
 -- a value that a type means fills at most `room` slots of each kind
 abbrev pub ValuesFillRoom : Type 0

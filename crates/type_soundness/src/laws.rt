@@ -1,7 +1,7 @@
 //! The laws of the type rules, of evaluation and of mapping. These functions do nothing: their contracts are the laws.
 
 ghost use Rattle.type_soundness.specs.Laws.{DerivationsAreExact, ExpressionsAreSafe};
-ghost use Rattle.type_soundness.specs.CapacityLaws.{MemoryLacksCapacity, BoundsAreSlots, ValuesTakeBound, ValuesFillRoom};
+ghost use Rattle.type_soundness.specs.CapacityLaws.{MemoryLacksCapacity, StoresTakeBound, BoundsAreSlots, ValuesTakeBound, ValuesFillRoom};
 ghost use Rattle.type_soundness.specs.MappingLaws.{ValuesAreOfTheirTypes, FittingValuesAreOfTheirTypes, MappingsAreSafe, FaultsAreYielded, FaultsOfMapAreYielded};
 
 /// Where a derivation without a fallback yields an outcome in so many steps, the evaluation has the same outcome and
@@ -50,13 +50,20 @@ pub fn memory_lacks_capacity()
     ensures law { MemoryLacksCapacity }
 {}
 
+/// Where `map` returns without a fault, whatever the space gives, each vector of the store has at most as many entries as
+/// `capacity_bound` of the type says.
+pub fn stores_take_bound()
+    ensures law { StoresTakeBound }
+{}
+
 /// The capacity bound of a type of a table is at most what `slot_bound` slots take: up to 4 bytes a slot, and one entry a
 /// slot of each other vector.
 pub fn bounds_are_slots()
     ensures law { BoundsAreSlots }
 {}
 
-/// A value that a type means on a file's bits takes of each vector at most the capacity bound of the type.
+/// A value that a type means on a file's bits takes of each vector at most the capacity bound of the type, in a store that
+/// packs no arrays.
 pub fn values_take_bound()
     ensures law { ValuesTakeBound }
 {}

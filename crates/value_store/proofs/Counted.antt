@@ -1,5 +1,5 @@
 -- What a store's frames take, as values are added to them and open values closed.
-use Rattle.std.proofs.Common.{◌≡◌, ◌+◌, ◌≤◌, List, [], ◌∷◌, ◌++◌, Option, length, take, drop, refl, sym, ◌∙◌, ap, subst, arith}
+use Rattle.std.proofs.Common.{◌≡◌, ◌+◌, ◌≤◌, false, List, [], ◌∷◌, ◌++◌, Option, length, take, drop, refl, sym, ◌∙◌, ap, subst, arith}
 use Rattle.std.proofs.lemmas.List.{append-nil, length-take, drop-append-le, drop_at, take_all, take-take, take-append-drop}
 use Rattle.value_store.specs.declared.store.room.Room.{Room}
 use Rattle.value_store.specs.declared.store.slots.Marks.{Marks}
@@ -7,7 +7,7 @@ use Rattle.pickle_meaning.specs.Values.{Value}
 use Rattle.value_store.specs.Levels.{extended}
 use Rattle.value_store.specs.Names.{Names}
 use Rattle.value_store.specs.Takes.{Vector, of_vector, level_takes}
-use Rattle.value_store.specs.Slots.{Slots, packs, stack, IsSound, cut_to, marks_of, root_marks, IsWithin, level_of, IsLevel, AreLevels, levels_at, Adds}
+use Rattle.value_store.specs.Slots.{Slots, stack, IsSound, HasNoRows, cut_to, marks_of, root_marks, IsWithin, level_of, IsLevel, AreLevels, levels_at, Adds}
 use Rattle.value_store.proofs.Grown.{length-stack, stack-cut}
 use Rattle.value_store.proofs.Taken.{level_takes-append}
 
@@ -61,14 +61,19 @@ level-more : (names : Names) (room : Room) (k : Marks) (s u : Slots) (vs : Names
 level-more names room k s u vs w h = ap (drop k.pending) (h.stack names) ∙ drop-append-le k.pending (stack names s) (vs names) (omega (arith, w.pending, length-stack names s))
 
 more-takes : (names : Names) (vector : Vector) (room : Room) (k : Marks) (s u : Slots) (vs : Names → List (Option Value)) → IsWithin k s → Adds room s u vs →
-    level_takes (packs room) vector (level_of names k u) ≡ level_takes (packs room) vector (level_of names k s) + level_takes (packs room) vector (vs names)
+    level_takes false vector (level_of names k u) ≡ level_takes false vector (level_of names k s) + level_takes false vector (vs names)
 more-takes names vector room k s u vs w h =
-    ap (level_takes (packs room) vector) (level-more names room k s u vs w h) ∙ level_takes-append (packs room) vector (level_of names k s) (vs names)
+    ap (level_takes false vector) (level-more names room k s u vs w h) ∙ level_takes-append false vector (level_of names k s) (vs names)
 
 IsLevel-more : (room : Room) (k : Marks) (s u : Slots) (vs : Names → List (Option Value)) → IsLevel room k s → Adds room s u vs → IsLevel room k u
 IsLevel-more room k s u vs h g = record {
   within = within-more k s u h.within (Adds-within room s u vs g);
-  takes = λ names vector. omega (arith, h.takes names vector, g.takes names vector, more-takes names vector room k s u vs h.within g);
+  takes = λ none names vector. omega (arith, h.takes none names vector, g.takes none names vector, more-takes names vector room k s u vs h.within g);
+  bare = λ e.
+      let more = (Adds-within room s u vs g).nodes in
+      let own = h.bare (omega (arith, e, more, h.within.nodes)) in
+      let added = g.bare (omega (arith, e, more, h.within.nodes)) in
+      record { families = added.families ∙ own.families; links = added.links ∙ own.links; texts = added.texts ∙ own.texts; bytes = added.bytes ∙ own.bytes };
 }
 
 cut-more : (room : Room) (k : Marks) (s u : Slots) (vs : Names → List (Option Value)) → IsWithin k s → Adds room s u vs → cut_to k u ≡ cut_to k s
@@ -98,7 +103,8 @@ levels-above room ks s u vs h g = (
   (
     record {
       within = Adds-within room s u vs g;
-      takes = λ names vector. omega (arith, g.takes names vector, ap (level_takes (packs room) vector) (level-above names room s u vs g));
+      takes = λ none names vector. omega (arith, g.takes none names vector, ap (level_takes false vector) (level-above names room s u vs g));
+      bare = g.bare;
     },
     subst (λ x. AreLevels room ks x) (sym g.rest) h,
   ),
@@ -118,7 +124,8 @@ Adds-none room s h = record {
   sound = h;
   rest = cut-all s;
   stack = λ names. sym (append-nil (stack names s));
-  takes = λ names vector. omega arith;
+  takes = λ none names vector. omega arith;
+  bare = λ e. record { families = refl; links = refl; texts = refl; bytes = refl };
 }
 
 pub marks-cut : (k : Marks) (s : Slots) → IsWithin k s → marks_of (cut_to k s) ≡ k
@@ -141,5 +148,6 @@ Adds-level room k ks s h =
       sound = h.0;
       rest = ap (λ (j : Marks). cut_to j s) m;
       stack = λ names. sym (ap (λ vs. vs ++ level_of names k s) (stack-cut names k s (levels-sound room ks (cut_to k s) h.1.1)) ∙ take-append-drop k.pending (stack names s));
-      takes = λ names vector. omega (arith, h.1.0.takes names vector, ap (of_vector vector) m);
+      takes = λ none names vector. omega (arith, h.1.0.takes none names vector, ap (of_vector vector) m);
+      bare = subst (λ (j : Marks). length s.nodes ≡ j.nodes → HasNoRows j s) (sym m) h.1.0.bare;
     }

@@ -1,28 +1,29 @@
 -- An empty store.
-use Rattle.std.proofs.Common.{◌≡◌, ◌+◌, List, [], reverse, refl, subst, arith, sym}
+use Rattle.std.proofs.Common.{◌≡◌, ◌+◌, false, List, [], reverse, refl, subst, arith, sym}
 use Rattle.value_store.specs.declared.store.room.Room.{Room}
 use Rattle.value_store.specs.declared.store.slots.Marks.{Marks}
 use Rattle.value_store.specs.Names.{Names}
 use Rattle.value_store.specs.Takes.{Vector, NodesOf, FamiliesOf, LinksOf, PendingOf, TextsOf, BytesOf, of_vector, level_takes}
-use Rattle.value_store.specs.Slots.{Slots, no_slots, packs, stack, trees, IsSound, IsLevel, marks_of, root_marks, level_of, AreLevels}
+use Rattle.value_store.specs.Slots.{Slots, no_slots, stack, trees, IsSound, IsLevel, marks_of, root_marks, level_of, AreLevels}
 
 pub no_slots-sound : IsSound no_slots
 no_slots-sound = record { nodes = tt; pending = tt; links = refl; bytes = refl }
 
-none-taken : (names : Names) (room : Room) (vector : Vector) → of_vector vector (marks_of no_slots) ≡ of_vector vector root_marks + level_takes (packs room) vector (level_of names root_marks no_slots)
+none-taken : (names : Names) (vector : Vector) → of_vector vector (marks_of no_slots) ≡ of_vector vector root_marks + level_takes false vector (level_of names root_marks no_slots)
 unfolding stack trees
-none-taken names room NodesOf = refl
-none-taken names room FamiliesOf = refl
-none-taken names room LinksOf = refl
-none-taken names room PendingOf = refl
-none-taken names room TextsOf = refl
-none-taken names room BytesOf = refl
+none-taken names NodesOf = refl
+none-taken names FamiliesOf = refl
+none-taken names LinksOf = refl
+none-taken names PendingOf = refl
+none-taken names TextsOf = refl
+none-taken names BytesOf = refl
 
 no_slots-level : (room : Room) → IsLevel room root_marks no_slots
 unfolding stack trees
 no_slots-level room = record {
   within = record { nodes = omega arith; families = omega arith; links = omega arith; pending = omega arith; texts = omega arith; bytes = omega arith };
-  takes = λ names vector. none-taken names room vector;
+  takes = λ none names vector. none-taken names vector;
+  bare = λ e. record { families = refl; links = refl; texts = refl; bytes = refl };
 }
 
 pub no_slots-levels : (room : Room) → AreLevels room [] no_slots

@@ -1,14 +1,16 @@
 -- Rows of links and bytes, and what stays of them as a store grows.
-use Rattle.std.proofs.Common.{◌≡◌, ℕ, zero, suc, ◌+◌, ◌-◌, ◌*◌, ◌<◌, ◌≤◌, List, [], ◌∷◌, ◌++◌, Option, Some, length, take, drop, map, refl, sym, ◌∙◌, ap, subst, arith}
+use Rattle.std.proofs.Common.{◌≡◌, ℕ, zero, suc, ◌+◌, ◌-◌, ◌*◌, ◌/◌, ◌<◌, ◌≤◌, List, [], ◌∷◌, ◌++◌, Option, Some, length, take, drop, map, refl, sym, ◌∙◌, ap, subst, arith}
 use Rattle.std.specs.Prelude.{slice_get, slice_index}
 use Rattle.std.proofs.lemmas.List.{length-append, length-drop, take-append-le, drop-append-le, drop_at, take_all, get_or_append_left}
 use Rattle.value_store.specs.declared.store.slots.Family.{Family}
+use Rattle.value_store.specs.declared.store.slots.Node.{Node}
 use Rattle.value_store.specs.declared.store.slots.Shape.{Shape}
-use Rattle.value_store.specs.declared.store.slots.Shape.TheVariants.{Integer, Offset, Text, Integers, Offsets, Array, Struct, Union}
+use Rattle.value_store.specs.declared.store.slots.Shape.TheVariants.{Integer, Offset, Text, Integers, Offsets, Records, Array, Struct, Union}
 use Rattle.value_store.specs.Packed.{numbers_in}
+use Rattle.value_store.specs.Records.{records}
 use Rattle.pickle_meaning.specs.Values.{Value, TextLabel}
 use Rattle.value_store.specs.Names.{Names}
-use Rattle.value_store.specs.Slots.{Slots, part, family_at, first_link, family_links, first_byte, text_bytes, row_numbers, elements, label_in, size_in, links_of, opened, parts_in, IsFamily, IsByteRow, IsTextRow, AreNumbers, IsContent}
+use Rattle.value_store.specs.Slots.{Slots, part, family_at, first_link, family_links, first_byte, text_bytes, row_numbers, elements, last_of, label_in, size_in, links_of, opened, parts_in, IsFamily, IsByteRow, IsTextRow, AreNumbers, AreRecords, IsContent}
 
 pub slice_get-append : {A : Type 0} (xs ys : List A) (i : ℕ) → i < length xs → slice_get (xs ++ ys) i ≡ slice_get xs i
 slice_get-append [] ys i h = absurd (omega arith)
@@ -26,12 +28,14 @@ part-append first count xs ys h =
 pub part-all : {A : Type 0} (n : ℕ) (xs ys : List A) → length ys ≡ n → part (length xs) n (xs ++ ys) ≡ ys
 part-all n xs ys e = ap (take n) (drop_at xs ys (length xs) refl) ∙ take_all n ys (omega arith)
 
--- u has the rows of s, and perhaps more after them
+-- u has the nodes and rows of s, and perhaps more after them
 pub record Grows (s u : Slots) : Type 0 where
+  pub more_nodes : List Node
   pub more_families : List Family
   pub more_links : List (Option ℕ)
   pub more_texts : List ℕ
   pub more_bytes : List ℕ
+  pub nodes : u.nodes ≡ s.nodes ++ more_nodes
   pub families : u.families ≡ s.families ++ more_families
   pub links : u.links ≡ s.links ++ more_links
   pub texts : u.texts ≡ s.texts ++ more_texts
@@ -48,7 +52,7 @@ pub first_byte-grow : (es ds : List ℕ) (k : ℕ) → k ≤ length es → first
 first_byte-grow es ds zero h = refl
 first_byte-grow es ds (suc k) h = get_or_append_left es ds 0 k (omega arith)
 
-IsFamily-grow : (s u : Slots) (c : ℕ) → Grows s u → IsFamily s c → IsFamily u c
+pub IsFamily-grow : (s u : Slots) (c : ℕ) → Grows s u → IsFamily s c → IsFamily u c
 IsFamily-grow s u c g h =
     let f = family_at-grow s.families g.more_families c h.0 in
     let b = first_link-grow s.families g.more_families c (omega (arith, h.0)) in
@@ -93,17 +97,18 @@ IsContent-grow s u (Offset w x y) start c g h = h
 IsContent-grow s u Text start c g h = IsTextRow-grow s u c g h
 IsContent-grow s u (Integers w x) start c g h = (IsByteRow-grow s u c g h.0, AreNumbers-grow s u w start c g h.0 h.1)
 IsContent-grow s u (Offsets w x y) start c g h = (IsByteRow-grow s u c g h.0, (AreNumbers-grow s u w start c g h.0 h.1.0, h.1.1))
+IsContent-grow s u (Records stride size) start c g h = (IsByteRow-grow s u c g h.0, subst (λ bs. AreRecords size stride bs start) (sym (text_bytes-grow s u c g h.0)) h.1)
 IsContent-grow s u Array start c g h = IsFamily-grow s u c g h
 IsContent-grow s u (Struct t) start c g h = IsFamily-grow s u c g h
 IsContent-grow s u (Union i t) start c g h = IsFamily-grow s u c g h
 
-family_links-grow : (s u : Slots) (c : ℕ) → Grows s u → IsFamily s c → family_links u.families u.links c ≡ family_links s.families s.links c
+pub family_links-grow : (s u : Slots) (c : ℕ) → Grows s u → IsFamily s c → family_links u.families u.links c ≡ family_links s.families s.links c
 family_links-grow s u c g h =
     let f = family_at-grow s.families g.more_families c h.0 in
     let b = first_link-grow s.families g.more_families c (omega (arith, h.0)) in
     rw (g.families, g.links, f, b) (part-append (first_link s.families c) _ s.links g.more_links (omega (arith, h.1.ordered, h.1.within)))
 
-family_size-grow : (s u : Slots) (c : ℕ) → Grows s u → IsFamily s c → (family_at u.families c).size ≡ (family_at s.families c).size
+pub family_size-grow : (s u : Slots) (c : ℕ) → Grows s u → IsFamily s c → (family_at u.families c).size ≡ (family_at s.families c).size
 family_size-grow s u c g h = rw g.families (ap (λ (f : Family). f.size) (family_at-grow s.families g.more_families c h.0))
 
 pub links_of-grow : (s u : Slots) (shape : Shape) (start c : ℕ) → Grows s u → IsContent s shape start c → links_of u shape c ≡ links_of s shape c
@@ -112,6 +117,7 @@ links_of-grow s u (Offset w x y) start c g h = refl
 links_of-grow s u Text start c g h = refl
 links_of-grow s u (Integers w x) start c g h = refl
 links_of-grow s u (Offsets w x y) start c g h = refl
+links_of-grow s u (Records stride size) start c g h = refl
 links_of-grow s u Array start c g h = family_links-grow s u c g h
 links_of-grow s u (Struct t) start c g h = family_links-grow s u c g h
 links_of-grow s u (Union i t) start c g h = family_links-grow s u c g h
@@ -123,6 +129,7 @@ parts_in-grow s u ts (Offset w x y) start c g h = refl
 parts_in-grow s u ts Text start c g h = refl
 parts_in-grow s u ts (Integers w x) start c g h = ap (elements (Integers w x) start) (row_numbers-grow s u w c g h.0)
 parts_in-grow s u ts (Offsets w x y) start c g h = ap (elements (Offsets w x y) start) (row_numbers-grow s u w c g h.0)
+parts_in-grow s u ts (Records stride size) start c g h = ap (λ (bs : List ℕ). records (last_of ts) size stride 0 (length bs / stride) bs) (text_bytes-grow s u c g h.0)
 parts_in-grow s u ts Array start c g h = ap (map (opened ts)) (family_links-grow s u c g h)
 parts_in-grow s u ts (Struct t) start c g h = ap (map (opened ts)) (family_links-grow s u c g h)
 parts_in-grow s u ts (Union i t) start c g h = ap (map (opened ts)) (family_links-grow s u c g h)
@@ -133,6 +140,7 @@ label_in-grow names s u (Offset w x y) start c g h = refl
 label_in-grow names s u Text start c g h = ap TextLabel (text_bytes-grow s u c g h.0)
 label_in-grow names s u (Integers w x) start c g h = refl
 label_in-grow names s u (Offsets w x y) start c g h = refl
+label_in-grow names s u (Records stride size) start c g h = refl
 label_in-grow names s u Array start c g h = refl
 label_in-grow names s u (Struct t) start c g h = refl
 label_in-grow names s u (Union i t) start c g h = refl
@@ -149,6 +157,7 @@ size_in-grow s u (Offset w x y) start c g h = refl
 size_in-grow s u Text start c g h = text_size-grow s u c g h.0
 size_in-grow s u (Integers w x) start c g h = ap (λ (ns : List ℕ). w * length ns) (row_numbers-grow s u w c g h.0)
 size_in-grow s u (Offsets w x y) start c g h = ap (λ (ns : List ℕ). w * length ns) (row_numbers-grow s u w c g h.0)
+size_in-grow s u (Records stride size) start c g h = ap (λ (bs : List ℕ). size * (length bs / stride)) (text_bytes-grow s u c g h.0)
 size_in-grow s u Array start c g h = family_size-grow s u c g h
 size_in-grow s u (Struct t) start c g h = family_size-grow s u c g h
 size_in-grow s u (Union i t) start c g h = family_size-grow s u c g h

@@ -25,14 +25,16 @@ least-packed Free (suc least) e = cc
 pub packs_no_more : (room : Room) (ls : Levels) → 1 ≤ slots PendingSlot ls → packs room ≡ true → Exceeds room ls
 packs_no_more room ls some e = (PendingSlot, omega (arith, some, least-packed room.growth room.least e))
 
--- frames take more of a vector than its capacity, which is no less than what the store was made with
+-- where nothing is packed, frames take more of a vector than its capacity, which is no less than what the store was made
+-- with
 module _ (h : Held) (ls : Levels) (some : 1 ≤ slots PendingSlot ls) where
-  exceeds-by : (vector : Vector) (packed : Bool) → packs h.room ≡ packed → h.room.least < levels_take packed vector ls → Exceeds h.room ls
+  exceeds-by : (vector : Vector) (packed : Bool) → packs h.room ≡ packed → (packs h.room ≡ false → h.room.least < levels_take false vector ls) → Exceeds h.room ls
   exceeds-by vector true e more = packs_no_more h.room ls some e
-  exceeds-by vector false e more = let r = taken-slots vector ls in (r.0, omega (arith, more, r.1))
+  exceeds-by vector false e more = let r = taken-slots vector ls in (r.0, omega (arith, more e, r.1))
 
-  pub overfills : (vector : Vector) → h.room.least ≤ of_vector vector h.capacity → of_vector vector h.capacity < levels_take (packs h.room) vector ls → Exceeds h.room ls
-  overfills vector least more = exceeds-by vector (packs h.room) refl (omega (arith, least, more))
+  pub overfills : (vector : Vector) → h.room.least ≤ of_vector vector h.capacity →
+      (packs h.room ≡ false → of_vector vector h.capacity < levels_take false vector ls) → Exceeds h.room ls
+  overfills vector least more = exceeds-by vector (packs h.room) refl (λ none. omega (arith, least, more none))
 
 root-none : (vector : Vector) → of_vector vector root_marks ≡ 0
 root-none NodesOf = refl
@@ -42,29 +44,30 @@ root-none PendingOf = refl
 root-none TextsOf = refl
 root-none BytesOf = refl
 
-totals_at : (names : Names) (room : Room) (ks : List Marks) (s : Slots) (vector : Vector) → AreLevels room ks s → of_vector vector (marks_of s) ≡ levels_take (packs room) vector (levels_at names ks s)
-totals_at names room [] s vector h = omega (arith, h.1.takes names vector, root-none vector)
-totals_at names room (k ∷ ks) s vector h =
-    omega (arith, h.1.0.takes names vector, totals_at names room ks (cut_to k s) vector h.1.1, ap (of_vector vector) (marks-cut k s h.1.0.within))
+totals_at : (names : Names) (room : Room) (ks : List Marks) (s : Slots) (vector : Vector) → packs room ≡ false → AreLevels room ks s →
+    of_vector vector (marks_of s) ≡ levels_take false vector (levels_at names ks s)
+totals_at names room [] s vector none h = omega (arith, h.1.takes none names vector, root-none vector)
+totals_at names room (k ∷ ks) s vector none h =
+    omega (arith, h.1.0.takes none names vector, totals_at names room ks (cut_to k s) vector none h.1.1, ap (of_vector vector) (marks-cut k s h.1.0.within))
 
--- a store holds just what its frames take
-pub totals : (names : Names) (h : Held) (vector : Vector) → AreLevels h.room h.frames h.slots → of_vector vector (marks_of h.slots) ≡ levels_take (packs h.room) vector (levels names h)
+-- a store that packs nothing holds just what its frames take
+pub totals : (names : Names) (h : Held) (vector : Vector) → packs h.room ≡ false → AreLevels h.room h.frames h.slots → of_vector vector (marks_of h.slots) ≡ levels_take false vector (levels names h)
 unfolding levels
-totals names h vector all = totals_at names h.room h.frames h.slots vector all
+totals names h vector none all = totals_at names h.room h.frames h.slots vector none all
 
--- a store's frames take no more than the capacity of its vectors
-pub held-levels : (h : Held) → AreLevels h.room h.frames h.slots → HoldsInRoom h → (names : Names) (vector : Vector) → levels_take (packs h.room) vector (levels names h) ≤ of_vector vector h.capacity
-held-levels h all in_room names NodesOf = omega (arith, totals names h NodesOf all, in_room.nodes)
-held-levels h all in_room names FamiliesOf = omega (arith, totals names h FamiliesOf all, in_room.families)
-held-levels h all in_room names LinksOf = omega (arith, totals names h LinksOf all, in_room.links)
-held-levels h all in_room names PendingOf = omega (arith, totals names h PendingOf all, in_room.pending)
-held-levels h all in_room names TextsOf = omega (arith, totals names h TextsOf all, in_room.texts)
-held-levels h all in_room names BytesOf = omega (arith, totals names h BytesOf all, in_room.bytes)
+-- its frames take no more than the capacity of its vectors
+pub held-levels : (h : Held) → packs h.room ≡ false → AreLevels h.room h.frames h.slots → HoldsInRoom h → (names : Names) (vector : Vector) → levels_take false vector (levels names h) ≤ of_vector vector h.capacity
+held-levels h none all in_room names NodesOf = omega (arith, totals names h NodesOf none all, in_room.nodes)
+held-levels h none all in_room names FamiliesOf = omega (arith, totals names h FamiliesOf none all, in_room.families)
+held-levels h none all in_room names LinksOf = omega (arith, totals names h LinksOf none all, in_room.links)
+held-levels h none all in_room names PendingOf = omega (arith, totals names h PendingOf none all, in_room.pending)
+held-levels h none all in_room names TextsOf = omega (arith, totals names h TextsOf none all, in_room.texts)
+held-levels h none all in_room names BytesOf = omega (arith, totals names h BytesOf none all, in_room.bytes)
 
 -- they don't fit where slots with these frames lack capacity
 pub overfilled : (names : Names) (h : Held) (s : Slots) (ls : Levels) → AreLevels h.room h.frames s → levels names (record h { slots = s }) ≡ ls → 1 ≤ slots PendingSlot ls → LacksRoom h s → Exceeds h.room ls
 overfilled names h s ls all e some (vector, (least, more)) =
-    overfills h ls some vector least (omega (arith, more, totals names (record h { slots = s }) vector all, ap (levels_take (packs h.room) vector) e))
+    overfills h ls some vector least (λ none. omega (arith, more, totals names (record h { slots = s }) vector none all, ap (levels_take false vector) e))
 
 -- the parts of the innermost open value are replaced by others
 pub levels-replaced : (room : Room) (ks : List Marks) (s u : Slots) (vs : Names → List (Option Value)) → AreLevels room ks s → Adds room (cut_to (innermost ks) s) u vs → AreLevels room ks u

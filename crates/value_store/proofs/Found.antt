@@ -1,12 +1,12 @@
 -- Reading a sound store.
-use Rattle.std.proofs.Common.{◌≡◌, ℕ, zero, suc, ◌+◌, ◌<◌, ◌≤◌, List, [], ◌∷◌, Option, Some, None, length, map, refl, sym, ◌∙◌, ap, subst, arith, zero-add}
+use Rattle.std.proofs.Common.{◌≡◌, ℕ, zero, suc, ◌+◌, ◌<◌, ◌≤◌, List, [], ◌∷◌, Option, Some, None, length, take, map, refl, sym, ◌∙◌, ap, subst, arith, zero-add}
 use Rattle.std.specs.Prelude.{slice_get, unwrap_or, IfSome}
 use Rattle.std.specs.Option.{option_map}
 use Rattle.std.proofs.lemmas.Option.{slice_get-get_or, get_or_from_slice_get, slice_get-map}
 use Rattle.value_store.specs.declared.store.slots.Node.{Node}
 use Rattle.pickle_meaning.specs.Values.{Value, label_of, start_of, end_of, members_of, member_at, gathered}
 use Rattle.value_store.specs.Names.{Names}
-use Rattle.value_store.specs.Slots.{Slots, no_value, opened, links_of, tree_of, trees, value_at, LinksBelow, IsRead, IsNodeAt, AreNodesFrom, IsSound}
+use Rattle.value_store.specs.Slots.{Slots, no_value, opened, tree_of, trees, value_at, LinksBelow, IsRead, IsNodeAt, AreNodesFrom, IsSound}
 use Rattle.value_store.proofs.Grown.{get-trees_from, length-trees}
 
 -- the members that a list is gathered to
@@ -29,11 +29,11 @@ AreNodes-at s i (m ∷ ns) (suc k) n h g =
 pub node_sound : (s : Slots) (i : ℕ) (n : Node) → IsSound s → slice_get s.nodes i ≡ Some n → IsNodeAt s i n
 node_sound s i n h g = subst (λ j. IsNodeAt s j n) (zero-add i) (AreNodes-at s 0 s.nodes i n h.nodes g)
 
-pub value-at : (names : Names) (s : Slots) (i : ℕ) (n : Node) → IsSound s → slice_get s.nodes i ≡ Some n → value_at names s i ≡ tree_of names s (trees names s) n
+pub value-at : (names : Names) (s : Slots) (i : ℕ) (n : Node) → slice_get s.nodes i ≡ Some n → value_at names s i ≡ tree_of names s (take i (trees names s)) n
 unfolding value_at trees
-value-at names s i n h g =
-    get_or_from_slice_get (trees names s) i (tree_of names s (trees names s) n) no_value
-    (ap (slice_get (trees names s)) (sym (zero-add i)) ∙ get-trees_from names s [] s.nodes i n h.nodes g)
+value-at names s i n g =
+    get_or_from_slice_get (trees names s) i (tree_of names s (take i (trees names s)) n) no_value
+    (subst (λ m. slice_get (trees names s) m ≡ Some (tree_of names s (take m (trees names s)) n)) (zero-add i) (get-trees_from names s [] s.nodes i n g))
 
 LinksBelow-at : (k : ℕ) (ls : List (Option ℕ)) (i : ℕ) (l : Option ℕ) → LinksBelow k ls → slice_get ls i ≡ Some l → IfSome l (λ j. j < k)
 LinksBelow-at k [] i l h g = cc
@@ -52,21 +52,19 @@ IfSome-weaker : (l : Option ℕ) (i k : ℕ) → i ≤ k → IfSome l (λ j. j <
 IfSome-weaker None i k p h = tt
 IfSome-weaker (Some j) i k p h = omega arith
 
-below-found : (k : ℕ) (ls : List (Option ℕ)) (i : ℕ) (o : Option (Option ℕ)) → LinksBelow k ls → slice_get ls i ≡ o → IfSome (unwrap_or o None) (λ j. j < k)
+pub below-found : (k : ℕ) (ls : List (Option ℕ)) (i : ℕ) (o : Option (Option ℕ)) → LinksBelow k ls → slice_get ls i ≡ o → IfSome (unwrap_or o None) (λ j. j < k)
 below-found k ls i None h g = tt
 below-found k ls i (Some l) h g = LinksBelow-at k ls i l h g
 
 pub read-node : (s : Slots) (i : ℕ) (n : Node) → IsSound s → slice_get s.nodes i ≡ Some n → IsRead s i n
 read-node s i n h g =
-    let is = node_sound s i n h g in
-    let ls = links_of s n.shape n.content in
     record {
-      label = λ names. ap label_of (value-at names s i n h g);
-      start = λ names. ap start_of (value-at names s i n h g);
-      end = λ names. ap end_of (value-at names s i n h g);
-      members = λ names. ap members_of (value-at names s i n h g);
-      content = is.content;
-      below = λ k. below-found i ls k (slice_get ls k) is.below refl;
+      label = λ names. ap label_of (value-at names s i n g);
+      start = λ names. ap start_of (value-at names s i n g);
+      end = λ names. ap end_of (value-at names s i n g);
+      members = λ names. ap members_of (value-at names s i n g);
+      content = (node_sound s i n h g).content;
+      sound = h;
     }
 
 -- the value that a link of a node refers to

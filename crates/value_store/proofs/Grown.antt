@@ -1,15 +1,14 @@
 -- How the values of a store grow.
 use Rattle.std.proofs.Common.{◌≡◌, ℕ, zero, suc, ◌+◌, ◌≤◌, List, [], ◌∷◌, ◌++◌, Option, Some, None, length, take, drop, map, refl, sym, ◌∙◌, ap, subst, arith, add-zero}
 use Rattle.std.specs.Prelude.{slice_get}
-use Rattle.std.proofs.lemmas.List.{append_assoc, append-nil, length_push, map-append, take-map, length-map, take-append-drop}
+use Rattle.std.proofs.lemmas.List.{append_assoc, append-nil, length_push, length-take, map-append, take-map, length-map, take_at, take-append-drop}
 use Rattle.value_store.specs.declared.store.slots.Node.{Node}
 use Rattle.value_store.specs.declared.store.slots.Marks.{Marks}
-use Rattle.value_store.specs.declared.store.slots.Shape.{Shape}
-use Rattle.value_store.specs.declared.store.slots.Shape.TheVariants.{Integer, Offset, Text, Integers, Offsets, Array, Struct, Union}
-use Rattle.pickle_meaning.specs.Values.{Value, Mapped, gathered}
+use Rattle.pickle_meaning.specs.Values.{Value}
 use Rattle.value_store.specs.Names.{Names}
-use Rattle.value_store.specs.Slots.{Slots, opened, label_in, size_in, links_of, parts_in, tree_of, trees_from, trees, stack, LinksBelow, IsNodeAt, AreNodesFrom, IsSound, cut_to}
+use Rattle.value_store.specs.Slots.{Slots, opened, tree_of, trees_from, trees, stack, LinksBelow, IsNodeAt, AreNodesFrom, IsSound, cut_to}
 use Rattle.value_store.proofs.FamilyRows.{Grows, slice_get-append, slice_get-push, IsContent-grow, links_of-grow, parts_in-grow, label_in-grow, size_in-grow}
+use Rattle.value_store.proofs.Templates.{HasTemplate-grow}
 
 pub LinksBelow-weaker : (j k : ℕ) (ls : List (Option ℕ)) → j ≤ k → LinksBelow j ls → LinksBelow k ls
 LinksBelow-weaker j k [] p h = tt
@@ -38,16 +37,11 @@ opened-grow ts us [] h = refl
 opened-grow ts us (None ∷ ls) h = ap (λ os. None ∷ os) (opened-grow ts us ls h)
 opened-grow ts us (Some i ∷ ls) h = let e = slice_get-append ts us i h.0 in let r = opened-grow ts us ls h.1 in cc
 
--- the parts of a value are the same among more values
-pub parts_in-more : (s : Slots) (ts us : List Value) (shape : Shape) (start c : ℕ) → LinksBelow (length ts) (links_of s shape c) → parts_in s (ts ++ us) shape start c ≡ parts_in s ts shape start c
-parts_in-more s ts us (Integer w g) start c h = refl
-parts_in-more s ts us (Offset w g u) start c h = refl
-parts_in-more s ts us Text start c h = refl
-parts_in-more s ts us (Integers w g) start c h = refl
-parts_in-more s ts us (Offsets w g u) start c h = refl
-parts_in-more s ts us Array start c h = opened-grow ts us _ h
-parts_in-more s ts us (Struct t) start c h = opened-grow ts us _ h
-parts_in-more s ts us (Union i t) start c h = opened-grow ts us _ h
+-- links to the first `i` values
+pub opened-take : (i : ℕ) (ts : List Value) (ls : List (Option ℕ)) → i ≤ length ts → LinksBelow i ls → map (opened (take i ts)) ls ≡ map (opened ts) ls
+opened-take i ts ls p h =
+    let low : LinksBelow (length (take i ts)) ls = LinksBelow-weaker i (length (take i ts)) ls (omega (arith, length-take i ts)) h in
+    sym (opened-grow (take i ts) (drop i ts) ls low) ∙ ap (λ us. map (opened us) ls) (take-append-drop i ts)
 
 -- a node's value does not change as rows are added
 tree_of-grow : (names : Names) (s u : Slots) (ts : List Value) (i : ℕ) (n : Node) → Grows s u → IsNodeAt s i n → tree_of names u ts n ≡ tree_of names s ts n
@@ -82,6 +76,7 @@ IsNodeAt-grow : (s u : Slots) (i : ℕ) (n : Node) → Grows s u → IsNodeAt s 
 IsNodeAt-grow s u i n g h = record {
   content = IsContent-grow s u n.shape n.start n.content g h.content;
   below = rw (links_of-grow s u n.shape n.start n.content g h.content) h.below;
+  template = HasTemplate-grow s u i n.shape n.start n.content g h.content h.template;
 }
 
 pub AreNodes-grow : (s u : Slots) (i : ℕ) (ns : List Node) → Grows s u → AreNodesFrom s i ns → AreNodesFrom u i ns
@@ -94,24 +89,23 @@ AreNodes-push s i (m ∷ ns) n h g =
     let e : (i + 1) + length ns ≡ i + suc (length ns) = omega arith in
     (h.0, AreNodes-push s (i + 1) ns n h.1 (rw e g))
 
--- the value of a node: its children are among the same values
-pub get-trees_from : (names : Names) (s : Slots) (ts : List Value) (ns : List Node) (k : ℕ) (n : Node) → AreNodesFrom s (length ts) ns → slice_get ns k ≡ Some n → slice_get (trees_from names s ts ns) (length ts + k) ≡ Some (tree_of names s (trees_from names s ts ns) n)
-get-trees_from names s ts [] k n h g = cc
-get-trees_from names s ts (m ∷ ns) zero n h g =
+-- the value of a node, from the values of those before it
+pub get-trees_from : (names : Names) (s : Slots) (ts : List Value) (ns : List Node) (k : ℕ) (n : Node) → slice_get ns k ≡ Some n →
+    slice_get (trees_from names s ts ns) (length ts + k) ≡ Some (tree_of names s (take (length ts + k) (trees_from names s ts ns)) n)
+get-trees_from names s ts [] k n g = cc
+get-trees_from names s ts (m ∷ ns) zero n g =
     let t = tree_of names s ts m in
     let r = trees_from-more names s (ts ++ t ∷ []) ns in
     let f = trees_from names s (ts ++ t ∷ []) ns in
     let e : f ≡ ts ++ t ∷ r.0 = r.1 ∙ append_assoc ts (t ∷ []) r.0 in
     let at : slice_get f (length ts) ≡ Some t = rw e (slice_get-push ts t r.0) in
-    let own : parts_in s f m.shape m.start m.content ≡ parts_in s ts m.shape m.start m.content =
-    ap (λ us. parts_in s us m.shape m.start m.content) e ∙ parts_in-more s ts (t ∷ r.0) m.shape m.start m.content h.0.below in
-    let same : tree_of names s f m ≡ t = ap (λ os. Mapped (label_in names s m.shape m.content) m.start (m.start + size_in s m.shape m.content) (gathered os)) own in
+    let own : take (length ts) f ≡ ts = rw e (take_at ts (t ∷ r.0) (length ts) refl) in
     let is : m ≡ n = cc in
-    rw add-zero (subst (λ x. slice_get f (length ts) ≡ Some (tree_of names s f x)) is (at ∙ ap Some (sym same)))
-get-trees_from names s ts (m ∷ ns) (suc k) n h g =
+    rw add-zero (subst (λ x. slice_get f (length ts) ≡ Some (tree_of names s (take (length ts) f) x)) is (at ∙ ap (λ us. Some (tree_of names s us m)) (sym own)))
+get-trees_from names s ts (m ∷ ns) (suc k) n g =
     let t = tree_of names s ts m in
     let e : length ts + suc k ≡ length (ts ++ t ∷ []) + k = omega (arith, length_push ts t) in
-    rw e (get-trees_from names s (ts ++ t ∷ []) ns k n (rw (length_push ts t) h.1) g)
+    rw e (get-trees_from names s (ts ++ t ∷ []) ns k n g)
 
 pub length-trees : (names : Names) (s : Slots) → length (trees names s) ≡ length s.nodes
 unfolding trees
@@ -164,10 +158,12 @@ stack-new names s u n mark h g e =
 -- a store grew from its entries up to some marks
 pub Grows-cut : (k : Marks) (s : Slots) → Grows (cut_to k s) s
 Grows-cut k s = record {
+  more_nodes = drop k.nodes s.nodes;
   more_families = drop k.families s.families;
   more_links = drop k.links s.links;
   more_texts = drop k.texts s.texts;
   more_bytes = drop k.bytes s.bytes;
+  nodes = sym (take-append-drop k.nodes s.nodes);
   families = sym (take-append-drop k.families s.families);
   links = sym (take-append-drop k.links s.links);
   texts = sym (take-append-drop k.texts s.texts);

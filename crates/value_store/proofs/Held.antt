@@ -1,5 +1,5 @@
 -- What the calls of a store do to its open values.
-use Rattle.std.proofs.Common.{◌≡◌, ℕ, ◌+◌, ◌-◌, ◌<◌, ◌≤◌, false, List, [], ◌∷◌, Some, None, Result, Ok, Err, OnErr, length, max, refl, sym, ◌∙◌, ap, subst, arith}
+use Rattle.std.proofs.Common.{◌≡◌, ℕ, ◌+◌, ◌-◌, ◌<◌, ◌≤◌, false, List, [], ◌∷◌, Some, None, Result, Ok, Err, OnErr, length, max, refl, sym, ◌∙◌, ap, arith}
 use Rattle.std.proofs.lemmas.List.{append-nil}
 use Rattle.value_store.specs.declared.store.room.Growth.TheVariants.{Never}
 use Rattle.value_store.specs.declared.store.room.Room.{Room}
@@ -7,11 +7,11 @@ use Rattle.value_store.specs.declared.store.slots.Marks.{Marks}
 use Rattle.value_store.specs.declared.store.slots.Shape.{Shape}
 use Rattle.pickle_meaning.specs.Values.{Mapped, Levels, no_values, opened, top_of, outer_of, gathered, pushed}
 use Rattle.value_store.specs.Closed.{closed, placed}
-use Rattle.value_store.specs.Keeping.{LacksRoom, CannotPush, CannotClose, KeepsMembers}
+use Rattle.value_store.specs.Keeping.{LacksRoom, CannotPush, CannotClose}
 use Rattle.value_store.specs.Levels.{extended, FitsIn}
 use Rattle.value_store.specs.Names.{Names}
 use Rattle.value_store.specs.Slots.{Slots, Held, empty, packs_as, packs, HoldsInRoom, levels, level_count, stack, cut_to, marks_of, level_of, innermost, AreLevels, levels_at, Adds, AreAll, IsNumber, number_value, IsComposite, composite_label, with_leaf, with_family, with_absent, around, Regrown}
-use Rattle.value_store.specs.Takes.{Vector, NodesOf, FamiliesOf, LinksOf, PendingOf, TextsOf, BytesOf, of_vector, packed_width, levels_take}
+use Rattle.value_store.specs.Takes.{Vector, NodesOf, FamiliesOf, LinksOf, PendingOf, TextsOf, BytesOf, of_vector, levels_take}
 use Rattle.value_store.proofs.Counted.{levels-more, levels_at-more, levels-above, levels_at-above, levels-sound, Adds-none, Adds-level}
 use Rattle.value_store.proofs.Placed.{number-adds, family-adds, absent-adds}
 use Rattle.value_store.proofs.Taken.{pushed-extended, levels_take-pushed, vector_of, slots-taken, pushed-some}
@@ -38,16 +38,11 @@ module _ (h : Held) (shape : Shape) (start c : ℕ) (number : IsNumber shape) (a
       overfilled names h (with_leaf shape start c h.slots) _ number-frames (number-levels names h.capacity) (pushed-some (levels names h) (Some (number_value shape start c))) lacks)
 
 -- arrays, structs and unions
-module _ (h : Held) (shape : Shape) (start size : ℕ) (composite : IsComposite shape) (members : KeepsMembers h shape) (all : AreLevels h.room h.frames h.slots) where
-  unpacked : (names : Names) → packed_width (packs h.room) (composite_label names shape) (gathered (level_of names (innermost h.frames) h.slots)) ≡ None
-  unfolding levels
-  unpacked names =
-      subst (λ os. packed_width (packs h.room) (composite_label names shape) (gathered os) ≡ None) ((innermost-level h.room h.frames h.slots all).top names) (members names)
-
+module _ (h : Held) (shape : Shape) (start size : ℕ) (composite : IsComposite shape) (all : AreLevels h.room h.frames h.slots) where
   family-adds-here : Adds h.room (cut_to (innermost h.frames) h.slots) (with_family shape start size (innermost h.frames).pending h.slots) (λ names. Some (Mapped (composite_label names shape) start (start + size) (gathered (level_of names (innermost h.frames) h.slots))) ∷ [])
   family-adds-here =
       let i = innermost-level h.room h.frames h.slots all in
-      family-adds h.room shape start size (innermost h.frames) h.slots composite i.sound i.is i.cut unpacked
+      family-adds h.room shape start size (innermost h.frames) h.slots composite i.sound i.is i.cut
 
   pub family-frames : AreLevels h.room h.frames (with_family shape start size (innermost h.frames).pending h.slots)
   family-frames = levels-replaced h.room h.frames h.slots (with_family shape start size (innermost h.frames).pending h.slots) _ all family-adds-here
@@ -59,16 +54,16 @@ module _ (h : Held) (shape : Shape) (start size : ℕ) (composite : IsComposite 
       levels_at-replaced names h.room h.frames h.slots (with_family shape start size (innermost h.frames).pending h.slots) _ all family-adds-here
       ∙ ap (λ os. (Some (Mapped (composite_label names shape) start (start + size) (gathered os)) ∷ []) ∷ outer_of (levels_at names h.frames h.slots)) (sym (i.top names))
 
-  closed-placed : (names : Names) (vector : Vector) → levels_take (packs h.room) vector (placed (composite_label names shape) start (start + size) (levels names h)) ≡ levels_take (packs h.room) vector (closed (composite_label names shape) start (start + size) (levels names h))
+  closed-placed : (names : Names) (vector : Vector) → levels_take false vector (placed (composite_label names shape) start (start + size) (levels names h)) ≡ levels_take false vector (closed (composite_label names shape) start (start + size) (levels names h))
   closed-placed names vector =
-      omega (arith, levels_take-pushed (packs h.room) vector (outer_of (levels names h)) (Some (Mapped (composite_label names shape) start (start + size) (gathered (top_of (levels names h))))))
+      omega (arith, levels_take-pushed false vector (outer_of (levels names h)) (Some (Mapped (composite_label names shape) start (start + size) (gathered (top_of (levels names h))))))
 
   pub family-full : {T E : Type 0} (r : Result T E) → LacksRoom h (with_family shape start size (innermost h.frames).pending h.slots) → OnErr r (CannotClose h (λ names. composite_label names shape) start (start + size))
   family-full r (vector, (least, more)) = refused r (λ names.
       let u = with_family shape start size (innermost h.frames).pending h.slots in
       let v = Some (Mapped (composite_label names shape) start (start + size) (gathered (top_of (levels names h)))) in
       overfills h _ (pushed-some (outer_of (levels names h)) v) vector least
-      (omega (arith, more, totals names (record h { slots = u }) vector family-frames, ap (levels_take (packs h.room) vector) (family-levels names h.capacity), closed-placed names vector)))
+      (λ none. omega (arith, more, totals names (record h { slots = u }) vector none family-frames, ap (levels_take false vector) (family-levels names h.capacity), closed-placed names vector)))
 
 -- the marks of the innermost open value are within the store
 pub innermost-within : (h : Held) → AreLevels h.room h.frames h.slots → (innermost h.frames).pending ≤ length h.slots.pending
@@ -140,9 +135,9 @@ all-capacity BytesOf n capacity h = h.bytes
 pub held-fits : (names : Names) (h : Held) → h.room.growth ≡ Never → AreLevels h.room h.frames h.slots → AreAll h.room.least h.capacity → HoldsInRoom h → FitsIn h.room (levels names h)
 held-fits names h never all fixed in_room kind =
     let counted : packs h.room ≡ false = ap (λ g. packs_as g h.room.least) never in
-    let within = held-levels h all in_room names (vector_of kind) in
+    let within = held-levels h counted all in_room names (vector_of kind) in
     let room = all-capacity (vector_of kind) h.room.least h.capacity fixed in
-    omega (arith, within, room, slots-taken kind (levels names h), ap (λ b. levels_take b (vector_of kind) (levels names h)) counted)
+    omega (arith, within, room, slots-taken kind (levels names h))
 
 -- the number of open values
 length-around : (ks : List Marks) → 1 + length (around ks) ≡ max 1 ((1 + length ks) - 1)

@@ -7,7 +7,7 @@ use Rattle.value_store.specs.declared.store.slots.Shape.{Shape}
 use Rattle.value_store.specs.Packed.{bytes_number, unpacked, numbers_in, bytes_for}
 use Rattle.value_store.specs.Slots.{Slots, elements, element_value, element_width, row_numbers, label_in, value_at, IsContent, IsRead}
 use Rattle.value_store.specs.declared.store.slots.Node.{Node}
-use Rattle.value_store.specs.declared.store.slots.Shape.TheVariants.{Integer, Offset, Text, Integers, Offsets, Array, Struct, Union}
+use Rattle.value_store.specs.declared.store.slots.Shape.TheVariants.{Integer, Offset, Text, Integers, Offsets, Records, Array, Struct, Union}
 use Rattle.value_store.specs.Labels.{number_of, bytes_of}
 use Rattle.pickle_meaning.specs.Arithmetic.{with_sign}
 use Rattle.pickle_meaning.specs.Values.{label_of}
@@ -102,6 +102,7 @@ label_shape names s (Offset w g u) c = refl
 label_shape names s Text c = refl
 label_shape names s (Integers w g) c = refl
 label_shape names s (Offsets w g u) c = refl
+label_shape names s (Records stride size) c = refl
 label_shape names s Array c = refl
 label_shape names s (Struct of) c = refl
 label_shape names s (Union taken of) c = refl
@@ -112,6 +113,7 @@ content_width s (Offset w g u) start c h = h
 content_width s Text start c h = tt
 content_width s (Integers w g) start c h = tt
 content_width s (Offsets w g u) start c h = tt
+content_width s (Records stride size) start c h = tt
 content_width s Array start c h = tt
 content_width s (Struct of) start c h = tt
 content_width s (Union taken of) start c h = tt

@@ -1,8 +1,10 @@
 pub mod Moduli
 pub mod FamilyRows
+pub mod Templates
 pub mod Grown
 pub mod Taken
 mod TakesRows
+mod RecordRows
 pub mod Counted
 pub mod Placed
 pub mod PlacedBytes
@@ -10,13 +12,18 @@ pub mod Empty
 pub mod Fits
 pub mod Held
 pub mod Frames
+pub mod Numbers
 pub mod Moved
 pub mod Writing
 pub mod PackedRows
 pub mod Packed
 pub mod Found
 pub mod Lent
+pub mod Columns
 pub mod Linked
+pub mod RecordsRead
+pub mod Gathering
+pub mod PackedStructs
 pub mod Lookup
 pub mod Integers
 pub mod Naming

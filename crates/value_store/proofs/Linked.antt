@@ -1,21 +1,24 @@
 -- The parts of a node.
-use Rattle.std.proofs.Common.{◌≡◌, ℕ, ◌<◌, ◌≤◌, ◌⊎◌, inl, inr, Bool, List, [], Option, Some, None, length, map, refl, sym, ◌∙◌, ap, subst, arith}
-use Rattle.std.specs.Prelude.{slice_get, unwrap_or, IfSome}
+use Rattle.std.proofs.Common.{◌≡◌, ℕ, ◌<◌, ◌≤◌, ◌⊎◌, inl, inr, Bool, true, false, suc, List, [], Option, Some, None, length, take, map, refl, sym, ◌∙◌, ap, subst, arith}
+use Rattle.std.specs.Prelude.{slice_get, slice_index_or, unwrap_or, IfSome, nat_lt}
 use Rattle.std.specs.Option.{option_map}
 use Rattle.std.proofs.lemmas.List.{length-map}
-use Rattle.std.proofs.lemmas.Option.{slice_get_past, slice_get_within, slice_get-map}
+use Rattle.std.proofs.lemmas.Bool.{lt-ltb, ltb-true}
+use Rattle.std.proofs.lemmas.Option.{slice_get-get_or, slice_get_past, slice_get_within, slice_get-map}
 use Rattle.value_store.specs.declared.store.slots.Node.{Node}
 use Rattle.value_store.specs.declared.store.slots.Place.{Place}
 use Rattle.value_store.specs.declared.store.slots.Place.TheVariants as place
 use Rattle.value_store.specs.declared.store.slots.Shape.{Shape}
-use Rattle.value_store.specs.declared.store.slots.Shape.TheVariants.{Integer, Offset, Text, Integers, Offsets, Array, Struct, Union}
-use Rattle.value_store.specs.Slots.{Slots, opened, links_of, parts_in, trees, value_at, row_numbers, elements, element_width, IsPacked, IsContent, IsRead}
-use Rattle.pickle_meaning.specs.Values.{Value, members_of, member_count, member_at, gathered}
+use Rattle.value_store.specs.declared.store.slots.Shape.TheVariants.{Integer, Offset, Text, Integers, Offsets, Records, Array, Struct, Union}
+use Rattle.value_store.specs.Slots.{Slots, opened, links_of, parts_in, trees, value_at, row_numbers, record_count, elements, element_width, element_value, LinksBelow, IsPacked, IsContent, IsSound, IsRead}
+use Rattle.pickle_meaning.specs.Values.{Value, NoMembers, members_of, member_count, member_at, gathered}
 use Rattle.value_store.specs.Names.{Names}
 use Rattle.value_store.specs.Linked.{node_links, links_from}
-use Rattle.value_store.specs.Lent.{place_value, place_links, place_packed, numbers_of, element_in, packed_count, element_count, IsPlace}
+use Rattle.value_store.specs.Lent.{place_value, place_links, place_packed, place_rank, packed_place, part_place, place_of_part, part_count, parts_at, structs_at, columns_of, column_at, field_of, numbered, where_struct, numbers_of, element_in, packed_count, element_count, IsPlace}
 use Rattle.value_store.proofs.Taken.{member_count-of}
-use Rattle.value_store.proofs.Found.{child-found, member_at-gathered}
+use Rattle.value_store.proofs.Columns.{is_array, template_of, records-count, array-count, array-part, struct-count, struct-field, member-past}
+use Rattle.value_store.proofs.Found.{node_sound, read-node, below-found, child-found, member_at-gathered}
+use Rattle.value_store.proofs.Grown.{length-trees, opened-take}
 use Rattle.value_store.proofs.Lent.{length-elements, elements-at}
 
 packed-parts : (s : Slots) (ts : List Value) (shape : Shape) (start c : ℕ) → IsPacked shape → parts_in s ts shape start c ≡ elements shape start (row_numbers s (element_width shape) c)
@@ -24,14 +27,16 @@ packed-parts s ts (Offset w g u) start c p = absurd p
 packed-parts s ts Text start c p = absurd p
 packed-parts s ts (Integers w g) start c p = refl
 packed-parts s ts (Offsets w g u) start c p = refl
+packed-parts s ts (Records stride size) start c p = absurd p
 packed-parts s ts Array start c p = absurd p
 packed-parts s ts (Struct t) start c p = absurd p
 packed-parts s ts (Union t i) start c p = absurd p
 
--- no array of packed numbers
+-- no array of packed numbers or structs
 pub record HasLinks (shape : Shape) : Type 0 where
   pub not_integers : (w : ℕ) (g : Bool) → shape ≡ Integers w g → ⊥
   pub not_offsets : (w : ℕ) (g : Bool) (u : ℕ) → shape ≡ Offsets w g u → ⊥
+  pub not_records : (size stride : ℕ) → shape ≡ Records stride size → ⊥
 
 linked-parts : (s : Slots) (ts : List Value) (shape : Shape) (start c : ℕ) → HasLinks shape → parts_in s ts shape start c ≡ map (opened ts) (links_of s shape c)
 linked-parts s ts (Integer w g) start c p = refl
@@ -39,6 +44,7 @@ linked-parts s ts (Offset w g u) start c p = refl
 linked-parts s ts Text start c p = refl
 linked-parts s ts (Integers w g) start c p = absurd (p.not_integers w g refl)
 linked-parts s ts (Offsets w g u) start c p = absurd (p.not_offsets w g u refl)
+linked-parts s ts (Records stride size) start c p = absurd (p.not_records size stride refl)
 linked-parts s ts Array start c p = refl
 linked-parts s ts (Struct t) start c p = refl
 linked-parts s ts (Union t i) start c p = refl
@@ -49,20 +55,26 @@ pub record AreLinks (s : Slots) (at : ℕ) (links : List (Option ℕ)) : Type 0 
   pub part : (names : Names) (k : ℕ) → option_map (value_at names s) (unwrap_or (slice_get links k) None) ≡ member_at (members_of (value_at names s at)) k
   pub below : (k : ℕ) → IfSome (unwrap_or (slice_get links k) None) (λ j. j < at)
 
-pub are_links : (s : Slots) (at : ℕ) (n : Node) (links : List (Option ℕ)) → slice_get s.nodes at ≡ Some n → IsRead s at n → HasLinks n.shape → links ≡ links_from s at → AreLinks s at links
-are_links s at n links got r has is =
+are_links : (s : Slots) (at : ℕ) (n : Node) → slice_get s.nodes at ≡ Some n → IsSound s → HasLinks n.shape → AreLinks s at (links_from s at)
+are_links s at n got sound has =
+    let r = read-node s at n sound got in
     let ls = links_of s n.shape n.content in
+    let own : LinksBelow at ls = (node_sound s at n sound got).below in
     let within : at < length s.nodes = slice_get_within s.nodes at n got in
-    let own : (names : Names) → members_of (value_at names s at) ≡ gathered (map (opened (trees names s)) ls) = λ names. r.members names ∙ ap gathered (linked-parts s (trees names s) n.shape n.start n.content has) in
+    let below : (k : ℕ) → IfSome (unwrap_or (slice_get ls k) None) (λ j. j < at) = λ k. below-found at ls k (slice_get ls k) own refl in
+    let members : (names : Names) → members_of (value_at names s at) ≡ gathered (map (opened (trees names s)) ls) = λ names.
+    r.members names
+    ∙ ap gathered (linked-parts s (take at (trees names s)) n.shape n.start n.content has)
+    ∙ ap gathered (opened-take at (trees names s) ls (omega (arith, within, length-trees names s)) own) in
     let are : AreLinks s at (node_links s (Some n)) = record {
-      count = λ names. let os = map (opened (trees names s)) ls in sym (ap member_count (own names) ∙ member_count-of os ∙ length-map ls (opened (trees names s)));
+      count = λ names. let os = map (opened (trees names s)) ls in sym (ap member_count (members names) ∙ member_count-of os ∙ length-map ls (opened (trees names s)));
       part = λ names k.
           let os = map (opened (trees names s)) ls in
-          child-found names s at ls (slice_get ls k) (omega (arith, within)) (r.below k)
-          ∙ sym (ap (λ ms. member_at ms k) (own names) ∙ member_at-gathered os k ∙ ap (λ o. unwrap_or o None) (slice_get-map (opened (trees names s)) ls k));
-      below = r.below;
+          child-found names s at ls (slice_get ls k) (omega (arith, within)) (below k)
+          ∙ sym (ap (λ ms. member_at ms k) (members names) ∙ member_at-gathered os k ∙ ap (λ o. unwrap_or o None) (slice_get-map (opened (trees names s)) ls k));
+      below = below;
     } in
-    subst (AreLinks s at) (sym is) (subst (λ o. AreLinks s at (node_links s o)) (sym got) are)
+    subst (λ o. AreLinks s at (node_links s o)) (sym got) are
 
 -- packed numbers of `width` bits each
 pub record IsRowShape (s : Slots) (shape : Shape) (c w : ℕ) : Type 0 where
@@ -82,7 +94,7 @@ row_shape s shape start c w (inr (g, u, e)) h =
 -- an array of packed numbers has its elements as parts
 module _ (names : Names) (s : Slots) (at : ℕ) (n : Node) (w : ℕ) (r : IsRead s at n) (is : IsRowShape s n.shape n.content w) where
   row-members : members_of (value_at names s at) ≡ gathered (elements n.shape n.start (numbers_of s n))
-  row-members = r.members names ∙ ap gathered (packed-parts s (trees names s) n.shape n.start n.content is.packed)
+  row-members = r.members names ∙ ap gathered (packed-parts s (take at (trees names s)) n.shape n.start n.content is.packed)
 
   pub row-count : member_count (members_of (value_at names s at)) ≡ length (row_numbers s w n.content)
   row-count =
@@ -110,58 +122,187 @@ pub has_element : (s : Slots) (at : ℕ) (n : Node) (w i : ℕ) → slice_get s.
     IsPlace s (place.Element at i)
 has_element s at n w i got is p = subst (λ o. i < element_count s o) (sym got) (omega (arith, p, is.count))
 
--- the parts of a value that has a node, from its links and its number of packed numbers
-pub record AreParts (s : Slots) (p : Place) (at : ℕ) (links : List (Option ℕ)) (packed : ℕ) : Type 0 where
+-- the parts of a value, from its links and its number of packed parts
+pub record AreParts (s : Slots) (p : Place) (links : List (Option ℕ)) (packed : ℕ) : Type 0 where
   pub packed_count : (names : Names) → 0 < packed → packed ≡ member_count (members_of (place_value names s p))
   pub link_count : (names : Names) → packed ≡ 0 → length links ≡ member_count (members_of (place_value names s p))
-  pub packed_part : (names : Names) (i : ℕ) → i < packed → Some (place_value names s (place.Element at i)) ≡ member_at (members_of (place_value names s p)) i
-  pub packed_place : (i : ℕ) → i < packed → IsPlace s (place.Element at i)
+  pub packed_part : (names : Names) (i : ℕ) → i < packed → Some (place_value names s (packed_place s p i)) ≡ member_at (members_of (place_value names s p)) i
+  pub packed_there : (i : ℕ) → i < packed → IsPlace s (packed_place s p i)
+  pub packed_below : (i : ℕ) → i < packed → place_rank (packed_place s p i) < place_rank p
   pub link_part : (names : Names) (i : ℕ) → packed ≤ i → option_map (value_at names s) (unwrap_or (slice_get links i) None) ≡ member_at (members_of (place_value names s p)) i
-  pub below : (i : ℕ) → IfSome (unwrap_or (slice_get links i) None) (λ j. j < at)
+  pub within : (i : ℕ) → IfSome (unwrap_or (slice_get links i) None) (λ j. j < length s.nodes)
+  pub below : (i : ℕ) → IfSome (unwrap_or (slice_get links i) None) (λ j. suc j < place_rank p)
 
-parts_by_links : (s : Slots) (at : ℕ) (n : Node) → slice_get s.nodes at ≡ Some n → IsRead s at n → HasLinks n.shape → packed_count s n.shape n.content ≡ 0 →
-    AreParts s (place.Node at) at (links_from s at) (element_count s (slice_get s.nodes at))
-parts_by_links s at n got r has none =
-    let links = are_links s at n (links_from s at) got r has refl in
-    let zero : element_count s (slice_get s.nodes at) ≡ 0 = ap (element_count s) got ∙ none in
+weaken : (o : Option ℕ) (i k : ℕ) → i ≤ k → IfSome o (λ j. j < i) → IfSome o (λ j. j < k)
+weaken None i k p h = tt
+weaken (Some j) i k p h = omega (arith, p, h)
+
+next : (o : Option ℕ) (i : ℕ) → IfSome o (λ j. j < i) → IfSome o (λ j. suc j < suc i)
+next None i h = tt
+next (Some j) i h = omega (arith, h)
+
+-- an array or a struct with links
+parts_by_links : (s : Slots) (at : ℕ) (n : Node) → slice_get s.nodes at ≡ Some n → IsSound s → HasLinks n.shape → part_count s n.shape n.content ≡ 0 →
+    AreParts s (place.Node at) (links_from s at) (parts_at s (slice_get s.nodes at))
+parts_by_links s at n got sound has none =
+    let links = are_links s at n got sound has in
+    let within : at < length s.nodes = slice_get_within s.nodes at n got in
+    let zero : parts_at s (slice_get s.nodes at) ≡ 0 = ap (parts_at s) got ∙ none in
     record {
       packed_count = λ names p. absurd (omega (arith, p, zero));
       link_count = λ names e. links.count names;
       packed_part = λ names i p. absurd (omega (arith, p, zero));
-      packed_place = λ i p. absurd (omega (arith, p, zero));
+      packed_there = λ i p. absurd (omega (arith, p, zero));
+      packed_below = λ i p. absurd (omega (arith, p, zero));
       link_part = λ names i p. links.part names i;
-      below = links.below;
+      within = λ i. weaken _ at (length s.nodes) (omega (arith, within)) (links.below i);
+      below = λ i. next _ at (links.below i);
     }
 
-parts_by_row : (s : Slots) (at : ℕ) (n : Node) (w : ℕ) → slice_get s.nodes at ≡ Some n → IsRead s at n → IsRowShape s n.shape n.content w → links_of s n.shape n.content ≡ [] →
-    AreParts s (place.Node at) at (links_from s at) (element_count s (slice_get s.nodes at))
-parts_by_row s at n w got r is none =
+-- an array of packed numbers
+parts_by_row : (s : Slots) (at : ℕ) (n : Node) (w : ℕ) → slice_get s.nodes at ≡ Some n → IsRead s at n → IsRowShape s n.shape n.content w →
+    links_of s n.shape n.content ≡ [] → part_count s n.shape n.content ≡ length (row_numbers s w n.content) → ((i : ℕ) → part_place n.shape at i ≡ place.Element at i) →
+    AreParts s (place.Node at) (links_from s at) (parts_at s (slice_get s.nodes at))
+parts_by_row s at n w got r is none parts places =
     let row = length (row_numbers s w n.content) in
-    let count : element_count s (slice_get s.nodes at) ≡ row = ap (element_count s) got ∙ is.count in
+    let count : parts_at s (slice_get s.nodes at) ≡ row = ap (parts_at s) got ∙ parts in
     let links : links_from s at ≡ [] = ap (node_links s) got ∙ none in
     let found : (i : ℕ) → unwrap_or (slice_get (links_from s at) i) None ≡ None = λ i. ap (λ ls. unwrap_or (slice_get ls i) None) links in
+    let there : (i : ℕ) → packed_place s (place.Node at) i ≡ place.Element at i = λ i. ap (λ o. place_of_part o at i) got ∙ places i in
     record {
       packed_count = λ names p. count ∙ sym (row-count names s at n w r is);
       link_count = λ names e. ap length links ∙ sym (row-count names s at n w r is ∙ sym count ∙ e);
-      packed_part = λ names i p. sym (row-part names s at n w r is i got (omega (arith, p, count)));
-      packed_place = λ i p. has_element s at n w i got is (omega (arith, p, count));
+      packed_part = λ names i p. ap (λ q. Some (place_value names s q)) (there i) ∙ sym (row-part names s at n w r is i got (omega (arith, p, count)));
+      packed_there = λ i p. subst (IsPlace s) (sym (there i)) (has_element s at n w i got is (omega (arith, p, count)));
+      packed_below = λ i p. omega (arith, ap place_rank (there i));
       link_part = λ names i p. ap (option_map (value_at names s)) (found i) ∙ sym (row-past names s at n w r is i (omega (arith, p, count)));
-      below = λ i. subst (λ o. IfSome o (λ j. j < at)) (sym (found i)) tt;
+      within = λ i. subst (λ o. IfSome o (λ j. j < length s.nodes)) (sym (found i)) tt;
+      below = λ i. subst (λ o. IfSome o (λ j. suc j < suc at)) (sym (found i)) tt;
     }
 
-parts_by_shape : (s : Slots) (at : ℕ) (n : Node) (shape : Shape) → n.shape ≡ shape → slice_get s.nodes at ≡ Some n → IsRead s at n →
-    AreParts s (place.Node at) at (links_from s at) (element_count s (slice_get s.nodes at))
-parts_by_shape s at n (Integer w g) e got r = parts_by_links s at n got r (subst HasLinks (sym e) (record { not_integers = λ v h q. cc; not_offsets = λ v h u q. cc })) (ap (λ x. packed_count s x n.content) e)
-parts_by_shape s at n (Offset w g u) e got r = parts_by_links s at n got r (subst HasLinks (sym e) (record { not_integers = λ v h q. cc; not_offsets = λ v h u q. cc })) (ap (λ x. packed_count s x n.content) e)
-parts_by_shape s at n Text e got r = parts_by_links s at n got r (subst HasLinks (sym e) (record { not_integers = λ v h q. cc; not_offsets = λ v h u q. cc })) (ap (λ x. packed_count s x n.content) e)
-parts_by_shape s at n (Integers w g) e got r = parts_by_row s at n w got r (row_shape s n.shape n.start n.content w (inl (g, e)) r.content) (ap (λ x. links_of s x n.content) e)
-parts_by_shape s at n (Offsets w g u) e got r = parts_by_row s at n w got r (row_shape s n.shape n.start n.content w (inr (g, u, e)) r.content) (ap (λ x. links_of s x n.content) e)
-parts_by_shape s at n Array e got r = parts_by_links s at n got r (subst HasLinks (sym e) (record { not_integers = λ v h q. cc; not_offsets = λ v h u q. cc })) (ap (λ x. packed_count s x n.content) e)
-parts_by_shape s at n (Struct t) e got r = parts_by_links s at n got r (subst HasLinks (sym e) (record { not_integers = λ v h q. cc; not_offsets = λ v h u q. cc })) (ap (λ x. packed_count s x n.content) e)
-parts_by_shape s at n (Union t i) e got r = parts_by_links s at n got r (subst HasLinks (sym e) (record { not_integers = λ v h q. cc; not_offsets = λ v h u q. cc })) (ap (λ x. packed_count s x n.content) e)
+-- an array of packed structs
+parts_by_records : (s : Slots) (at : ℕ) (n : Node) (size stride : ℕ) → slice_get s.nodes at ≡ Some n → IsSound s → n.shape ≡ Records stride size →
+    AreParts s (place.Node at) (links_from s at) (parts_at s (slice_get s.nodes at))
+parts_by_records s at n size stride got sound is =
+    let all = record_count s stride n.content in
+    let t = template_of s sound at n size stride got is in
+    let count : parts_at s (slice_get s.nodes at) ≡ all = ap (parts_at s) got ∙ ap (λ x. part_count s x n.content) is in
+    let links : links_from s at ≡ [] = ap (node_links s) got ∙ ap (λ x. links_of s x n.content) is in
+    let found : (i : ℕ) → unwrap_or (slice_get (links_from s at) i) None ≡ None = λ i. ap (λ ls. unwrap_or (slice_get ls i) None) links in
+    let there : (i : ℕ) → packed_place s (place.Node at) i ≡ place.Record at i = λ i. ap (λ o. place_of_part o at i) got ∙ ap (λ x. part_place x at i) is in
+    record {
+      packed_count = λ names p. count ∙ sym (array-count s sound at n size stride got is names);
+      link_count = λ names e. ap length links ∙ sym (array-count s sound at n size stride got is names ∙ sym count ∙ e);
+      packed_part = λ names i p. ap (λ q. Some (place_value names s q)) (there i) ∙ sym (array-part s sound at n size stride got is names i (omega (arith, p, count)));
+      packed_there = λ i p. subst (IsPlace s) (sym (there i)) (omega (arith, p, count, records-count s sound at n size stride got is));
+      packed_below = λ i p. omega (arith, ap place_rank (there i), t.some);
+      link_part = λ names i p. ap (option_map (value_at names s)) (found i) ∙ sym (member-past _ i (omega (arith, p, count, array-count s sound at n size stride got is names)));
+      within = λ i. subst (λ o. IfSome o (λ j. j < length s.nodes)) (sym (found i)) tt;
+      below = λ i. subst (λ o. IfSome o (λ j. suc j < suc at)) (sym (found i)) tt;
+    }
 
-pub parts_of : (s : Slots) (p : Place) (at : ℕ) (n : Node) (links : List (Option ℕ)) (packed : ℕ) → p ≡ place.Node at → slice_get s.nodes at ≡ Some n → IsRead s at n →
-    links ≡ place_links s p → packed ≡ place_packed s p → AreParts s p at links packed
-parts_of s p at n links packed is got r own count =
-    let found : AreParts s (place.Node at) at (place_links s (place.Node at)) (place_packed s (place.Node at)) = parts_by_shape s at n n.shape refl got r in
-    subst (λ k. AreParts s p at links k) (sym count) (subst (λ ls. AreParts s p at ls (place_packed s p)) (sym own) (subst (λ q. AreParts s q at (place_links s q) (place_packed s q)) (sym is) found))
+parts_by_shape : (s : Slots) (at : ℕ) (n : Node) (shape : Shape) → n.shape ≡ shape → slice_get s.nodes at ≡ Some n → IsSound s →
+    AreParts s (place.Node at) (links_from s at) (parts_at s (slice_get s.nodes at))
+parts_by_shape s at n (Integer w g) e got sound = parts_by_links s at n got sound (subst HasLinks (sym e) (record { not_integers = λ v h q. cc; not_offsets = λ v h u q. cc; not_records = λ z k q. cc })) (ap (λ x. part_count s x n.content) e)
+parts_by_shape s at n (Offset w g u) e got sound = parts_by_links s at n got sound (subst HasLinks (sym e) (record { not_integers = λ v h q. cc; not_offsets = λ v h u q. cc; not_records = λ z k q. cc })) (ap (λ x. part_count s x n.content) e)
+parts_by_shape s at n Text e got sound = parts_by_links s at n got sound (subst HasLinks (sym e) (record { not_integers = λ v h q. cc; not_offsets = λ v h u q. cc; not_records = λ z k q. cc })) (ap (λ x. part_count s x n.content) e)
+parts_by_shape s at n (Integers w g) e got sound =
+    let r = read-node s at n sound got in
+    parts_by_row s at n w got r (row_shape s n.shape n.start n.content w (inl (g, e)) r.content) (ap (λ x. links_of s x n.content) e) (ap (λ x. part_count s x n.content) e) (λ i. ap (λ x. part_place x at i) e)
+parts_by_shape s at n (Offsets w g u) e got sound =
+    let r = read-node s at n sound got in
+    parts_by_row s at n w got r (row_shape s n.shape n.start n.content w (inr (g, u, e)) r.content) (ap (λ x. links_of s x n.content) e) (ap (λ x. part_count s x n.content) e) (λ i. ap (λ x. part_place x at i) e)
+parts_by_shape s at n (Records stride size) e got sound = parts_by_records s at n size stride got sound e
+parts_by_shape s at n Array e got sound = parts_by_links s at n got sound (subst HasLinks (sym e) (record { not_integers = λ v h q. cc; not_offsets = λ v h u q. cc; not_records = λ z k q. cc })) (ap (λ x. part_count s x n.content) e)
+parts_by_shape s at n (Struct t) e got sound = parts_by_links s at n got sound (subst HasLinks (sym e) (record { not_integers = λ v h q. cc; not_offsets = λ v h u q. cc; not_records = λ z k q. cc })) (ap (λ x. part_count s x n.content) e)
+parts_by_shape s at n (Union t i) e got sound = parts_by_links s at n got sound (subst HasLinks (sym e) (record { not_integers = λ v h q. cc; not_offsets = λ v h u q. cc; not_records = λ z k q. cc })) (ap (λ x. part_count s x n.content) e)
+
+-- a packed number has no parts
+element-members : (s : Slots) (o : Option Node) (i : ℕ) → members_of (element_in s o i) ≡ NoMembers
+element-members s None i = refl
+element-members s (Some n) i = number-members n.shape _ _
+  where
+    number-members : (shape : Shape) (start digits : ℕ) → members_of (element_value shape start digits) ≡ NoMembers
+    number-members (Integer w g) start digits = refl
+    number-members (Offset w g u) start digits = refl
+    number-members Text start digits = refl
+    number-members (Integers w g) start digits = refl
+    number-members (Offsets w g u) start digits = refl
+    number-members (Records stride size) start digits = refl
+    number-members Array start digits = refl
+    number-members (Struct t) start digits = refl
+    number-members (Union t i) start digits = refl
+
+field-members : (s : Slots) (o c : Option Node) (i : ℕ) → members_of (field_of s o c i) ≡ NoMembers
+field-members s None c i = refl
+field-members s (Some n) None i = refl
+field-members s (Some n) (Some c) i = number-members c.shape _ _
+  where
+    number-members : (shape : Shape) (start digits : ℕ) → members_of (numbered shape start digits) ≡ NoMembers
+    number-members (Integer w g) start digits = refl
+    number-members (Offset w g u) start digits = refl
+    number-members Text start digits = refl
+    number-members (Integers w g) start digits = refl
+    number-members (Offsets w g u) start digits = refl
+    number-members (Records stride size) start digits = refl
+    number-members Array start digits = refl
+    number-members (Struct t) start digits = refl
+    number-members (Union t i) start digits = refl
+
+parts_of_none : (s : Slots) (p : Place) → ((names : Names) → members_of (place_value names s p) ≡ NoMembers) → AreParts s p [] 0
+parts_of_none s p none = record {
+  packed_count = λ names h. absurd (omega (arith, h));
+  link_count = λ names e. sym (ap member_count (none names));
+  packed_part = λ names i h. absurd (omega (arith, h));
+  packed_there = λ i h. absurd (omega (arith, h));
+  packed_below = λ i h. absurd (omega (arith, h));
+  link_part = λ names i h. sym (ap (λ ms. member_at ms i) (none names));
+  within = λ i. tt;
+  below = λ i. tt;
+}
+
+-- the place of a number of a packed struct
+field_there : (b : Bool) (count field : ℕ) → field < where_struct b count → (b ≡ true) × (field < count)
+field_there true count field h = (refl, h)
+field_there false count field h = absurd (omega (arith, h))
+
+pub field_place : (s : Slots) (a i field : ℕ) → IsPlace s (place.Field a i field) → (i < structs_at s (slice_get s.nodes a)) × (field < length (columns_of s a))
+field_place s a i field h =
+    let r = field_there (nat_lt i (structs_at s (slice_get s.nodes a))) (length (columns_of s a)) field h in
+    (ltb-true i (structs_at s (slice_get s.nodes a)) r.0, r.1)
+
+has_field : (s : Slots) (a i field : ℕ) → i < structs_at s (slice_get s.nodes a) → field < length (columns_of s a) → IsPlace s (place.Field a i field)
+has_field s a i field there h =
+    subst (λ b. field < where_struct b (length (columns_of s a))) (sym (lt-ltb i (structs_at s (slice_get s.nodes a)) there)) h
+
+-- a packed struct has its numbers as parts
+parts_by_columns : (s : Slots) (a i : ℕ) → IsSound s → i < structs_at s (slice_get s.nodes a) → AreParts s (place.Record a i) [] (length (columns_of s a))
+parts_by_columns s a i sound there =
+    let r = is_array s a (slice_get s.nodes a) refl (omega (arith, there)) in
+    let count : (names : Names) → member_count (members_of (place_value names s (place.Record a i))) ≡ length (columns_of s a) =
+    λ names. struct-count s sound a r.node r.size r.stride r.found r.shape names i in
+    record {
+      packed_count = λ names h. sym (count names);
+      link_count = λ names e. sym (count names ∙ e);
+      packed_part = λ names field h. sym (struct-field s sound a r.node r.size r.stride r.found r.shape names i field h);
+      packed_there = λ field h. has_field s a i field there h;
+      packed_below = λ field h. omega arith;
+      link_part = λ names field h. sym (member-past _ field (omega (arith, h, count names)));
+      within = λ field. tt;
+      below = λ field. tt;
+    }
+
+no_node : Node
+no_node = record { start = 0; content = 0; shape = Array }
+
+parts_by_place : (s : Slots) (p : Place) → IsSound s → IsPlace s p → AreParts s p (place_links s p) (place_packed s p)
+parts_by_place s (place.Node at) sound h =
+    let n = slice_index_or s.nodes at no_node in
+    parts_by_shape s at n n.shape refl (slice_get-get_or s.nodes at no_node h) sound
+parts_by_place s (place.Element a i) sound h = parts_of_none s (place.Element a i) (λ names. element-members s (slice_get s.nodes a) i)
+parts_by_place s (place.Record a i) sound h = parts_by_columns s a i sound h
+parts_by_place s (place.Field a i field) sound h = parts_of_none s (place.Field a i field) (λ names. field-members s (slice_get s.nodes a) (column_at s a field) i)
+
+pub parts_of : (s : Slots) (p : Place) (links : List (Option ℕ)) (packed : ℕ) → IsSound s → IsPlace s p → links ≡ place_links s p → packed ≡ place_packed s p → AreParts s p links packed
+parts_of s p links packed sound h own count =
+    subst (λ k. AreParts s p links k) (sym count) (subst (λ ls. AreParts s p ls (place_packed s p)) (sym own) (parts_by_place s p sound h))

@@ -8,13 +8,16 @@ use Rattle.value_store.specs.declared.store.slots.Node.{Node}
 use Rattle.value_store.specs.declared.store.slots.Shape.{Shape}
 use Rattle.pickle_meaning.specs.Values.{Levels, top_of}
 use Rattle.value_store.specs.Keeping.{LacksRoom, LacksBytes}
-use Rattle.value_store.specs.Moves.{Move, Places, Leaves, Clears, Packs, State, state_of, with_number, with_text, with_links, joined, settled, settled_row, moved, CannotMove}
+use Rattle.value_store.specs.Moves.{Move, Places, Leaves, Clears, Closes, Packs, OpensRecords, PacksRecord, State, state_of, with_number, with_text, with_links, with_template, joined, settled, settled_row, moved, CannotMove}
+use Rattle.value_store.specs.declared.store.slots.Shape.TheVariants.{Records, Struct}
+use Rattle.value_store.specs.Gathering.{with_records}
 use Rattle.value_store.specs.Names.{Names}
 use Rattle.value_store.specs.Packed.{bytes_for, number_bytes}
-use Rattle.value_store.specs.Slots.{Slots, Held, packs, marks_of, cut_to, innermost, AreLevels, level_of, with_leaf, with_family, with_bytes, with_absent, with_more, written, HasNoNode, IsFilling, IsPacked, element_width, TakesNumber, IsRowOf, Regrown}
-use Rattle.value_store.specs.Takes.{Vector, NodesOf, FamiliesOf, LinksOf, PendingOf, TextsOf, BytesOf, of_vector, level_takes}
+use Rattle.value_store.specs.Slots.{Slots, Held, packs, stack, marks_of, cut_to, innermost, AreLevels, level_of, with_leaf, with_family, with_bytes, with_absent, with_more, written, HasNoNode, IsFilling, IsPacked, element_width, TakesNumber, IsRowOf, KeepsRoom, Regrown}
+use Rattle.value_store.specs.Takes.{Vector, NodesOf, FamiliesOf, LinksOf, PendingOf, TextsOf, BytesOf, of_vector}
 use Rattle.value_store.proofs.Counted.{marks-cut}
 use Rattle.value_store.proofs.Fits.{innermost-level}
+use Rattle.value_store.proofs.Grown.{length-stack}
 use Rattle.value_store.proofs.Packed.{length-number_bytes}
 use Rattle.value_store.proofs.PackedRows.{row_bytes, row-packs}
 use Rattle.value_store.proofs.Writing.{fresh-empty, stale-some, filling-slots, filling-some}
@@ -94,16 +97,14 @@ module _ (h : Held) where
 
 -- a text, or an array of packed numbers, is all that its frame has
 module _ (names : Names) (h : Held) (shape : Shape) (bytes : List ℕ) (start : ℕ) (outer : Levels) (w : IsFilling names h shape bytes start outer) where
-  before-entry : (vector : Vector) → of_vector vector (marks_of w.before) ≡ of_vector vector (innermost h.frames)
-  before-entry vector =
-      let i = innermost-level h.room h.frames w.before w.own in
-      let none : level_of names (innermost h.frames) w.before ≡ [] = sym (i.top names) ∙ ap top_of w.above in
-      omega (arith, i.is.takes names vector, ap (level_takes (packs h.room) vector) none)
-
   before-marks : marks_of w.before ≡ innermost h.frames
   before-marks =
-      same-marks _ _ (before-entry NodesOf) (before-entry FamiliesOf) (before-entry LinksOf)
-      (before-entry PendingOf) (before-entry TextsOf) (before-entry BytesOf)
+      let k = innermost h.frames in
+      let i = innermost-level h.room h.frames w.before w.own in
+      let none : level_of names k w.before ≡ [] = sym (i.top names) ∙ ap top_of w.above in
+      let rows = i.is.bare w.none in
+      let pending : length w.before.pending ≡ k.pending = omega (arith, ap length none, length-drop k.pending (stack names w.before), length-stack names w.before, i.is.within.pending) in
+      same-marks _ _ w.none rows.families rows.links pending rows.texts rows.bytes
 
   fresh-marks : HasNoNode h → marks_of h.slots ≡ innermost h.frames
   fresh-marks fresh =
@@ -202,3 +203,66 @@ pub lacks-same : {T E : Type 0} (r : Result T E) (h : Held) (one other : Move) �
     OnErr r (CannotMove h one) → OnErr r (CannotMove h other)
 lacks-same (Ok x) h one other e lacks = tt
 lacks-same (Err x) h one other e (vector, more) = (vector, omega (arith, more, ap (of_vector vector) e))
+
+-- arrays of packed structs
+
+marks-records : (size stride : ℕ) (bytes : List ℕ) (start : ℕ) (k : Marks) (s : Slots) → k.pending ≤ length s.pending →
+    marks_of (with_records size stride bytes start k.pending s) ≡
+    record (marks_of s) { nodes = length s.nodes + 1; pending = k.pending + 1; texts = length s.texts + 1; bytes = length s.bytes + length bytes }
+marks-records size stride bytes start k s within =
+    let n : Node = record { start = start; content = length s.texts; shape = Records stride size } in
+    same-marks _ _ (length_push s.nodes n) refl refl
+    (omega (arith, length_push (take k.pending s.pending) (Some (length s.nodes)), length-take k.pending s.pending, within))
+    (length_push s.texts (length s.bytes + length bytes)) (length-append s.bytes bytes)
+
+-- the template and its array
+marks-template : (of size stride start : ℕ) (k : Marks) (s : Slots) → k.pending ≤ length s.pending →
+    marks_of (with_records size stride [] start k.pending (with_family (Struct of) start size k.pending s)) ≡ with_template k (marks_of s)
+marks-template of size stride start k s within =
+    let u = with_family (Struct of) start size k.pending s in
+    let m = marks-family (Struct of) start size k s within in
+    let more : k.pending ≤ length u.pending = omega (arith, ap (λ (j : Marks). j.pending) m) in
+    let r = marks-records size stride [] start k u more in
+    same-marks _ _ (omega (arith, ap (λ (j : Marks). j.nodes) r, ap (λ (j : Marks). j.nodes) m)) (omega (arith, ap (λ (j : Marks). j.families) r, ap (λ (j : Marks). j.families) m))
+    (omega (arith, ap (λ (j : Marks). j.links) r, ap (λ (j : Marks). j.links) m)) (omega (arith, ap (λ (j : Marks). j.pending) r))
+    (omega (arith, ap (λ (j : Marks). j.texts) r, ap (λ (j : Marks). j.texts) m)) (omega (arith, ap (λ (j : Marks). j.bytes) r, ap (λ (j : Marks). j.bytes) m))
+
+-- the state after the template and its array, in a store that may have grown in between
+pub records-moves : (h r m n : Held) (of size stride start : ℕ) → AreLevels h.room h.frames h.slots → Regrown h r →
+    Regrown (record r { slots = with_family (Struct of) start size (innermost r.frames).pending r.slots }) m →
+    Regrown (record m { slots = with_records size stride [] start (innermost m.frames).pending m.slots }) n →
+    state_of n ≡ moved (packs h.room) OpensRecords (state_of h)
+records-moves h r m n of size stride start all e f g =
+    let close : Held → Held = λ x. record x { slots = with_family (Struct of) start size (innermost x.frames).pending x.slots } in
+    let place : Held → Held = λ x. record x { slots = with_records size stride [] start (innermost x.frames).pending x.slots } in
+    ap state_of g ∙ ap (λ x. state_of (place x)) f ∙ ap (λ x. state_of (place (close x))) e
+    ∙ ap (framed h.frames) (marks-template of size stride start (innermost h.frames) h.slots (innermost-level h.room h.frames h.slots all).is.within.pending)
+
+-- a template takes no more than it does with its array
+template-most : (vector : Vector) (k n : Marks) → of_vector vector (with_links k n) ≤ of_vector vector (with_template k n)
+template-most NodesOf k n = omega arith
+template-most FamiliesOf k n = omega arith
+template-most LinksOf k n = omega arith
+template-most PendingOf k n = omega arith
+template-most TextsOf k n = omega arith
+template-most BytesOf k n = omega arith
+
+room-kept : (vector : Vector) (h r : Held) → KeepsRoom h r → of_vector vector h.capacity ≤ of_vector vector r.capacity
+room-kept NodesOf h r keeps = keeps.nodes
+room-kept FamiliesOf h r keeps = keeps.families
+room-kept LinksOf h r keeps = keeps.links
+room-kept PendingOf h r keeps = keeps.pending
+room-kept TextsOf h r keeps = keeps.texts
+room-kept BytesOf h r keeps = keeps.bytes
+
+pub template-lacks : {T E : Type 0} (q : Result T E) (h r : Held) → Regrown h r → KeepsRoom h r → CannotMove r Closes → OnErr q (CannotMove h OpensRecords)
+template-lacks (Ok x) h r e keeps lacks = tt
+template-lacks (Err x) h r e keeps (vector, more) =
+    let state : state_of r ≡ state_of h = ap state_of e in
+    let own : of_vector vector (with_links (innermost r.frames) (marks_of r.slots)) ≡ of_vector vector (with_links (innermost h.frames) (marks_of h.slots)) =
+    ap (λ (s : State). of_vector vector (with_links (innermost s.frames) s.now)) state in
+    (vector, omega (arith, more, own, room-kept vector h r keeps, template-most vector (innermost h.frames) (marks_of h.slots)))
+
+-- one more struct
+pub record-moves : (h : Held) (more : List ℕ) → 0 < length h.slots.texts → having h (with_more more h.slots) ≡ moved (packs h.room) (PacksRecord (length more)) (state_of h)
+record-moves h more some = ap (framed h.frames) (marks-more more h.slots some)

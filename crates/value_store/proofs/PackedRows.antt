@@ -1,5 +1,5 @@
 -- Open arrays of packed numbers.
-use Rattle.std.proofs.Common.{◌≡◌, ℕ, ◌+◌, ◌*◌, ◌%◌, ◌^◌, ◌<◌, ◌≤◌, pow_mono, Bool, true, false, List, [], ◌∷◌, ◌++◌, Option, Some, None, Result, Ok, Err, OnOk, OnErr, length, take, refl, sym, ◌∙◌, ap, subst, arith}
+use Rattle.std.proofs.Common.{◌≡◌, ℕ, ◌+◌, ◌*◌, ◌%◌, ◌^◌, ◌<◌, ◌≤◌, pow_mono, true, false, List, [], ◌∷◌, ◌++◌, Some, Result, Ok, Err, OnOk, OnErr, length, take, sym, ◌∙◌, ap, subst, arith}
 use Rattle.std.specs.Prelude.{All}
 use Rattle.std.specs.Int.{to_le_bytes, w64}
 use Rattle.std.proofs.Math.Nat.{mul-zero, mul-le-mul_left}
@@ -7,21 +7,20 @@ use Rattle.std.proofs.lemmas.List.{append-nil, length-append, length_push}
 use Rattle.std.proofs.lemmas.List.Elements.{All-push}
 use Rattle.value_store.specs.declared.store.room.Room.{Room}
 use Rattle.value_store.specs.declared.store.slots.Shape.{Shape}
-use Rattle.value_store.specs.declared.store.slots.Shape.TheVariants.{Integer, Offset, Text, Integers, Offsets, Array, Struct, Union}
+use Rattle.value_store.specs.declared.store.slots.Shape.TheVariants.{Integer, Offset, Text, Integers, Offsets, Records, Array, Struct, Union}
 use Rattle.value_store.specs.Packed.{bytes_for, number_bytes, packed}
 use Rattle.pickle_meaning.specs.Room.{PendingSlot, slots}
-use Rattle.pickle_meaning.specs.Values.{Mapped, ArrayLabel, NoMembers, Levels, top_of, outer_of, gathered, pushed}
+use Rattle.pickle_meaning.specs.Values.{Mapped, ArrayLabel, NoMembers, Levels, top_of, outer_of, pushed}
 use Rattle.value_store.specs.Closed.{closed, placed}
 use Rattle.value_store.specs.Filling.{Packs, CannotPack, SettlesRow, CannotCloseRow}
 use Rattle.value_store.specs.Exceeding.{Exceeds}
-use Rattle.value_store.specs.Keeping.{IsPlaced, CannotClose, KeepsMembers, StartsWithNoNumber}
+use Rattle.value_store.specs.Keeping.{IsPlaced, CannotClose}
 use Rattle.value_store.specs.Levels.{extended}
 use Rattle.value_store.specs.Names.{Names}
-use Rattle.value_store.specs.Takes.{NodesOf, row_width, where_packed}
-use Rattle.value_store.specs.Slots.{Held, packs, levels, level_of, innermost, AreLevels, IsPacked, element_width, elements, row_value, AreNumbers, AreNumberBytes, with_bytes, with_more, AreBytes, bytes_value, AreSome, MayKeep, HasNoNode, IsFilling, IsPacking, GoesOn, Regrown}
-use Rattle.value_store.proofs.Taken.{pushed-extended, slots-taken, level_pending, none-first}
+use Rattle.value_store.specs.Slots.{Held, packs, levels, AreLevels, IsPacked, element_width, elements, row_value, AreNumbers, AreNumberBytes, with_bytes, with_more, AreBytes, bytes_value, AreSome, MayKeep, HasNoNode, IsFilling, IsPacking, GoesOn, Regrown}
+use Rattle.value_store.proofs.Taken.{pushed-extended, slots-taken, level_pending}
 use Rattle.value_store.proofs.Lent.{length-elements}
-use Rattle.value_store.proofs.Fits.{packs_no_more, innermost-level}
+use Rattle.value_store.proofs.Fits.{packs_no_more}
 use Rattle.value_store.proofs.Packed.{length-packed, length-number_bytes, le_bytes-take, packed-push, numbers_in-packed, packed-none, bytes_for-some, bytes_for-most}
 use Rattle.value_store.proofs.Writing.{some-bytes, filling-levels, filling-empty, filling-outer, fresh-empty, empty-fresh, stale-some, fresh-filling, stale-filling, stale-goes_on, opened-filling}
 
@@ -44,6 +43,7 @@ row-are (Offset w g u) numbers start p below short = absurd p
 row-are Text numbers start p below short = absurd p
 row-are (Integers w g) numbers start p below short = are-numbers w numbers start p.0 p.1 below short
 row-are (Offsets w g u) numbers start p below short = (are-numbers w numbers start p.0 p.1 below short, p.2)
+row-are (Records stride size) numbers start p below short = absurd p
 row-are Array numbers start p below short = absurd p
 row-are (Struct t) numbers start p below short = absurd p
 row-are (Union i t) numbers start p below short = absurd p
@@ -55,6 +55,7 @@ row-is (Offset w g u) numbers start p below = absurd p
 row-is Text numbers start p below = absurd p
 row-is (Integers w g) numbers start p below = ap (λ ns. row_value (Integers w g) ns start) (numbers_in-packed w numbers p.0 below)
 row-is (Offsets w g u) numbers start p below = ap (λ ns. row_value (Offsets w g u) ns start) (numbers_in-packed w numbers p.0 below)
+row-is (Records stride size) numbers start p below = absurd p
 row-is Array numbers start p below = absurd p
 row-is (Struct t) numbers start p below = absurd p
 row-is (Union i t) numbers start p below = absurd p
@@ -65,6 +66,7 @@ row-may room (Offset w g u) e = tt
 row-may room Text e = tt
 row-may room (Integers w g) e = e
 row-may room (Offsets w g u) e = e
+row-may room (Records stride size) e = e
 row-may room Array e = tt
 row-may room (Struct t) e = tt
 row-may room (Union i t) e = tt
@@ -75,6 +77,7 @@ row-width (Offset w g u) p = absurd p
 row-width Text p = absurd p
 row-width (Integers w g) p = p
 row-width (Offsets w g u) p = (p.0, p.1)
+row-width (Records stride size) p = absurd p
 row-width Array p = absurd p
 row-width (Struct t) p = absurd p
 row-width (Union i t) p = absurd p
@@ -192,6 +195,7 @@ row-packs room (Offset w g u) p may = absurd p
 row-packs room Text p may = absurd p
 row-packs room (Integers w g) p may = may
 row-packs room (Offsets w g u) p may = may
+row-packs room (Records stride size) p may = absurd p
 row-packs room Array p may = absurd p
 row-packs room (Struct t) p may = absurd p
 row-packs room (Union i t) p may = absurd p
@@ -223,23 +227,6 @@ cannot-pack A (Ok x) h shape digits start p e = tt
 cannot-pack A (Err x) h shape digits start p e = λ names numbers outer w. packed-exceeds names h shape numbers digits start outer p w
 
 -- the closed array
-
--- an array that starts with no number isn't packed
-where_no_number : (packs : Bool) (width : Option ℕ) → (packs ≡ true → width ≡ None) → where_packed packs width ≡ None
-where_no_number true width h = h refl
-where_no_number false width h = refl
-
-pub array-members : (h : Held) → StartsWithNoNumber h → KeepsMembers h Array
-array-members h none names = where_no_number (packs h.room) (row_width (gathered (top_of (levels names h)))) (λ e. none e names)
-
--- without a node it has no members
-pub fresh-members : (h : Held) → AreLevels h.room h.frames h.slots → HasNoNode h → KeepsMembers h Array
-unfolding levels
-fresh-members h all fresh names =
-    let i = innermost-level h.room h.frames h.slots all in
-    let level = level_of names (innermost h.frames) h.slots in
-    let none = none-first (packs h.room) level (omega (arith, fresh, i.is.takes names NodesOf)) in
-    ap (λ os. where_packed (packs h.room) (row_width (gathered os))) (i.top names) ∙ ap (where_packed (packs h.room)) none ∙ where_no_number (packs h.room) None (λ e. refl)
 
 -- an array of no numbers is an array without members
 no-numbers : (names : Names) (h : Held) (shape : Shape) (numbers : List ℕ) (start : ℕ) (outer : Levels) → IsPacking names h shape numbers start outer → IsPacked shape → HasNoNode h →

@@ -1,22 +1,20 @@
 -- What a placed text or array of packed numbers adds to a store.
-use Rattle.std.proofs.Common.{◌≡◌, ℕ, zero, suc, ◌+◌, ◌-◌, ◌*◌, ◌<◌, Bool, true, List, [], ◌∷◌, ◌++◌, Some, length, refl, sym, ◌∙◌, ap, subst, arith, add-one}
+use Rattle.std.proofs.Common.{◌≡◌, ℕ, ◌+◌, ◌-◌, ◌*◌, false, List, [], ◌∷◌, ◌++◌, Some, length, refl, sym, ◌∙◌, ap, subst, arith, add-one}
 use Rattle.std.specs.Prelude.{slice_index}
-use Rattle.std.proofs.Math.Nat.{mul-zero}
 use Rattle.std.proofs.lemmas.List.{append-nil, length-append, length_push, take_at, take_all}
 use Rattle.std.proofs.Math.Seq.{get_or-append_seam}
 use Rattle.value_store.specs.declared.store.room.Room.{Room}
 use Rattle.value_store.specs.declared.store.slots.Node.{Node}
 use Rattle.value_store.specs.declared.store.slots.Shape.{Shape}
-use Rattle.value_store.specs.declared.store.slots.Shape.TheVariants.{Integer, Offset, Text, Integers, Offsets, Array, Struct, Union}
-use Rattle.value_store.specs.Packed.{bytes_for, numbers_in}
+use Rattle.value_store.specs.declared.store.slots.Shape.TheVariants.{Integer, Offset, Text, Integers, Offsets, Records, Array, Struct, Union}
+use Rattle.value_store.specs.Packed.{numbers_in}
 use Rattle.pickle_meaning.specs.Values.{Value, Mapped, NoMembers, TextLabel, ArrayLabel, gathered}
 use Rattle.value_store.specs.Names.{Names}
-use Rattle.value_store.specs.Takes.{Vector, NodesOf, FamiliesOf, LinksOf, PendingOf, TextsOf, BytesOf, of_vector, own_takes, row_takes, value_takes, place_takes}
-use Rattle.value_store.specs.Slots.{Slots, packs, first_byte, text_bytes, IsPacked, element_width, elements, row_value, links_of, tree_of, trees, stack, LinksBelow, IsShort, IsByteRow, AreNumbers, IsContent, IsSound, cut_to, marks_of, Adds, with_bytes, AreNumberBytes, AreBytes, bytes_value, AreSome, MayKeep}
+use Rattle.value_store.specs.Takes.{Vector, NodesOf, FamiliesOf, LinksOf, PendingOf, TextsOf, BytesOf, of_vector, own_takes, value_takes, place_takes}
+use Rattle.value_store.specs.Slots.{Slots, packs, first_byte, text_bytes, elements, links_of, tree_of, trees, stack, LinksBelow, IsShort, IsByteRow, AreNumbers, IsContent, HasTemplate, IsSound, cut_to, marks_of, Adds, with_bytes, AreBytes, bytes_value, AreSome, MayKeep}
 use Rattle.value_store.proofs.FamilyRows.{part-all, first_byte-grow}
 use Rattle.value_store.proofs.Grown.{NewNode, nodes-new, pending-new}
 use Rattle.value_store.proofs.Placed.{pending-last, stack-last}
-use Rattle.value_store.proofs.Taken.{row-taken}
 
 module _ (shape : Shape) (bytes : List ℕ) (start : ℕ) (s : Slots) (sound : IsSound s) where
   bytes-first : first_byte (with_bytes shape bytes start s).texts (length s.texts) ≡ length s.bytes
@@ -29,18 +27,18 @@ module _ (shape : Shape) (bytes : List ℕ) (start : ℕ) (s : Slots) (sound : I
   bytes-count = omega (arith, bytes-first, bytes-end)
 
   -- the bytes are those that were placed
-  bytes-here : text_bytes (with_bytes shape bytes start s).texts (with_bytes shape bytes start s).bytes (length s.texts) ≡ bytes
+  pub bytes-here : text_bytes (with_bytes shape bytes start s).texts (with_bytes shape bytes start s).bytes (length s.texts) ≡ bytes
   bytes-here =
       let count : (length s.bytes + length bytes) - length s.bytes ≡ length bytes = omega arith in
       rw (bytes-first, bytes-end, count) (part-all (length bytes) s.bytes bytes refl)
 
-  bytes-row : IsByteRow (with_bytes shape bytes start s) (length s.texts)
+  pub bytes-row : IsByteRow (with_bytes shape bytes start s) (length s.texts)
   bytes-row = (
     omega (arith, length_push s.texts (length s.bytes + length bytes)),
     record { ordered = omega (arith, bytes-first, bytes-end); within = omega (arith, bytes-end, length-append s.bytes bytes) },
   )
 
-  bytes-tiles : first_byte (with_bytes shape bytes start s).texts (length (with_bytes shape bytes start s).texts) ≡ length (with_bytes shape bytes start s).bytes
+  pub bytes-tiles : first_byte (with_bytes shape bytes start s).texts (length (with_bytes shape bytes start s).texts) ≡ length (with_bytes shape bytes start s).bytes
   bytes-tiles =
       ap (first_byte (with_bytes shape bytes start s).texts) (length_push s.texts (length s.bytes + length bytes) ∙ add-one (length s.texts))
       ∙ bytes-end ∙ sym (length-append s.bytes bytes)
@@ -67,6 +65,7 @@ bytes-content (Integers w g) bytes start s sound h =
     (bytes-row (Integers w g) bytes start s sound, subst (λ bs. AreNumbers w (numbers_in w bs) start) (sym (bytes-here (Integers w g) bytes start s sound)) h.0)
 bytes-content (Offsets w g u) bytes start s sound h =
     (bytes-row (Offsets w g u) bytes start s sound, (subst (λ bs. AreNumbers w (numbers_in w bs) start) (sym (bytes-here (Offsets w g u) bytes start s sound)) h.0.0, h.1))
+bytes-content (Records stride size) bytes start s sound h = absurd h
 bytes-content Array bytes start s sound h = absurd h
 bytes-content (Struct t) bytes start s sound h = absurd h
 bytes-content (Union i t) bytes start s sound h = absurd h
@@ -77,9 +76,21 @@ bytes-links s (Offset w g u) bytes start c i h = absurd h
 bytes-links s Text bytes start c i h = tt
 bytes-links s (Integers w g) bytes start c i h = tt
 bytes-links s (Offsets w g u) bytes start c i h = tt
+bytes-links s (Records stride size) bytes start c i h = absurd h
 bytes-links s Array bytes start c i h = absurd h
 bytes-links s (Struct t) bytes start c i h = absurd h
 bytes-links s (Union j t) bytes start c i h = absurd h
+
+bytes-template : (s : Slots) (i : ℕ) (shape : Shape) (bytes : List ℕ) (start c : ℕ) → AreBytes shape bytes start → HasTemplate s i shape start c
+bytes-template s i (Integer w g) bytes start c h = absurd h
+bytes-template s i (Offset w g u) bytes start c h = absurd h
+bytes-template s i Text bytes start c h = tt
+bytes-template s i (Integers w g) bytes start c h = tt
+bytes-template s i (Offsets w g u) bytes start c h = tt
+bytes-template s i (Records stride size) bytes start c h = absurd h
+bytes-template s i Array bytes start c h = absurd h
+bytes-template s i (Struct t) bytes start c h = absurd h
+bytes-template s i (Union j t) bytes start c h = absurd h
 
 bytes-tree : (names : Names) (shape : Shape) (bytes : List ℕ) (start : ℕ) (s : Slots) (ts : List Value) → IsSound s → AreBytes shape bytes start →
     tree_of names (with_bytes shape bytes start s) ts (record { start = start; content = length s.texts; shape = shape }) ≡ bytes_value shape bytes start
@@ -92,11 +103,12 @@ bytes-tree names (Integers w g) bytes start s ts sound h =
     ap (λ bs. Mapped ArrayLabel start (start + w * length (numbers_in w bs)) (gathered (elements (Integers w g) start (numbers_in w bs)))) (bytes-here (Integers w g) bytes start s sound)
 bytes-tree names (Offsets w g u) bytes start s ts sound h =
     ap (λ bs. Mapped ArrayLabel start (start + w * length (numbers_in w bs)) (gathered (elements (Offsets w g u) start (numbers_in w bs)))) (bytes-here (Offsets w g u) bytes start s sound)
+bytes-tree names (Records stride size) bytes start s ts sound h = absurd h
 bytes-tree names Array bytes start s ts sound h = absurd h
 bytes-tree names (Struct t) bytes start s ts sound h = absurd h
 bytes-tree names (Union i t) bytes start s ts sound h = absurd h
 
--- a text takes a node, a text and its bytes, and so do packed numbers
+-- a text takes a node, a text and its bytes
 abbrev pub text_takes : Vector → (count : ℕ) → ℕ
 text_takes NodesOf count = 1
 text_takes FamiliesOf count = 0
@@ -113,33 +125,14 @@ text-own PendingOf bytes = refl
 text-own TextsOf bytes = refl
 text-own BytesOf bytes = omega arith
 
-row-own : (vector : Vector) (width count bytes : ℕ) → bytes_for width * count ≡ bytes → row_takes vector width count ≡ text_takes vector bytes
-row-own NodesOf width count bytes e = refl
-row-own FamiliesOf width count bytes e = refl
-row-own LinksOf width count bytes e = refl
-row-own PendingOf width count bytes e = refl
-row-own TextsOf width count bytes e = refl
-row-own BytesOf width count bytes e = e
-
-pos-factor : (size count : ℕ) → 0 < size * count → 0 < count
-pos-factor size zero h = absurd (omega (arith, h, mul-zero size))
-pos-factor size (suc count) h = omega arith
-
-numbers-take : (packs : Bool) (vector : Vector) (shape : Shape) (bytes : List ℕ) (start : ℕ) → packs ≡ true → IsPacked shape → AreNumberBytes (element_width shape) bytes start → 0 < length bytes →
-    value_takes packs vector (row_value shape (numbers_in (element_width shape) bytes) start) ≡ text_takes vector (length bytes)
-numbers-take packs vector shape bytes start e p are some =
-    let w = element_width shape in
-    let ns = numbers_in w bytes in
-    let counted : 0 < length ns = pos-factor (bytes_for w) (length ns) (omega (arith, some, are.1)) in
-    ap (λ b. value_takes b vector (row_value shape ns start)) e ∙ row-taken vector start shape ns p counted ∙ row-own vector w (length ns) (length bytes) are.1
-
-pub bytes-take : (room : Room) (vector : Vector) (shape : Shape) (bytes : List ℕ) (start : ℕ) → AreBytes shape bytes start → MayKeep room shape → AreSome shape bytes →
-    value_takes (packs room) vector (bytes_value shape bytes start) ≡ text_takes vector (length bytes)
+bytes-take : (room : Room) (vector : Vector) (shape : Shape) (bytes : List ℕ) (start : ℕ) → AreBytes shape bytes start → MayKeep room shape → packs room ≡ false →
+    value_takes false vector (bytes_value shape bytes start) ≡ text_takes vector (length bytes)
 bytes-take room vector (Integer w g) bytes start h may some = absurd h
 bytes-take room vector (Offset w g u) bytes start h may some = absurd h
 bytes-take room vector Text bytes start h may some = text-own vector bytes
-bytes-take room vector (Integers w g) bytes start h may some = numbers-take (packs room) vector (Integers w g) bytes start may (h.0.some, h.0.most) h some
-bytes-take room vector (Offsets w g u) bytes start h may some = numbers-take (packs room) vector (Offsets w g u) bytes start may (h.0.0.some, h.0.0.most, h.1) h.0 some
+bytes-take room vector (Integers w g) bytes start h may none = cc
+bytes-take room vector (Offsets w g u) bytes start h may none = cc
+bytes-take room vector (Records stride size) bytes start h may none = absurd h
 bytes-take room vector Array bytes start h may some = absurd h
 bytes-take room vector (Struct t) bytes start h may some = absurd h
 bytes-take room vector (Union i t) bytes start h may some = absurd h
@@ -156,6 +149,8 @@ bytes-new : (shape : Shape) (bytes : List ℕ) (start : ℕ) (s : Slots) → IsS
     NewNode s (with_bytes shape bytes start s) (record { start = start; content = length s.texts; shape = shape })
 bytes-new shape bytes start s sound h = record {
   grows = record {
+    more_nodes = record { start = start; content = length s.texts; shape = shape } ∷ [];
+    nodes = refl;
     more_families = [];
     more_links = [];
     more_texts = (length s.bytes + length bytes) ∷ [];
@@ -169,6 +164,7 @@ bytes-new shape bytes start s sound h = record {
   is = record {
     content = bytes-content shape bytes start s sound h;
     below = bytes-links (with_bytes shape bytes start s) shape bytes start (length s.texts) (length s.nodes) h;
+    template = bytes-template (with_bytes shape bytes start s) (length s.nodes) shape bytes start (length s.texts) h;
   };
 }
 
@@ -187,5 +183,6 @@ bytes-adds room shape bytes start s sound are may some =
       };
       rest = bytes-rest shape bytes start s;
       stack = λ names. stack-last names s u n sound new refl ∙ ap (λ t. stack names s ++ Some t ∷ []) (bytes-tree names shape bytes start s (trees names s) sound are);
-      takes = λ names vector. omega (arith, bytes-marks vector shape bytes start s, bytes-take room vector shape bytes start are may some);
+      takes = λ none names vector. omega (arith, bytes-marks vector shape bytes start s, bytes-take room vector shape bytes start are may none);
+      bare = λ e. absurd (omega (arith, e, length_push s.nodes n));
     }

@@ -1,13 +1,9 @@
 -- What frames take of the vectors of a store, and what slots they fill.
-use Rattle.std.proofs.Common.{◌≡◌, ℕ, ◌+◌, ◌<◌, ◌≤◌, Bool, true, false, List, [], ◌∷◌, ◌++◌, Option, Some, None, length, refl, sym, ◌∙◌, ap, arith, zero-add}
-use Rattle.value_store.specs.declared.store.slots.Shape.{Shape}
-use Rattle.value_store.specs.declared.store.slots.Shape.TheVariants.{Integer, Offset, Text, Integers, Offsets, Array, Struct, Union}
+use Rattle.std.proofs.Common.{◌≡◌, ℕ, ◌+◌, ◌≤◌, Bool, false, List, [], ◌∷◌, ◌++◌, Option, Some, None, length, refl, sym, ◌∙◌, ap, arith, zero-add}
 use Rattle.pickle_meaning.specs.Room.{Slot, NodeSlot, LinkSlot, PendingSlot, ByteSlot, own_slots, value_slots, members_slots, place_slots, level_slots, slots}
 use Rattle.pickle_meaning.specs.Values.{Label, IntegerLabel, OffsetLabel, TextLabel, ArrayLabel, StructLabel, UnionLabel, Value, Mapped, Members, NoMembers, MemberThen, AbsentThen, Levels, gathered, pushed, member_count}
 use Rattle.value_store.specs.Levels.{extended}
-use Rattle.value_store.specs.Slots.{IsPacked, element_width, elements, row_value}
-use Rattle.value_store.specs.Takes.{Vector, NodesOf, FamiliesOf, LinksOf, PendingOf, TextsOf, BytesOf, row_width, packed_width, families_taken, texts_taken, own_takes, row_takes, kept_as, value_takes, members_take, place_takes, level_takes, levels_take}
-use Rattle.value_store.proofs.Lent.{length-elements}
+use Rattle.value_store.specs.Takes.{Vector, NodesOf, FamiliesOf, LinksOf, PendingOf, TextsOf, BytesOf, packed_width, families_taken, texts_taken, own_takes, kept_as, value_takes, members_take, place_takes, level_takes, levels_take}
 
 pub level_takes-append : (packs : Bool) (vector : Vector) (xs ys : List (Option Value)) → level_takes packs vector (xs ++ ys) ≡ level_takes packs vector xs + level_takes packs vector ys
 level_takes-append packs vector [] ys = sym (zero-add (level_takes packs vector ys))
@@ -55,23 +51,9 @@ level_pending packs [] = refl
 level_pending packs (None ∷ os) = omega (arith, level_pending packs os)
 level_pending packs (Some v ∷ os) = omega (arith, value_pending packs v, level_pending packs os)
 
--- a value has a node
-kept_some : (width : Option ℕ) (label : Label) (members : Members) (inside : ℕ) → 1 ≤ kept_as width NodesOf label members inside
-kept_some None label _ inside = omega arith
-kept_some (Some width) label _ inside = omega arith
-
-pub value_some : (packs : Bool) (v : Value) → 1 ≤ value_takes packs NodesOf v
-value_some packs (Mapped label start end members) = kept_some (packed_width packs label members) label members (members_take packs NodesOf members)
-
--- so a frame without nodes has no values
-pub none-first : (packs : Bool) (os : List (Option Value)) → level_takes packs NodesOf os ≡ 0 → row_width (gathered os) ≡ None
-none-first packs [] e = refl
-none-first packs (None ∷ os) e = refl
-none-first packs (Some v ∷ os) e = absurd (omega (arith, e, value_some packs v))
-
 -- where arrays of numbers aren't packed
 
-not_packed : (label : Label) (members : Members) → packed_width false label members ≡ None
+pub not_packed : (label : Label) (members : Members) → packed_width false label members ≡ None
 not_packed (IntegerLabel number type) _ = refl
 not_packed (OffsetLabel magnitude type unit) _ = refl
 not_packed (TextLabel bytes) _ = refl
@@ -176,23 +158,3 @@ taken-slots BytesOf ls = (ByteSlot, omega (arith, slots-taken ByteSlot ls))
 -- frames with one more value fill a place
 pub pushed-some : (ls : Levels) (v : Option Value) → 1 ≤ slots PendingSlot (pushed ls v)
 pushed-some ls v = omega (arith, slots-taken PendingSlot (pushed ls v), levels_take-pushed false PendingOf ls v, level_pending false (v ∷ []))
-
--- arrays of packed numbers
-
-module _ (vector : Vector) (start : ℕ) where
-  row-label : (shape : Shape) (n : ℕ) (ns : List ℕ) → IsPacked shape → row_width (gathered (elements shape start (n ∷ ns))) ≡ Some (element_width shape)
-  row-label (Integer w g) n ns p = absurd p
-  row-label (Offset w g u) n ns p = absurd p
-  row-label Text n ns p = absurd p
-  row-label (Integers w g) n ns p = refl
-  row-label (Offsets w g u) n ns p = refl
-  row-label Array n ns p = absurd p
-  row-label (Struct t) n ns p = absurd p
-  row-label (Union i t) n ns p = absurd p
-
-  pub row-taken : (shape : Shape) (ns : List ℕ) → IsPacked shape → 0 < length ns → value_takes true vector (row_value shape ns start) ≡ row_takes vector (element_width shape) (length ns)
-  row-taken shape [] p some = absurd (omega arith)
-  row-taken shape (n ∷ ns) p some =
-      let members = gathered (elements shape start (n ∷ ns)) in
-      ap (λ w. kept_as w vector ArrayLabel members (members_take true vector members)) (row-label shape n ns p)
-      ∙ ap (row_takes vector (element_width shape)) (member_count-of (elements shape start (n ∷ ns)) ∙ length-elements shape start (n ∷ ns))

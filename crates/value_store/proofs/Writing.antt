@@ -1,12 +1,12 @@
 -- Open values that are made of bytes: texts and arrays of packed numbers.
-use Rattle.std.proofs.Common.{◌≡◌, ℕ, ◌+◌, ◌-◌, ◌*◌, ◌<◌, List, [], ◌∷◌, ◌++◌, Some, Result, Ok, Err, OnOk, OnErr, length, take, refl, sym, ◌∙◌, ap, subst, arith, lit<}
+use Rattle.std.proofs.Common.{◌≡◌, ℕ, ◌+◌, ◌-◌, ◌*◌, ◌<◌, false, List, [], ◌∷◌, ◌++◌, Some, Result, Ok, Err, OnOk, OnErr, length, take, refl, sym, ◌∙◌, ap, subst, arith, lit<}
 use Rattle.std.specs.Prelude.{slice_set}
 use Rattle.std.proofs.Math.Seq.{take-length}
 use Rattle.std.proofs.lemmas.List.{append_assoc, length-append, length_push, length-set, take_at, take_more_set}
 use Rattle.value_store.specs.declared.store.slots.Marks.{Marks}
 use Rattle.value_store.specs.declared.store.slots.Node.{Node}
 use Rattle.value_store.specs.declared.store.slots.Shape.{Shape}
-use Rattle.value_store.specs.declared.store.slots.Shape.TheVariants.{Integer, Offset, Text, Integers, Offsets, Array, Struct, Union}
+use Rattle.value_store.specs.declared.store.slots.Shape.TheVariants.{Integer, Offset, Text, Integers, Offsets, Records, Array, Struct, Union}
 use Rattle.pickle_meaning.specs.Room.{Slot, slots}
 use Rattle.pickle_meaning.specs.Values.{Levels, opened, top_of, outer_of, pushed, text_value, text_level}
 use Rattle.value_store.specs.Filling.{closed_text, Writes, ShowsByte, CannotWrite, Settles, CannotCloseText}
@@ -15,7 +15,7 @@ use Rattle.value_store.specs.Keeping.{LacksRoom, LacksBytes, IsPushed, CannotPus
 use Rattle.value_store.specs.Levels.{extended}
 use Rattle.value_store.specs.Names.{Names}
 use Rattle.value_store.specs.Takes.{BytesOf, levels_take}
-use Rattle.value_store.specs.Slots.{Slots, Held, packs, levels, AreLevels, levels_at, Adds, IsShort, with_bytes, with_more, AreBytes, bytes_value, AreSome, MayKeep, written, HasNoNode, IsFilling, IsWriting, GoesOn, Regrown}
+use Rattle.value_store.specs.Slots.{Slots, Held, levels, AreLevels, levels_at, Adds, IsShort, with_bytes, with_more, AreBytes, bytes_value, AreSome, MayKeep, written, HasNoNode, IsFilling, IsWriting, GoesOn, Regrown}
 use Rattle.value_store.proofs.Counted.{levels-more, levels_at-more, levels-sound}
 use Rattle.value_store.proofs.PlacedBytes.{bytes-adds}
 use Rattle.value_store.proofs.Taken.{pushed-extended, slots-pushed, pushed-some}
@@ -41,7 +41,7 @@ module _ (h : Held) (shape : Shape) (bytes : List ℕ) (start : ℕ) (all : AreL
       overfilled names h (with_bytes shape bytes start h.slots) _ bytes-frames (bytes-levels names h.capacity) (pushed-some (levels names h) (Some (bytes_value shape bytes start))) lacks)
 
 -- the end of the last bytes, written again
-last-set : (ends : List ℕ) (end : ℕ) → 0 < length ends → slice_set ends (length ends - 1) end ≡ take (length ends - 1) ends ++ end ∷ []
+pub last-set : (ends : List ℕ) (end : ℕ) → 0 < length ends → slice_set ends (length ends - 1) end ≡ take (length ends - 1) ends ++ end ∷ []
 last-set ends end some =
     let last : (length ends - 1) + 1 ≡ length ends = omega arith in
     let all : length (slice_set ends (length ends - 1) end) ≡ (length ends - 1) + 1 = length-set ends (length ends - 1) end ∙ sym last in
@@ -68,6 +68,7 @@ some-bytes (Offset w g u) bytes some = tt
 some-bytes Text bytes some = tt
 some-bytes (Integers w g) bytes some = some
 some-bytes (Offsets w g u) bytes some = some
+some-bytes (Records stride size) bytes some = tt
 some-bytes Array bytes some = tt
 some-bytes (Struct t) bytes some = tt
 some-bytes (Union t i) bytes some = tt
@@ -211,8 +212,9 @@ module _ (names : Names) (h : Held) (byte : ℕ) (bytes : List ℕ) (start : ℕ
   pub stale-overfills : (HasNoNode h → ⊥) → LacksBytes h 1 → Exceeds h.room (text_level (bytes ++ byte ∷ []) start outer)
   stale-overfills n lacks =
       let is = writing-levels names h bytes start outer w (stale-some names h Text bytes start outer w n) in
-      let held = totals names h BytesOf (filling-all names h Text bytes start outer w) ∙ ap (levels_take (packs h.room) BytesOf) is in
-      overfills h (text_level (bytes ++ byte ∷ []) start outer) (omega arith) BytesOf lacks.0 (omega (arith, lacks.1, held, length_push bytes byte))
+      overfills h (text_level (bytes ++ byte ∷ []) start outer) (omega arith) BytesOf lacks.0 (λ none.
+      let held = totals names h BytesOf none (filling-all names h Text bytes start outer w) ∙ ap (levels_take false BytesOf) is in
+      omega (arith, lacks.1, held, length_push bytes byte))
 
 -- the closed text
 pub close-stale : (names : Names) (h : Held) (bytes : List ℕ) (start : ℕ) (outer : Levels) → IsWriting names h bytes start outer → (HasNoNode h → ⊥) → levels names h ≡ text_level bytes start outer

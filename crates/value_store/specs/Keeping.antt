@@ -1,12 +1,11 @@
 -- The frames that a store holds, and those that don't fit in it.
-use Rattle.std.specs.Prelude.{◌≡◌, ℕ, ◌+◌, ◌<◌, ◌≤◌, true, Option, None, length}
-use Rattle.value_store.specs.declared.store.slots.Shape.{Shape}
-use Rattle.pickle_meaning.specs.Values.{Label, Value, top_of, gathered, pushed}
+use Rattle.std.specs.Prelude.{◌≡◌, ℕ, ◌+◌, ◌<◌, ◌≤◌, Option, length}
+use Rattle.pickle_meaning.specs.Values.{Label, Value, pushed}
 use Rattle.value_store.specs.Closed.{closed, placed}
 use Rattle.value_store.specs.Exceeding.{Exceeds}
 use Rattle.value_store.specs.Names.{Names}
-use Rattle.value_store.specs.Takes.{Vector, of_vector, row_width, packed_width}
-use Rattle.value_store.specs.Slots.{Slots, Held, packs, levels, marks_of, composite_label}
+use Rattle.value_store.specs.Takes.{Vector, of_vector}
+use Rattle.value_store.specs.Slots.{Slots, Held, levels, marks_of}
 
 -- these slots take more of some vector than its capacity
 abbrev pub LacksRoom : Held → Slots → Type 0
@@ -35,11 +34,3 @@ IsClosed before after label start end = (names : Names) → levels names after �
 -- nor does the closed value
 abbrev pub CannotClose : Held → (Names → Label) → (start end : ℕ) → Type 0
 CannotClose before label start end = (names : Names) → Exceeds before.room (closed (label names) start end (levels names before))
-
--- the innermost value, closed as such a value, isn't stored as packed numbers
-abbrev pub KeepsMembers : Held → Shape → Type 0
-KeepsMembers h shape = (names : Names) → packed_width (packs h.room) (composite_label names shape) (gathered (top_of (levels names h))) ≡ None
-
--- closed as an array it isn't packed: where arrays of numbers are packed, its first member isn't a number
-abbrev pub StartsWithNoNumber : Held → Type 0
-StartsWithNoNumber h = packs h.room ≡ true → (names : Names) → row_width (gathered (top_of (levels names h))) ≡ None

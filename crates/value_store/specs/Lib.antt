@@ -5,6 +5,8 @@ pub mod Takes
 pub mod Moves
 pub mod Links
 pub mod Packed
+pub mod Records
+pub mod Columns
 pub mod Slots
 pub mod Names
 pub mod MemberNames
@@ -15,5 +17,7 @@ pub mod Owners
 pub mod Exceeding
 pub mod Keeping
 pub mod Filling
+pub mod Gathering
+pub mod PackedStructs
 pub mod Closed
 pub mod Integers

@@ -24,8 +24,17 @@ pub data Move : Type 0 where
   Ends : Move
   -- a number of so many bits is one more element of an array, where arrays of numbers are packed; else it is placed
   Packs : (width : ℕ) → Move
-  -- an array of numbers of so many bits is closed
-  ClosesRow : (width : ℕ) → Move
+  -- an array of packed numbers or structs is closed
+  ClosesRow : Move
+  -- the numbers of the innermost frame become the template of an array of packed structs, which takes their place
+  OpensRecords : Move
+  -- a struct of so many bytes is one more element of such an array
+  PacksRecord : (count : ℕ) → Move
+  -- such an array is one more member of the frame around it
+  ClosesRecords : Move
+  -- the members of the innermost frame, numbers of so many bytes in all, become one more struct of the array around them,
+  -- where such arrays are packed; else they become one value
+  PacksStruct : (stride : ℕ) → Move
 
 -- the lengths of the vectors, and what they were when each open value was opened, the innermost first
 pub record State : Type 0 where
@@ -47,7 +56,11 @@ with_text k bytes = record k { nodes = k.nodes + 1; pending = k.pending + 1; tex
 abbrev pub with_links : (k n : Marks) → Marks
 with_links k n = record n { nodes = n.nodes + 1; families = n.families + 1; links = n.links + (n.pending - k.pending); pending = k.pending + 1 }
 
--- an array of numbers that has none is a family
+-- the same for the template of an array of packed structs, which has a node and a text
+abbrev pub with_template : (k n : Marks) → Marks
+with_template k n = record n { nodes = n.nodes + 2; families = n.families + 1; links = n.links + (n.pending - k.pending); pending = k.pending + 1; texts = n.texts + 1 }
+
+-- an array that has no element is a family
 abbrev pub with_row : (packs : Bool) → (k n : Marks) → Marks
 with_row true k n = if nat_eq n.nodes k.nodes then with_links k n else n
 with_row false k n = with_links k n
@@ -55,6 +68,21 @@ with_row false k n = with_links k n
 abbrev pub packed_now : (packs : Bool) → (width : ℕ) → (k n : Marks) → Marks
 packed_now true width k n = with_text k (n.bytes + bytes_for width)
 packed_now false width k n = with_number n
+
+-- the array that began at k has the bytes of its first struct, of so many numbers, and a template
+abbrev pub with_structs : (columns stride : ℕ) → (k : Marks) → Marks
+with_structs columns stride k = record {
+  nodes = k.nodes + (columns + 2);
+  families = k.families + 1;
+  links = k.links + columns;
+  pending = k.pending + 1;
+  texts = k.texts + 1;
+  bytes = k.bytes + stride;
+}
+
+-- one more struct, whose frame began at `own`, of an array that began at k
+abbrev pub with_struct : (stride : ℕ) → (k own n : Marks) → Marks
+with_struct stride k own n = if nat_eq own.nodes k.nodes then with_structs (n.pending - own.pending) stride k else record own { bytes = own.bytes + stride }
 
 -- what the innermost frame had is now its one member
 abbrev pub joined : State → State
@@ -70,6 +98,10 @@ settled_row packs s = record { now = with_row packs (innermost s.frames) s.now; 
 abbrev pub lifted : State → State
 lifted s = record { now = s.now; frames = around s.frames }
 
+abbrev pub packed_struct : (packs : Bool) → (stride : ℕ) → State → State
+packed_struct true stride s = record { now = with_struct stride (innermost (around s.frames)) (innermost s.frames) s.now; frames = around s.frames }
+packed_struct false stride s = lifted (joined s)
+
 abbrev pub moved : (packs : Bool) → Move → State → State
 moved packs Opens s = record { now = s.now; frames = s.now ∷ s.frames }
 moved packs Drops s = record { now = innermost s.frames; frames = around s.frames }
@@ -80,7 +112,11 @@ moved packs Closes s = lifted (joined s)
 moved packs Writes s = record { now = with_text (innermost s.frames) (s.now.bytes + 1); frames = s.frames }
 moved packs Ends s = lifted (settled s)
 moved packs (Packs width) s = record { now = packed_now packs width (innermost s.frames) s.now; frames = s.frames }
-moved packs (ClosesRow width) s = lifted (settled_row packs s)
+moved packs ClosesRow s = lifted (settled_row packs s)
+moved packs OpensRecords s = record { now = with_template (innermost s.frames) s.now; frames = s.frames }
+moved packs (PacksRecord count) s = record { now = record s.now { bytes = s.now.bytes + count }; frames = s.frames }
+moved packs ClosesRecords s = lifted s
+moved packs (PacksStruct stride) s = packed_struct packs stride s
 
 -- a call makes this move
 abbrev pub Moves : (before after : Held) → Move → Type 0

@@ -1,5 +1,5 @@
 -- The entries of a store's vectors, and the values that they hold.
-use Rattle.std.specs.Prelude.{◌≡◌, ℕ, zero, suc, ◌+◌, ◌-◌, ◌*◌, ◌^◌, ◌<◌, ◌≤◌, ℤ, pos, Bool, true, false, List, [], ◌∷◌, ◌++◌, Option, Some, None, length, take, drop, map, slice_get, slice_index, slice_index_or, unwrap_or, IfSome, All, FitsSigned}
+use Rattle.std.specs.Prelude.{◌≡◌, ℕ, zero, suc, ◌+◌, ◌-◌, ◌*◌, ◌/◌, ◌^◌, ◌<◌, ◌≤◌, ℤ, pos, Bool, true, false, List, [], ◌∷◌, ◌++◌, Option, Some, None, length, take, drop, map, slice_get, slice_index, slice_index_or, All, FitsSigned}
 use Rattle.std.specs.Int.{cast_signed, w64, FitsUnsigned}
 use Rattle.value_store.specs.declared.store.room.Growth.{Growth}
 use Rattle.value_store.specs.declared.store.room.Growth.TheVariants.{Free, Never}
@@ -8,10 +8,11 @@ use Rattle.value_store.specs.declared.store.slots.Node.{Node}
 use Rattle.value_store.specs.declared.store.slots.Family.{Family}
 use Rattle.value_store.specs.declared.store.slots.Marks.{Marks}
 use Rattle.value_store.specs.declared.store.slots.Shape.{Shape}
-use Rattle.value_store.specs.declared.store.slots.Shape.TheVariants.{Integer, Offset, Text, Integers, Offsets, Array, Struct, Union}
+use Rattle.value_store.specs.declared.store.slots.Shape.TheVariants.{Integer, Offset, Text, Integers, Offsets, Records, Array, Struct, Union}
 use Rattle.pickle_types.specs.declared.integer.IntegerType.{IntegerType}
 use Rattle.pickle_meaning.specs.Arithmetic.{with_sign}
-use Rattle.value_store.specs.Packed.{bytes_for, packed, numbers_in}
+use Rattle.value_store.specs.Packed.{bytes_for, bytes_number, packed, numbers_in}
+use Rattle.value_store.specs.Records.{records}
 use Rattle.value_store.specs.Names.{Names, title_at, names_at, name_at}
 use Rattle.pickle_meaning.specs.Values.{Label, IntegerLabel, OffsetLabel, TextLabel, ArrayLabel, StructLabel, UnionLabel, Value, Mapped, NoMembers, Levels, label_of, start_of, end_of, members_of, gathered, text_value}
 use Rattle.value_store.specs.Takes.{Vector, of_vector, level_takes}
@@ -66,6 +67,10 @@ emptied h = empty h.room h.capacity
 abbrev pub Regrown : (before after : Held) → Type 0
 Regrown before after = after ≡ record before { capacity = after.capacity }
 
+-- the same store with these slots
+abbrev pub HasSlots : (before after : Held) → Slots → Type 0
+HasSlots before after slots = Regrown (record before { slots = slots }) after
+
 -- the store was made with the same slots, and no vector has less capacity than before
 pub record KeepsRoom (before after : Held) : Type 0 where
   pub room : after.room ≡ before.room
@@ -112,6 +117,10 @@ text_bytes es bs k = part (first_byte es k) (slice_index es k - first_byte es k)
 abbrev pub row_numbers : Slots → (width : ℕ) → ℕ → List ℕ
 row_numbers s width c = numbers_in width (text_bytes s.texts s.bytes c)
 
+-- how many packed structs of `stride` bytes each are among the bytes of a row
+abbrev pub record_count : Slots → (stride : ℕ) → ℕ → ℕ
+record_count s stride c = length (text_bytes s.texts s.bytes c) / stride
+
 -- an array of packed numbers, one after the other
 abbrev pub IsPacked : Shape → Type 0
 IsPacked (Integer w g) = ⊥
@@ -119,6 +128,7 @@ IsPacked (Offset w g u) = ⊥
 IsPacked Text = ⊥
 IsPacked (Integers w g) = (1 ≤ w) × (w ≤ 64)
 IsPacked (Offsets w g u) = (1 ≤ w) × (w ≤ 64) × (1 ≤ u)
+IsPacked (Records stride size) = ⊥
 IsPacked Array = ⊥
 IsPacked (Struct t) = ⊥
 IsPacked (Union t i) = ⊥
@@ -130,6 +140,7 @@ element_width (Offset w g u) = 0
 element_width Text = 0
 element_width (Integers w g) = w
 element_width (Offsets w g u) = w
+element_width (Records stride size) = 0
 element_width Array = 0
 element_width (Struct t) = 0
 element_width (Union t i) = 0
@@ -145,6 +156,7 @@ element_value (Offset w g u) start n = no_value
 element_value Text start n = no_value
 element_value (Integers w g) start n = let type : IntegerType = record { width = w; signed = g } in Mapped (IntegerLabel (with_sign type n) type) start (start + w) NoMembers
 element_value (Offsets w g u) start n = let type : IntegerType = record { width = w; signed = g } in Mapped (OffsetLabel (with_sign type n) type u) start (start + w) NoMembers
+element_value (Records stride size) start n = no_value
 element_value Array start n = no_value
 element_value (Struct t) start n = no_value
 element_value (Union t i) start n = no_value
@@ -169,6 +181,7 @@ label_in names s (Offset w g u) c = OffsetLabel (number_in g c) (record { width 
 label_in names s Text c = TextLabel (text_bytes s.texts s.bytes c)
 label_in names s (Integers w g) c = ArrayLabel
 label_in names s (Offsets w g u) c = ArrayLabel
+label_in names s (Records stride size) c = ArrayLabel
 label_in names s Array c = ArrayLabel
 label_in names s (Struct of) c = StructLabel (title_at names of) (names_at names of)
 label_in names s (Union taken of) c = UnionLabel (title_at names of) taken (name_at names of taken)
@@ -179,6 +192,7 @@ size_in s (Offset w g u) c = w
 size_in s Text c = 8 * (slice_index s.texts c - first_byte s.texts c + 1)
 size_in s (Integers w g) c = w * length (row_numbers s w c)
 size_in s (Offsets w g u) c = w * length (row_numbers s w c)
+size_in s (Records stride size) c = size * record_count s stride c
 size_in s Array c = (family_at s.families c).size
 size_in s (Struct t) c = (family_at s.families c).size
 size_in s (Union t i) c = (family_at s.families c).size
@@ -189,6 +203,7 @@ links_of s (Offset w g u) c = []
 links_of s Text c = []
 links_of s (Integers w g) c = []
 links_of s (Offsets w g u) c = []
+links_of s (Records stride size) c = []
 links_of s Array c = family_links s.families s.links c
 links_of s (Struct t) c = family_links s.families s.links c
 links_of s (Union t i) c = family_links s.families s.links c
@@ -200,6 +215,7 @@ IsComposite (Offset w g u) = ⊥
 IsComposite Text = ⊥
 IsComposite (Integers w g) = ⊥
 IsComposite (Offsets w g u) = ⊥
+IsComposite (Records stride size) = ⊥
 IsComposite Array = Unit {0}
 IsComposite (Struct t) = Unit {0}
 IsComposite (Union t i) = Unit {0}
@@ -210,6 +226,7 @@ composite_label names (Offset w g u) = ArrayLabel
 composite_label names Text = ArrayLabel
 composite_label names (Integers w g) = ArrayLabel
 composite_label names (Offsets w g u) = ArrayLabel
+composite_label names (Records stride size) = ArrayLabel
 composite_label names Array = ArrayLabel
 composite_label names (Struct of) = StructLabel (title_at names of) (names_at names of)
 composite_label names (Union taken of) = UnionLabel (title_at names of) taken (name_at names of taken)
@@ -221,6 +238,7 @@ IsNumber (Offset w g u) = (1 ≤ w) × (w ≤ 64) × (1 ≤ u)
 IsNumber Text = ⊥
 IsNumber (Integers w g) = ⊥
 IsNumber (Offsets w g u) = ⊥
+IsNumber (Records stride size) = ⊥
 IsNumber Array = ⊥
 IsNumber (Struct t) = ⊥
 IsNumber (Union t i) = ⊥
@@ -231,6 +249,7 @@ number_value (Offset w g u) start c = Mapped (OffsetLabel (number_in g c) (recor
 number_value Text start c = no_value
 number_value (Integers w g) start c = no_value
 number_value (Offsets w g u) start c = no_value
+number_value (Records stride size) start c = no_value
 number_value Array start c = no_value
 number_value (Struct t) start c = no_value
 number_value (Union t i) start c = no_value
@@ -240,13 +259,19 @@ abbrev pub opened : List Value → Option ℕ → Option Value
 opened ts None = None
 opened ts (Some i) = slice_get ts i
 
--- the parts of a value from its start on, among these values: packed numbers, or the values that its links refer to
+-- the last of some values
+abbrev pub last_of : List Value → Value
+last_of ts = slice_index_or ts (length ts - 1) no_value
+
+-- The parts of a value from its start on, among the values before it: packed numbers, packed structs like the last
+-- value, or the values that its links refer to.
 abbrev pub parts_in : Slots → List Value → Shape → (start content : ℕ) → List (Option Value)
 parts_in s ts (Integer w g) start c = []
 parts_in s ts (Offset w g u) start c = []
 parts_in s ts Text start c = []
 parts_in s ts (Integers w g) start c = elements (Integers w g) start (row_numbers s w c)
 parts_in s ts (Offsets w g u) start c = elements (Offsets w g u) start (row_numbers s w c)
+parts_in s ts (Records stride size) start c = records (last_of ts) size stride 0 (record_count s stride c) (text_bytes s.texts s.bytes c)
 parts_in s ts Array start c = map (opened ts) (family_links s.families s.links c)
 parts_in s ts (Struct t) start c = map (opened ts) (family_links s.families s.links c)
 parts_in s ts (Union t i) start c = map (opened ts) (family_links s.families s.links c)
@@ -304,19 +329,73 @@ pub record AreNumbers (width : ℕ) (numbers : List ℕ) (start : ℕ) : Type 0 
   pub short : start + width * length numbers < 2 ^ 64
   pub below : All (λ n. n < 2 ^ width) numbers
 
+-- packed structs of `size` bits and `stride` bytes each, from the bit `start` on; they end before the bit 2 ^ 64
+pub record AreRecords (size stride : ℕ) (bytes : List ℕ) (start : ℕ) : Type 0 where
+  pub some : 1 ≤ stride
+  pub whole : stride * (length bytes / stride) ≡ length bytes
+  pub short : start + size * (length bytes / stride) < 2 ^ 64
+
 abbrev pub IsContent : Slots → Shape → (start content : ℕ) → Type 0
 IsContent s (Integer w g) start c = IsNumber (Integer w g)
 IsContent s (Offset w g u) start c = IsNumber (Offset w g u)
 IsContent s Text start c = IsTextRow s c
 IsContent s (Integers w g) start c = IsByteRow s c × AreNumbers w (row_numbers s w c) start
 IsContent s (Offsets w g u) start c = IsByteRow s c × (AreNumbers w (row_numbers s w c) start × (1 ≤ u))
+IsContent s (Records stride size) start c = IsByteRow s c × AreRecords size stride (text_bytes s.texts s.bytes c) start
 IsContent s Array start c = IsFamily s c
 IsContent s (Struct t) start c = IsFamily s c
 IsContent s (Union t i) start c = IsFamily s c
 
+-- the width of a number in bits
+abbrev pub number_bits : Shape → ℕ
+number_bits (Integer w g) = w
+number_bits (Offset w g u) = w
+number_bits Text = 0
+number_bits (Integers w g) = 0
+number_bits (Offsets w g u) = 0
+number_bits (Records stride size) = 0
+number_bits Array = 0
+number_bits (Struct t) = 0
+number_bits (Union t i) = 0
+
+-- The node of a number that each of some packed structs has: its content is the place of the number's bytes among those
+-- of a struct, and its start is that of the first struct's number.
+pub record IsColumn (s : Slots) (size stride at start : ℕ) (bytes : List ℕ) (j : ℕ) : Type 0 where
+  pub node : Node
+  pub found : slice_get s.nodes j ≡ Some node
+  pub number : IsNumber node.shape
+  pub place : node.content ≡ at
+  pub within : node.start + number_bits node.shape ≤ start + size
+  pub below : (i : ℕ) → i < length bytes / stride → bytes_number (part (stride * i + at) (bytes_for (number_bits node.shape)) bytes) < 2 ^ number_bits node.shape
+
+-- the numbers of packed structs, whose bytes are side by side from `at` on
+abbrev pub AreColumns : Slots → (size stride at start : ℕ) → (bytes : List ℕ) → (links : List (Option ℕ)) → Type 0
+AreColumns s size stride at start bytes [] = at ≡ stride
+AreColumns s size stride at start bytes (None ∷ ls) = ⊥
+AreColumns s size stride at start bytes (Some j ∷ ls) =
+    (column : IsColumn s size stride at start bytes j) × AreColumns s size stride (at + bytes_for (number_bits column.node.shape)) start bytes ls
+
+-- the node right before an array of packed structs is the first of them, but for its numbers
+pub record IsTemplate (s : Slots) (i size stride start : ℕ) (bytes : List ℕ) : Type 0 where
+  pub some : 1 ≤ i
+  pub node : Node
+  pub found : slice_get s.nodes (i - 1) ≡ Some node
+  pub type : ℕ
+  pub shape : node.shape ≡ Struct type
+  pub begins : node.start ≡ start
+  pub family : IsFamily s node.content
+  pub sized : (family_at s.families node.content).size ≡ size
+  pub columns : AreColumns s size stride 0 start bytes (family_links s.families s.links node.content)
+
+-- an array of packed structs has a template
+abbrev pub HasTemplate : Slots → (i : ℕ) → Shape → (start content : ℕ) → Type 0
+HasTemplate s i (Records stride size) start c = IsTemplate s i size stride start (text_bytes s.texts s.bytes c)
+HasTemplate s i shape start c = Unit {0}
+
 pub record IsNodeAt (s : Slots) (i : ℕ) (n : Node) : Type 0 where
   pub content : IsContent s n.shape n.start n.content
   pub below : LinksBelow i (links_of s n.shape n.content)
+  pub template : HasTemplate s i n.shape n.start n.content
 
 abbrev pub AreNodesFrom : Slots → ℕ → List Node → Type 0
 AreNodesFrom s i [] = Unit {0}
@@ -365,10 +444,18 @@ pub record IsWithin (k : Marks) (s : Slots) : Type 0 where
 abbrev pub level_of : Names → Marks → Slots → List (Option Value)
 level_of names k s = drop k.pending (stack names s)
 
--- each vector has after some marks just what the parts of the open value take
+-- where there are no nodes after some marks, there are no families, links, texts and bytes
+pub record HasNoRows (k : Marks) (s : Slots) : Type 0 where
+  pub families : length s.families ≡ k.families
+  pub links : length s.links ≡ k.links
+  pub texts : length s.texts ≡ k.texts
+  pub bytes : length s.bytes ≡ k.bytes
+
+-- where nothing is packed, each vector has after some marks just what the parts of the open value take
 pub record IsLevel (room : Room) (k : Marks) (s : Slots) : Type 0 where
   pub within : IsWithin k s
-  pub takes : (names : Names) (vector : Vector) → of_vector vector (marks_of s) ≡ of_vector vector k + level_takes (packs room) vector (level_of names k s)
+  pub takes : packs room ≡ false → (names : Names) (vector : Vector) → of_vector vector (marks_of s) ≡ of_vector vector k + level_takes false vector (level_of names k s)
+  pub bare : length s.nodes ≡ k.nodes → HasNoRows k s
 
 abbrev pub innermost : List Marks → Marks
 innermost [] = root_marks
@@ -390,12 +477,13 @@ levels names h = levels_at names h.frames h.slots
 abbrev pub level_count : Held → ℕ
 level_count h = 1 + length h.frames
 
--- u is s with these values pushed, and each vector has just what they take more
+-- u is s with these values pushed; where nothing is packed, each vector has just what they take more
 pub record Adds (room : Room) (s u : Slots) (vs : Names → List (Option Value)) : Type 0 where
   pub sound : IsSound u
   pub rest : cut_to (marks_of s) u ≡ s
   pub stack : (names : Names) → stack names u ≡ stack names s ++ vs names
-  pub takes : (names : Names) (vector : Vector) → of_vector vector (marks_of u) ≡ of_vector vector (marks_of s) + level_takes (packs room) vector (vs names)
+  pub takes : packs room ≡ false → (names : Names) (vector : Vector) → of_vector vector (marks_of u) ≡ of_vector vector (marks_of s) + level_takes false vector (vs names)
+  pub bare : length u.nodes ≡ length s.nodes → HasNoRows (marks_of s) u
 
 -- a new node without children
 abbrev pub with_leaf : Shape → ℕ → ℕ → Slots → Slots
@@ -456,6 +544,7 @@ AreBytes (Offset w g u) bytes start = ⊥
 AreBytes Text bytes start = IsShort (length bytes)
 AreBytes (Integers w g) bytes start = AreNumberBytes w bytes start
 AreBytes (Offsets w g u) bytes start = AreNumberBytes w bytes start × (1 ≤ u)
+AreBytes (Records stride size) bytes start = ⊥
 AreBytes Array bytes start = ⊥
 AreBytes (Struct t) bytes start = ⊥
 AreBytes (Union t i) bytes start = ⊥
@@ -467,6 +556,7 @@ bytes_value (Offset w g u) bytes start = no_value
 bytes_value Text bytes start = text_value bytes start (start + 8 * (length bytes + 1))
 bytes_value (Integers w g) bytes start = row_value (Integers w g) (numbers_in w bytes) start
 bytes_value (Offsets w g u) bytes start = row_value (Offsets w g u) (numbers_in w bytes) start
+bytes_value (Records stride size) bytes start = no_value
 bytes_value Array bytes start = no_value
 bytes_value (Struct t) bytes start = no_value
 bytes_value (Union t i) bytes start = no_value
@@ -478,14 +568,16 @@ AreSome (Offset w g u) bytes = Unit {0}
 AreSome Text bytes = Unit {0}
 AreSome (Integers w g) bytes = 0 < length bytes
 AreSome (Offsets w g u) bytes = 0 < length bytes
+AreSome (Records stride size) bytes = Unit {0}
 AreSome Array bytes = Unit {0}
 AreSome (Struct t) bytes = Unit {0}
 AreSome (Union t i) bytes = Unit {0}
 
--- numbers are packed only where slots aren't counted
+-- numbers and structs of them are packed only where slots aren't counted
 abbrev pub MayKeep : Room → Shape → Type 0
 MayKeep room (Integers w g) = packs room ≡ true
 MayKeep room (Offsets w g u) = packs room ≡ true
+MayKeep room (Records stride size) = packs room ≡ true
 MayKeep room shape = Unit {0}
 
 -- a store whose innermost open value had no parts, after these bytes of a text or of packed numbers
@@ -596,9 +688,9 @@ pub record IsRead (s : Slots) (i : ℕ) (n : Node) : Type 0 where
   pub label : (names : Names) → label_of (value_at names s i) ≡ label_in names s n.shape n.content
   pub start : (names : Names) → start_of (value_at names s i) ≡ n.start
   pub end : (names : Names) → end_of (value_at names s i) ≡ n.start + size_in s n.shape n.content
-  pub members : (names : Names) → members_of (value_at names s i) ≡ gathered (parts_in s (trees names s) n.shape n.start n.content)
+  pub members : (names : Names) → members_of (value_at names s i) ≡ gathered (parts_in s (take i (trees names s)) n.shape n.start n.content)
   pub content : IsContent s n.shape n.start n.content
-  pub below : (k : ℕ) → IfSome (unwrap_or (slice_get (links_of s n.shape n.content) k) None) (λ j. j < i)
+  pub sound : IsSound s
 
 -- the marks of a frame, counted from the innermost; those of the whole come last
 abbrev pub marks_at : List Marks → ℕ → Marks

@@ -1,13 +1,13 @@
 //! References to values without the names of their types.
 
-ghost use Rattle.std.specs.Prelude.{◌≡◌, ℕ, ◌+◌, ◌<◌, Some, IfSome};
+ghost use Rattle.std.specs.Prelude.{◌≡◌, ℕ, ◌+◌, ◌<◌, length, Some, IfSome};
 ghost use Rattle.std.specs.Option.{option_map};
 ghost use Rattle.pickle_types.specs.Sound.{IsSmall};
 ghost use Rattle.pickle_meaning.specs.Values.{label_of, start_of, end_of, members_of, member_count, member_at};
 ghost use Rattle.value_store.specs.Integers.{AreIntegersOf, AreBytesOf};
 ghost use Rattle.value_store.specs.Labels.{kind_of, number_of, signed_of, width_of, unit_of, bytes_of, taken_of, name_of};
 ghost use Rattle.value_store.specs.Names.{Names, NamesMembers, title_found};
-ghost use Rattle.value_store.specs.Lent.{place_value, place_links, place_packed, place_rank, IsPlace, IsShapeOf};
+ghost use Rattle.value_store.specs.Lent.{place_value, place_links, place_packed, packed_place, place_rank, IsPlace, IsShapeOf};
 ghost use Rattle.value_store.specs.Scalars.{scalar_label, scalar_in, IsScalar};
 ghost use Rattle.value_store.specs.Slots.{number_in};
 
@@ -47,8 +47,8 @@ impl<'a> StoredValue<'a> {
         StoredValue { store, place }
     }
 
-    // The shape of the value: that of its node, or an integer or offset where it is a packed number. No number is read
-    // for it.
+    // The shape of the value: that of its node, of its array's template, or an integer or offset where it is a packed
+    // number. No number is read for it.
     #[inline(always)]
     fn shape(&self) -> Shape
         ensures { IsShapeOf result (λ names. value_of names self.now) }
@@ -56,6 +56,12 @@ impl<'a> StoredValue<'a> {
         match self.place {
             Place::Node(at) => self.store.node_at(at).shape,
             Place::Element { array, index } => self.store.element_shape(array, index),
+            Place::Record { array, index } => self.store.record_shape(array, index),
+            Place::Field {
+                array,
+                index,
+                field,
+            } => self.store.field_shape(array, index, field),
         }
     }
 
@@ -66,7 +72,8 @@ impl<'a> StoredValue<'a> {
             Shape::Integer { .. } => Kind::Integer,
             Shape::Offset { .. } => Kind::Offset,
             Shape::Text => Kind::Text,
-            Shape::Integers { .. } | Shape::Offsets { .. } | Shape::Array => Kind::Array,
+            Shape::Integers { .. } | Shape::Offsets { .. } => Kind::Array,
+            Shape::Records { .. } | Shape::Array => Kind::Array,
             Shape::Struct { .. } => Kind::Struct,
             Shape::Union { .. } => Kind::Union,
         }
@@ -82,6 +89,18 @@ impl<'a> StoredValue<'a> {
                 let node = self.store.node_at(array);
                 node.start + u64::from(node.shape.element_width()) * index as u64
             }
+            Place::Record { array, index } => {
+                let node = self.store.node_at(array);
+                node.start + u64::from(node.shape.record_size()) * index as u64
+            }
+            Place::Field {
+                array,
+                index,
+                field,
+            } => {
+                let size = self.store.node_at(array).shape.record_size();
+                self.store.column(array, index, field).start + u64::from(size) * index as u64
+            }
         }
     }
 
@@ -94,6 +113,16 @@ impl<'a> StoredValue<'a> {
             Place::Element { array, .. } => {
                 return u64::from(self.store.node_at(array).shape.element_width());
             }
+            Place::Record { array, .. } => {
+                return u64::from(self.store.node_at(array).shape.record_size());
+            }
+            Place::Field {
+                array,
+                index,
+                field,
+            } => {
+                return u64::from(self.store.column(array, index, field).shape.number_bits());
+            }
         };
         let node = self.store.node_at(at);
         let row = node.content as usize;
@@ -102,6 +131,9 @@ impl<'a> StoredValue<'a> {
             Shape::Text => 8 * (self.store.text(row).len() as u64 + 1),
             Shape::Integers { width, .. } | Shape::Offsets { width, .. } => {
                 u64::from(width) * self.store.count_packed(width, row) as u64
+            }
+            Shape::Records { stride, size } => {
+                u64::from(size) * self.store.count_records(stride, row) as u64
             }
             Shape::Array | Shape::Struct { .. } | Shape::Union { .. } => self
                 .store
@@ -120,6 +152,16 @@ impl<'a> StoredValue<'a> {
         match self.place {
             Place::Node(at) => number_from(signed, self.store.node_at(at).content),
             Place::Element { array, index } => self.store.element_number(array, index),
+            Place::Field {
+                array,
+                index,
+                field,
+            } => self.store.field_number(array, index, field),
+            // A struct has no number. The call only proves it.
+            Place::Record { array, .. } => {
+                let _array = self.store.node_at(array);
+                0
+            }
         }
     }
 
@@ -191,6 +233,7 @@ impl<'a> StoredValue<'a> {
     pub fn bytes(&self) -> &'a [u8]
         ensures { (names : Names) → result.now ≡ bytes_of (label_of (value_of names self.now)) }
     {
+        let _node = self.store.node_at(self.array());
         let Place::Node(at) = self.place else {
             return &[];
         };
@@ -263,19 +306,62 @@ impl<'a> StoredValue<'a> {
         }
     }
 
-    /// The number of parts that are packed numbers, to walk over them.
+    /// The number of parts that are packed numbers or structs, to walk over them.
     pub(crate) fn packed(&self) -> usize
         ensures { result ≡ place_packed self.now.store.now.slots self.now.place }
     {
-        let Place::Node(at) = self.place else {
-            return 0;
+        let at = match self.place {
+            Place::Node(at) => at,
+            Place::Record { array, .. } => return self.store.columns(array).len(),
+            Place::Element { .. } | Place::Field { .. } => return 0,
         };
         let node = self.store.node_at(at);
         match node.shape {
             Shape::Integers { width, .. } | Shape::Offsets { width, .. } => {
                 self.store.count_packed(width, node.content as usize)
             }
+            Shape::Records { stride, .. } => {
+                self.store.count_records(stride, node.content as usize)
+            }
             _ => 0,
+        }
+    }
+
+    // The place of a part that is packed.
+    #[inline(always)]
+    fn packed_place(&self, i: usize) -> Place
+        ensures { result ≡ packed_place self.now.store.now.slots self.now.place i }
+    {
+        match self.place {
+            Place::Node(at) => match self.store.node_at(at).shape {
+                Shape::Records { .. } => Place::Record {
+                    array: at,
+                    index: i,
+                },
+                _ => Place::Element {
+                    array: at,
+                    index: i,
+                },
+            },
+            Place::Record { array, index } => Place::Field {
+                array,
+                index,
+                field: i,
+            },
+            Place::Element { .. } | Place::Field { .. } => self.place,
+        }
+    }
+
+    // The node of the value, or of the array that it is packed in.
+    #[inline(always)]
+    fn array(&self) -> usize
+        ensures { result < length self.now.store.now.slots.nodes }
+    {
+        match self.place {
+            Place::Node(at) => at,
+            Place::Element { array, .. }
+            | Place::Record { array, .. }
+            | Place::Field { array, .. } => array,
         }
     }
 
@@ -286,11 +372,8 @@ impl<'a> StoredValue<'a> {
         requires packed { packed ≡ place_packed self.now.store.now.slots self.now.place }
         ensures { (names : Names) → result ≡ member_count (members_of (value_of names self.now)) }
     {
-        let Place::Node(at) = self.place else {
-            return 0;
-        };
         // Nothing of the node is read at run time. The call only proves that these are its parts.
-        let _node = self.store.node_at(at);
+        let _node = self.store.node_at(self.array());
         if packed > 0 { packed } else { links.len() }
     }
 
@@ -302,18 +385,11 @@ impl<'a> StoredValue<'a> {
         ensures part { (names : Names) → option_map (value_of names) result ≡ member_at (members_of (value_of names self.now)) i }
         ensures below { IfSome result (λ c. place_rank c.place < place_rank self.now.place) }
     {
-        let Place::Node(at) = self.place else {
-            return None;
-        };
-        let _node = self.store.node_at(at);
+        let _node = self.store.node_at(self.array());
         if i < packed {
-            let place = Place::Element {
-                array: at,
-                index: i,
-            };
             return Some(StoredValue {
                 store: self.store,
-                place,
+                place: self.packed_place(i),
             });
         }
         match links.get(i) {

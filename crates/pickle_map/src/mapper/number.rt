@@ -1,17 +1,21 @@
 //! Types that are read as one number: integers, offsets and integral structs.
 
-ghost use Rattle.std.specs.Prelude.{◌≡◌, List, ◌+◌, ◌*◌, ◌<◌, ◌≤◌, ◌^◌, Some, map, length, All, IfOk};
+ghost use Rattle.std.specs.Prelude.{◌≡◌, List, ◌+◌, ◌*◌, ◌<◌, ◌≤◌, ◌^◌, Some, map, length, All, IfOk, OnOk};
 ghost use Rattle.pickle_types.specs.declared.node.Node.{Node as TableNode};
 ghost use Rattle.pickle_types.specs.Types.{IntegerOf, OffsetOf, depth};
 ghost use Rattle.pickle_types.specs.Table.{IsTable, type_of, IsWidth};
 ghost use Rattle.pickle_map.specs.AtWork.{Frame, WorkFrame, AddsToLevel, LevelStays, LeavesLevel};
 ghost use Rattle.pickle_map.specs.AtWork.{Maps, Places, PlacesLevel, PlacesPart, PlacesFields};
-ghost use Rattle.pickle_map.specs.Calls.{as_integer, as_number, integral_at};
+ghost use Rattle.pickle_map.specs.Columns.{PlacesMore};
+ghost use Rattle.pickle_map.specs.Calls.{as_integer, as_offset, as_number, integral_at};
+ghost use Rattle.pickle_meaning.specs.Means.{integer_value, offset_value};
+ghost use Rattle.value_store.specs.Keeping.{IsPushed};
 ghost use Rattle.pickle_map.specs.Framed.{IsEnd};
 ghost use Rattle.pickle_map.specs.Mappable.{IsPartOf};
 ghost use Rattle.pickle_meaning.specs.Means.{first_digits, number_type, width_in};
+ghost use Rattle.value_store.specs.Moves.{Moves, Places as PlacesNumber};
 ghost use Rattle.value_store.specs.Names.{names_at, part_name};
-ghost use Rattle.value_store.specs.Slots.{level_count};
+ghost use Rattle.value_store.specs.Slots.{level_count, HoldsInRoom};
 
 use crate::mapper::blame::check;
 use crate::mapper::level::leave_level;
@@ -104,12 +108,21 @@ impl<W: Watch> Mapper<'_, W> {
 
     /// Stores an integer.
     #[inline(always)]
-    fn place_integer(&mut self, number: IntegerType, digits: u64, start: u64) -> Result<(), Stop>
+    pub(crate) fn place_integer(
+        &mut self,
+        number: IntegerType,
+        digits: u64,
+        start: u64,
+    ) -> Result<(), Stop>
         requires width { IsWidth number }
         requires digits { digits < 2 ^ number.width }
         requires free { self.old.meter.now.made < self.old.meter.now.steps }
         ensures frame { WorkFrame self.old self.new 1 result }
         ensures is { Places self.old self.new (IntegerOf number) digits start result }
+        ensures more { PlacesMore self.old.store.now self.new.store.now }
+        ensures adds { OnOk result (IsPushed self.old.store.now self.new.store.now (Some (integer_value number digits start))) }
+        ensures moves { OnOk result (Moves self.old.store.now self.new.store.now PlacesNumber) }
+        ensures within { OnOk result (HoldsInRoom self.new.store.now) }
         ensures level { AddsToLevel self.old self.new result }
     {
         self.store.push_integer(number, digits, start)?;
@@ -118,7 +131,7 @@ impl<W: Watch> Mapper<'_, W> {
     }
 
     /// Stores an offset.
-    fn place_offset(
+    pub(crate) fn place_offset(
         &mut self,
         number: IntegerType,
         unit: u32,
@@ -131,6 +144,10 @@ impl<W: Watch> Mapper<'_, W> {
         requires free { self.old.meter.now.made < self.old.meter.now.steps }
         ensures frame { WorkFrame self.old self.new 1 result }
         ensures is { Places self.old self.new (OffsetOf number unit) digits start result }
+        ensures more { PlacesMore self.old.store.now self.new.store.now }
+        ensures adds { OnOk result (IsPushed self.old.store.now self.new.store.now (Some (offset_value number unit digits start))) }
+        ensures moves { OnOk result (Moves self.old.store.now self.new.store.now PlacesNumber) }
+        ensures within { OnOk result (HoldsInRoom self.new.store.now) }
         ensures level { AddsToLevel self.old self.new result }
     {
         self.store.push_offset(number, unit, digits, start)?;

@@ -1,7 +1,9 @@
 //! Arrays of numbers that the store packs.
 
-ghost use Rattle.std.specs.Prelude.{◌*◌, ◌<◌, ◌≤◌, [], length, IfOk};
-ghost use Rattle.pickle_types.specs.Table.{IsTable, type_of};
+ghost use Rattle.std.specs.Prelude.{◌*◌, ◌<◌, ◌≤◌, [], length, All, IfOk};
+ghost use Rattle.mapping_plans.specs.Rows.{struct_row};
+ghost use Rattle.pickle_map.specs.Columns.{HasNode, ArePacked};
+ghost use Rattle.pickle_types.specs.Table.{IsTable, type_of, open_fields};
 ghost use Rattle.pickle_map.specs.AtWork.{Frame, LevelStays, LeavesLevel, Closes, PacksRow};
 ghost use Rattle.pickle_map.specs.Calls.{as_array_level};
 ghost use Rattle.pickle_map.specs.Framed.{IsEnd};
@@ -9,6 +11,7 @@ ghost use Rattle.pickle_map.specs.Row.{PacksAs, PacksOrNot};
 ghost use Rattle.value_store.specs.Slots.{levels, IsPacking, level_count};
 ghost use Rattle.pickle_meaning.specs.Values.{outer_of};
 
+use crate::mapper::columns::stride_of;
 use crate::mapper::read::read_digits;
 use crate::mapper::state::Mapper;
 use crate::mapper::stop::Stop;
@@ -16,31 +19,67 @@ use crate::mapper::watch::Watch;
 use bit_space::{Order, Space};
 use pickle_meaning::extent::Extent;
 use pickle_meaning::faults::MapFaultKind;
-use pickle_types::view::{Node, Shape as Type};
+use pickle_types::view::{Field, Node, Shape as Type};
 use value_store::store::Store;
 use value_store::store::slots::Shape;
 
-/// The packed shape of an array whose element is the type at a place of the table: of integers or offsets, where the
-/// store packs them; otherwise None.
-pub(crate) fn packed_as(nodes: &[Node], element: usize, store: &Store) -> Option<Shape>
+/// How the elements of an array are kept: apart, as packed numbers, or as packed structs of numbers, which have these
+/// fields.
+pub(crate) enum Packing<'a> {
+    Apart,
+    Numbers(Shape),
+    Records(&'a [Field]),
+}
+
+// The most bytes of a packed struct.
+const MOST_BYTES: usize = 512;
+
+// Whether structs with such fields are packed in an array.
+fn packs_structs(nodes: &[Node], pinned: bool, fields: &[Field]) -> bool
+    requires table { IsTable nodes.now }
+    requires fields { All (HasNode nodes.now) fields.now }
+    ensures { ArePacked result (struct_row pinned (open_fields (type_of nodes.now) fields.now)) }
+{
+    if pinned {
+        return false;
+    }
+    match stride_of(nodes, fields) {
+        None => false,
+        Some(stride) => 1 <= stride && stride <= MOST_BYTES,
+    }
+}
+
+/// How the elements of an array are kept, whose type is the one at a place of the table.
+pub(crate) fn packed_as<'a>(nodes: &'a [Node], element: usize, store: &Store) -> Packing<'a>
     requires table { IsTable nodes.now }
     requires element { element < length nodes.now }
-    ensures { PacksOrNot result (type_of nodes.now element) store.now.room }
+    ensures { PacksOrNot nodes.entry.now element result store.now.room }
 {
     if !store.packs() {
-        return None;
+        return Packing::Apart;
     }
     match &nodes[element].shape {
-        Type::Integer(number) => Some(Shape::Integers {
+        Type::Integer(number) => Packing::Numbers(Shape::Integers {
             width: number.width,
             signed: number.signed,
         }),
-        Type::Offset(number, unit) => Some(Shape::Offsets {
+        Type::Offset(number, unit) => Packing::Numbers(Shape::Offsets {
             width: number.width,
             signed: number.signed,
             unit: *unit,
         }),
-        _ => None,
+        Type::Struct {
+            name: _,
+            pinned,
+            fields,
+        } => {
+            if packs_structs(nodes, *pinned, fields) {
+                Packing::Records(fields)
+            } else {
+                Packing::Apart
+            }
+        }
+        _ => Packing::Apart,
     }
 }
 

@@ -8,15 +8,16 @@ ghost use Rattle.pickle_map.specs.Calls.{as_type, as_checked, as_array, as_array
 ghost use Rattle.pickle_map.specs.Framed.{IsEnd};
 ghost use Rattle.pickle_meaning.specs.Values.{outer_of};
 ghost use Rattle.pickle_map.specs.Mappable.{IsFieldOf, IsPartOf};
-ghost use Rattle.pickle_map.specs.Row.{StandApart, BeginsApart};
+ghost use Rattle.pickle_map.specs.Records.{IsOpened};
+ghost use Rattle.pickle_map.specs.Row.{StandApart};
 ghost use Rattle.pickle_meaning.specs.Means.{ordered};
 ghost use Rattle.pickle_types.specs.Sound.{IsSoundClause, IsSoundBound};
 ghost use Rattle.value_store.specs.Names.{names_at, field_name, part_name};
-ghost use Rattle.value_store.specs.Slots.{levels, level_count, AreLevels, HasNoNode};
+ghost use Rattle.value_store.specs.Slots.{levels, level_count, AreLevels};
 
 use crate::mapper::blame::{check, find_extent, find_start, is_there};
 use crate::mapper::level::leave_level;
-use crate::mapper::row::packed_as;
+use crate::mapper::row::{Packing, packed_as};
 use crate::mapper::state::Mapper;
 use crate::mapper::stop::Stop;
 use crate::mapper::watch::Watch;
@@ -201,7 +202,7 @@ impl<W: Watch> Mapper<'_, W> {
         requires element { element < length self.old.nodes.now }
         requires open { (1 < level_count self.old.store.now) × (level_count self.old.store.now + depth (type_of self.old.nodes.now element) ≤ 65) }
         requires fresh { levels self.old.nodes.now self.old.store.now ≡ [] ∷ outer_of (levels self.old.nodes.now self.old.store.now) }
-        requires empty { HasNoNode self.old.store.now }
+        requires opened { IsOpened self.old.store.now }
         requires sound { AreLevels self.old.store.now.room self.old.store.now.frames self.old.store.now.slots }
         requires inside { start ≤ 8 * (S.view space.old).len }
         requires free { self.old.meter.now.made < self.old.meter.now.steps }
@@ -210,9 +211,37 @@ impl<W: Watch> Mapper<'_, W> {
         ensures is { Closes (S.view space.old) self.old self.new (as_array_level element extent order start) result }
         ensures level { LeavesLevel self.old self.new result }
     {
-        if let Some(shape) = packed_as(self.nodes, element, self.store) {
-            return self.row_body(element, shape, extent, order, start, space);
+        match packed_as(self.nodes, element, self.store) {
+            Packing::Numbers(shape) => self.row_body(element, shape, extent, order, start, space),
+            Packing::Records(fields) => {
+                self.records_body(element, fields, extent, order, start, space)
+            }
+            Packing::Apart => self.elements_body(element, extent, order, start, space),
         }
+    }
+
+    /// Maps the elements of an array, each as a value of its own, into its frame, and closes it.
+    #[cycle(mapping)]
+    fn elements_body<S: Space>(
+        &mut self,
+        element: usize,
+        extent: Extent,
+        order: Order,
+        start: u64,
+        space: &mut S,
+    ) -> Result<u64, Stop>
+        requires table { IsTable self.old.nodes.now }
+        requires element { element < length self.old.nodes.now }
+        requires open { (1 < level_count self.old.store.now) × (level_count self.old.store.now + depth (type_of self.old.nodes.now element) ≤ 65) }
+        requires fresh { levels self.old.nodes.now self.old.store.now ≡ [] ∷ outer_of (levels self.old.nodes.now self.old.store.now) }
+        requires apart { StandApart (type_of self.old.nodes.now element) self.old.store.now.room }
+        requires inside { start ≤ 8 * (S.view space.old).len }
+        requires free { self.old.meter.now.made < self.old.meter.now.steps }
+        ensures frame { Frame (S.view space.old) (S.view space.new) self.old self.new 1 result }
+        ensures ends { IfOk result (IsEnd start (S.view space.old)) }
+        ensures is { Closes (S.view space.old) self.old self.new (as_array_level element extent order start) result }
+        ensures level { LeavesLevel self.old self.new result }
+    {
         let end = self.map_elements(element, extent, order, start, space)?;
         self.store.close_array(start, end)?;
         self.meter.note_made();
@@ -233,12 +262,10 @@ impl<W: Watch> Mapper<'_, W> {
         requires element { element < length self.old.nodes.now }
         requires open { level_count self.old.store.now + depth (type_of self.old.nodes.now element) ≤ 65 }
         requires apart { StandApart (type_of self.old.nodes.now element) self.old.store.now.room }
-        requires begins { BeginsApart self.old.nodes.now self.old.store.now }
         requires inside { start ≤ 8 * (S.view space.old).len }
         ensures frame { Frame (S.view space.old) (S.view space.new) self.old self.new 0 result }
         ensures ends { IfOk result (IsEnd start (S.view space.old)) }
         ensures is { Fills (S.view space.old) self.old self.new (as_elements element extent order start) result }
-        ensures begins { OnOk result (BeginsApart self.old.nodes.now self.new.store.now) }
         ensures level { LevelStays self.old self.new }
     {
         let bits = 8 * space.len();

@@ -83,8 +83,8 @@ impl Store {
         Ok(())
     }
 
-    // Whether the innermost open value has no node yet.
-    pub(super) fn has_no_node(&self) -> bool
+    /// Whether the innermost open value has no node yet.
+    pub fn has_no_node(&self) -> bool
         ensures { IsTrue result ↔ HasNoNode self.now }
     {
         self.nodes.len() == self.innermost().nodes

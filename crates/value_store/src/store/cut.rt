@@ -34,6 +34,7 @@ impl Store {
         ensures room { KeepsRoom self.old self.new }
         ensures depth { level_count self.new ≡ max 1 (level_count self.old - 1) }
         ensures lifts { state_of self.new ≡ lifted (state_of self.old) }
+        ensures slots { self.new.slots ≡ self.old.slots }
     {
         let _ = self.frames.pop();
     }
@@ -43,6 +44,7 @@ impl Store {
         ensures levels { (names : Names) → levels names self.new ≡ opened (outer_of (levels names self.old)) }
         ensures room { KeepsRoom self.old self.new }
         ensures depth { level_count self.new ≡ level_count self.old }
+        ensures slots { self.new.slots ≡ cut_to (innermost self.old.frames) self.old.slots }
         ensures moves { Moves self.old self.new Clears }
         ensures within { HoldsInRoom self.new }
     {
@@ -61,6 +63,7 @@ impl Store {
         ensures levels { (names : Names) → levels names self.new ≡ outer_of (levels names self.old) }
         ensures room { KeepsRoom self.old self.new }
         ensures depth { level_count self.new + 1 ≡ level_count self.old }
+        ensures slots { self.new.slots ≡ cut_to (innermost self.old.frames) self.old.slots }
         ensures moves { Moves self.old self.new Drops }
         ensures within { HoldsInRoom self.new }
     {

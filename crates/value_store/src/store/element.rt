@@ -16,7 +16,7 @@ use pickle_types::integer::IntegerType;
 
 // The number that bytes are, the lowest byte first.
 #[inline(never)]
-fn bytes_number(bytes: &[u8]) -> u64
+pub(super) fn bytes_number(bytes: &[u8]) -> u64
     requires { length bytes.now ≤ 8 }
     ensures { result ≡ bytes_number bytes.now }
 {

@@ -6,9 +6,11 @@ ghost use Rattle.pickle_types.specs.Table.{IsWidth};
 ghost use Rattle.pickle_meaning.specs.Means.{integer_value, offset_value};
 ghost use Rattle.pickle_meaning.specs.Values.{ArrayLabel};
 ghost use Rattle.value_store.specs.Closed.{struct_label, union_label};
-ghost use Rattle.value_store.specs.Keeping.{IsPushed, CannotPush, IsPlaced, IsClosed, CannotClose, KeepsMembers, StartsWithNoNumber};
+ghost use Rattle.value_store.specs.Columns.{AddsNumber};
+ghost use Rattle.value_store.specs.declared.store.slots.Shape.TheVariants.{Integer, Offset};
+ghost use Rattle.value_store.specs.Keeping.{IsPushed, CannotPush, IsPlaced, IsClosed, CannotClose};
 ghost use Rattle.value_store.specs.Moves.{Moves, CannotMove, Places, Leaves, Closes, state_of, joined};
-ghost use Rattle.value_store.specs.Slots.{level_count, IsNumber, number_value, number_in, IsContentNumber, IsComposite, composite_label, HoldsInRoom, KeepsRoom, Regrown};
+ghost use Rattle.value_store.specs.Slots.{level_count, IsNumber, number_value, number_in, IsContentNumber, IsComposite, composite_label, with_leaf, with_family, innermost, HasSlots, HoldsInRoom, KeepsRoom, Regrown};
 
 use crate::ranges::with_sign;
 use crate::store::Store;
@@ -96,14 +98,21 @@ fn content_of(signed: bool, number: i128) -> u64
 impl Store {
     // Places an integer or an offset.
     #[inline(always)]
-    fn place_number(&mut self, shape: Shape, start: u64, content: u64) -> Result<(), Memory>
+    pub(super) fn place_number(
+        &mut self,
+        shape: Shape,
+        start: u64,
+        content: u64,
+    ) -> Result<(), Memory>
         requires number { IsNumber shape }
+        ensures slots { OnOk result (HasSlots self.old self.new (with_leaf shape start content self.old.slots)) }
         ensures ok { OnOk result (IsPushed self.old self.new (Some (number_value shape start content))) }
         ensures within { OnOk result (HoldsInRoom self.new) }
         ensures err { OnErr result (Regrown self.old self.new) }
         ensures room { KeepsRoom self.old self.new }
         ensures depth { level_count self.new ≡ level_count self.old }
         ensures full { OnErr result (CannotPush self.old (Some (number_value shape start content))) }
+        ensures adds { OnOk result (self.new.slots ≡ with_leaf shape start content self.old.slots) }
         ensures moves { OnOk result (Moves self.old self.new Places) }
         ensures lacks { OnErr result (CannotMove self.old Places) }
     {
@@ -123,7 +132,7 @@ impl Store {
     #[inline(always)]
     pub(super) fn place_family(&mut self, shape: Shape, start: u64, size: u64) -> Result<(), Memory>
         requires composite { IsComposite shape }
-        requires members { KeepsMembers self.old shape }
+        ensures slots { OnOk result (HasSlots self.old self.new (with_family shape start size (innermost self.old.frames).pending self.old.slots)) }
         ensures ok { OnOk result (IsPlaced self.old self.new (λ names. composite_label names shape) start (start + size)) }
         ensures err { OnErr result (Regrown self.old self.new) }
         ensures room { KeepsRoom self.old self.new }
@@ -168,6 +177,7 @@ impl Store {
         ensures room { KeepsRoom self.old self.new }
         ensures depth { level_count self.new ≡ level_count self.old }
         ensures full { OnErr result (CannotPush self.old (Some (integer_value number digits start))) }
+        ensures adds { OnOk result (AddsNumber self.old self.new (Integer number.width number.signed) start) }
         ensures moves { OnOk result (Moves self.old self.new Places) }
         ensures lacks { OnErr result (CannotMove self.old Places) }
     {
@@ -198,6 +208,7 @@ impl Store {
         ensures room { KeepsRoom self.old self.new }
         ensures depth { level_count self.new ≡ level_count self.old }
         ensures full { OnErr result (CannotPush self.old (Some (offset_value number unit digits start))) }
+        ensures adds { OnOk result (AddsNumber self.old self.new (Offset number.width number.signed unit) start) }
         ensures moves { OnOk result (Moves self.old self.new Places) }
         ensures lacks { OnErr result (CannotMove self.old Places) }
     {
@@ -232,7 +243,6 @@ impl Store {
     #[inline(always)]
     fn close(&mut self, shape: Shape, start: u64, size: u64) -> Result<(), Memory>
         requires composite { IsComposite shape }
-        requires members { KeepsMembers self.old shape }
         ensures ok { OnOk result (IsClosed self.old self.new (λ names. composite_label names shape) start (start + size)) }
         ensures within { OnOk result (HoldsInRoom self.new) }
         ensures err { OnErr result (Regrown self.old self.new) }
@@ -247,11 +257,9 @@ impl Store {
         Ok(())
     }
 
-    /// Closes the innermost open value as an array of its parts, from the bit `start` to the bit `end`. In a store that
-    /// packs arrays of numbers its first part is no integer and no offset.
+    /// Closes the innermost open value as an array of its parts, from the bit `start` to the bit `end`.
     pub fn close_array(&mut self, start: u64, end: u64) -> Result<(), Memory>
         requires order { start ≤ end }
-        requires members { StartsWithNoNumber self.old }
         ensures ok { OnOk result (IsClosed self.old self.new (λ names. ArrayLabel) start end) }
         ensures within { OnOk result (HoldsInRoom self.new) }
         ensures err { OnErr result (Regrown self.old self.new) }

@@ -71,7 +71,7 @@ impl Store {
         ensures depth { level_count self.new ≡ level_count self.old }
         ensures full { OnErr result (CannotCloseRow self.old shape start) }
         ensures settles { OnOk result (state_of self.new ≡ settled_row (packs self.old.room) (state_of self.old)) }
-        ensures lacks { OnErr result (CannotMove self.old (ClosesPacked (element_width shape))) }
+        ensures lacks { OnErr result (CannotMove self.old (ClosesPacked)) }
     {
         if self.has_no_node() {
             self.place_family(Shape::Array, start, 0)
@@ -90,8 +90,8 @@ impl Store {
         ensures room { KeepsRoom self.old self.new }
         ensures depth { OnOk result (level_count self.new ≡ max 1 (level_count self.old - 1)) }
         ensures full { OnErr result (CannotCloseRow self.old shape start) }
-        ensures moves { OnOk result (Moves self.old self.new (ClosesPacked (element_width shape))) }
-        ensures lacks { OnErr result (CannotMove self.old (ClosesPacked (element_width shape))) }
+        ensures moves { OnOk result (Moves self.old self.new (ClosesPacked)) }
+        ensures lacks { OnErr result (CannotMove self.old (ClosesPacked)) }
     {
         self.settle_row(shape, start)?;
         self.lift_level();

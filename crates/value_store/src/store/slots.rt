@@ -17,6 +17,10 @@ pub enum Shape {
     Integers { width: u8, signed: bool },
     /// An array of offsets, packed in the same way.
     Offsets { width: u8, signed: bool, unit: u32 },
+    /// An array of structs of numbers, packed in the same way: an element has `size` bits and takes `stride` bytes. The
+    /// node right before it is a struct, the template: the first element, whose numbers have as content the place of
+    /// their bytes in an element.
+    Records { stride: u16, size: u32 },
     /// An array of other elements. The content of an array, a struct or a union is the place of its family.
     Array,
     /// A struct of the type at the index `of`.
@@ -34,13 +38,29 @@ pub(crate) struct Node {
     pub(crate) shape: Shape,
 }
 
+const _: () = prove!(std::mem::size_of::<Node>() == 24);
+
 /// Where a value is stored.
 #[derive(Clone, Copy)]
 pub(crate) enum Place {
     /// At a node.
     Node(usize),
     /// Packed: the element at a place of the array that a node is.
-    Element { array: usize, index: usize },
+    Element {
+        array: usize,
+        index: usize,
+    },
+    /// Packed: the struct at a place of the array that a node is.
+    Record {
+        array: usize,
+        index: usize,
+    },
+    /// Packed: a number of such a struct.
+    Field {
+        array: usize,
+        index: usize,
+        field: usize,
+    },
 }
 
 /// The parts of an array, a struct or a union: the links after those of the family before it, up to `end`. The size is
@@ -58,7 +78,8 @@ pub(crate) struct Link {
 }
 
 impl Shape {
-    ghost use Rattle.value_store.specs.Slots.{element_width};
+    ghost use Rattle.value_store.specs.Lent.{record_size};
+    ghost use Rattle.value_store.specs.Slots.{element_width, number_bits};
 
     /// The width in bits of an element of an array of packed numbers; 0 for other shapes.
     pub fn element_width(self) -> u8
@@ -66,6 +87,26 @@ impl Shape {
     {
         match self {
             Shape::Integers { width, .. } | Shape::Offsets { width, .. } => width,
+            _ => 0,
+        }
+    }
+
+    /// The size in bits of a struct of an array of packed structs; 0 for other shapes.
+    pub(crate) fn record_size(self) -> u32
+        ensures { result ≡ record_size self }
+    {
+        match self {
+            Shape::Records { size, .. } => size,
+            _ => 0,
+        }
+    }
+
+    /// The width in bits of an integer or an offset; 0 for other shapes.
+    pub(crate) fn number_bits(self) -> u8
+        ensures { result ≡ number_bits self }
+    {
+        match self {
+            Shape::Integer { width, .. } | Shape::Offset { width, .. } => width,
             _ => 0,
         }
     }

@@ -2,11 +2,7 @@ use Rattle.std.proofs.Common.{◌≡◌, ◌+◌, ◌-◌, subst, arith}
 use Rattle.std.specs.Prelude.{OnErr}
 use Rattle.pickle_meaning.specs.Values.{ArrayLabel}
 use Rattle.value_store.specs.Keeping.{CannotClose}
-use Rattle.value_store.proofs.PackedRows.{array-members}
 use Rattle.value_store.proofs.store.Store.close_array.Goals as goal
-
-pub close-requires-clause-members : goal.close-requires-clause-members
-close-requires-clause-members c = array-members c.args.self.now c.requires.members
 
 pub returns-clause-full : goal.returns-clause-full
 returns-clause-full c =

@@ -65,3 +65,10 @@ returns-clause-moves c =
     let t : Slots = record { nodes = c.push_reserved-2.new.self.items; families = s.families; links = s.links; pending = c.push_reserved.new.self.items; texts = s.texts; bytes = s.bytes } in
     let e : t ≡ with_leaf c.args.shape c.args.start c.args.content s = search rules in
     rw (← c.self.view_is) (ap (having h) e ∙ number-moves h c.args.shape c.args.start c.args.content)
+
+pub returns-clause-adds : goal.returns-clause-adds
+returns-clause-adds c =
+    let s = (the_view c.self.inside).slots in
+    let t : Slots = record { nodes = c.push_reserved-2.new.self.items; families = s.families; links = s.links; pending = c.push_reserved.new.self.items; texts = s.texts; bytes = s.bytes } in
+    let e : t ≡ with_leaf c.args.shape c.args.start c.args.content s = search rules in
+    rw (← c.self.view_is) e

@@ -1,16 +1,9 @@
 use Rattle.std.proofs.Common.{rules, ap}
 use Rattle.value_store.specs.Moves.{Closes, ClosesRow, State}
-use Rattle.value_store.specs.Slots.{HasNoNode, element_width}
-use Rattle.value_store.proofs.Writing.{filling-all}
-use Rattle.value_store.proofs.PackedRows.{row_bytes, fresh-members, settled-row, settled-cannot, stale-row_levels}
+use Rattle.value_store.specs.Slots.{HasNoNode}
+use Rattle.value_store.proofs.PackedRows.{settled-row, settled-cannot, stale-row_levels}
 use Rattle.value_store.proofs.Moved.{row-fresh, row-stale, on-state, lacks-same}
 use Rattle.value_store.proofs.store.Store.settle_row.Goals as goal
-
-pub place_family-requires-clause-members : goal.place_family-requires-clause-members
-place_family-requires-clause-members c =
-    let fresh : HasNoNode c.args.self.now = search rules in
-    let r = c.requires.row in
-    fresh-members c.args.self.now (filling-all r.names c.args.self.now c.args.shape (row_bytes c.args.shape r.numbers) c.args.start r.outer r.packing.filling) fresh
 
 pub returns-then-has_no_node-clause-ok : goal.returns-then-has_no_node-clause-ok
 returns-then-has_no_node-clause-ok c =
@@ -37,7 +30,7 @@ pub returns-then-has_no_node-clause-lacks : goal.returns-then-has_no_node-clause
 returns-then-has_no_node-clause-lacks c =
     let fresh : HasNoNode c.args.self.now = search rules in
     let e = row-fresh c.args.self.now c.args.shape c.args.start c.requires.packed c.requires.row fresh in
-    lacks-same c.place_family.result c.args.self.now Closes (ClosesRow (element_width c.args.shape)) (ap (λ (s : State). s.now) e) c.place_family.ensures.lacks
+    lacks-same c.place_family.result c.args.self.now Closes ClosesRow (ap (λ (s : State). s.now) e) c.place_family.ensures.lacks
 
 pub returns-else-has_no_node-clause-settles : goal.returns-else-has_no_node-clause-settles
 returns-else-has_no_node-clause-settles c =

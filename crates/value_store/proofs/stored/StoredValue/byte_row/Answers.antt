@@ -1,4 +1,4 @@
-use Rattle.std.proofs.Common.{◌≡◌, ◌<◌, ◌^◌, ◌∙◌, ap, sym, subst}
+use Rattle.std.proofs.Common.{take, ◌≡◌, ◌<◌, ◌^◌, ◌∙◌, ap, sym, subst}
 use Rattle.std.specs.Prelude.{All}
 use Rattle.pickle_types.specs.declared.integer.IntegerType.{IntegerType}
 use Rattle.pickle_meaning.specs.Values.{start_of, members_of, gathered}
@@ -27,7 +27,7 @@ returns-in-Integers c = λ names.
       width = record { some = content.1.some; most = content.1.most };
       most = c.if-width-le8.true;
       below = subst (λ ns. All (λ n. n < 2 ^ w) ns) numbers content.1.below;
-      members = ap members_of is ∙ read.members names ∙ ap (λ shape. gathered (parts_in slots (trees names slots) shape node.start node.content)) c.in-Integers.is
+      members = ap members_of is ∙ read.members names ∙ ap (λ shape. gathered (parts_in slots (take c.in-Node.at (trees names slots)) shape node.start node.content)) c.in-Integers.is
           ∙ ap (λ ns. gathered (elements (Integers w c.in-Integers.signed) node.start ns)) numbers ∙ elements_bytes w c.in-Integers.signed node.start bytes
           ∙ ap (λ start. byte_members type start bytes) (sym start);
     }

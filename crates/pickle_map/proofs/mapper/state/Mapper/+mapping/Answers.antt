@@ -6,18 +6,19 @@ use Rattle.pickle_types.specs.Types.{depth}
 use Rattle.pickle_types.specs.Bounds.{least_width}
 use Rattle.pickle_types.specs.Table.{type_of}
 use Rattle.pickle_map.specs.Mappable.{IsFieldOf, IsPartOf}
-use Rattle.pickle_map.specs.Row.{StandApart, BeginsApart}
 use Rattle.mapping_plans.specs.Mapping.{plan}
 use Rattle.pickle_meaning.specs.Means.{number_type}
 use Rattle.value_store.specs.Slots.{levels, level_count}
 use Rattle.pickle_meaning.specs.Values.{pushed, outer_of}
 use Rattle.pickle_map.proofs.Clauses.{checks_ok, checks_stop, settles_ok, settles_stop}
+use Rattle.value_store.specs.declared.store.slots.Marks.{Marks}
+use Rattle.pickle_map.proofs.RecordRows.{opened_is}
 use Rattle.pickle_map.proofs.Followed.{followed_fits, followed_wide}
 use Rattle.pickle_map.proofs.Keeping.{regrown_stays, pushed_stays}
 use Rattle.pickle_map.proofs.Left.{left_open, left_keeps, left_adds}
-use Rattle.mapping_plans.specs.Mapping.{row_width, element_plan}
-use Rattle.pickle_map.proofs.Widths.{any_names}
-use Rattle.pickle_map.proofs.Elements.{element_done, element_stopped, array_moves, array_lacks, pushed_apart}
+use Rattle.mapping_plans.specs.Rows.{row_of}
+use Rattle.mapping_plans.specs.Mapping.{element_plan}
+use Rattle.pickle_map.proofs.Elements.{element_done, element_stopped, array_moves, array_lacks}
 use Rattle.pickle_map.proofs.Worlds.{same_room, room_then, in_world, in_later, moves_to, lacks_these}
 use Rattle.pickle_map.proofs.Mapping.{few_enough, inside_no_tick, inside_ticks, plan_past, number_is, text_is, struct_is, array_is, union_is, struct_no_room, struct_made, array_no_room, array_made, union_no_room, union_made, fields_end, fields_no_tick, condition_stops, absent_no_room, absent_goes, start_stops, field_stops, field_goes, elements_end, elements_beyond, elements_no_tick, elements_no_bits, elements_goes, elements_over, elements_stop, alternatives_end, alternatives_no_tick, alternatives_fit, alternatives_miss, alternatives_stop}
 use Rattle.value_store.proofs.PackedRows.{row-opened}
@@ -222,6 +223,7 @@ map_array-array_body-mapped-requires g t c =
     let depth = c.open_level.ensures.depth in
     let opened = c.open_level.ensures.levels c.args.self.now.nodes.now in
     let fresh = opened ∙ ap (λ o. [] ∷ o) (sym (ap outer_of opened)) in
+    let opened = opened_is c.args.self.now.store.now c.open_level.new.self c.open_level.ensures.moves in
     search rules
 
 pub map_struct-struct_body-mapped-requires : goal.map_struct-struct_body-mapped-requires
@@ -248,7 +250,7 @@ struct_body-returns-in_err-close_struct-clause-is g t c =
     let p = err_from_is_err_and c.from_residual-in_err-close_struct.result c.from_residual-in_err-close_struct.ensures.1 in
     let named = c.requires.names ∙ sym (fields_named (type_of c.args.self.now.nodes.now) c.args.fields.now) in
     let full = rw named at (c.in_err-close_struct.ensures.full c.args.self.now.nodes.now) in
-    rw (p.1, p.2) (struct_no_room _ _ _ _ (in_later c.in_ok-end.ensures.frame.left.room c.in_err-close_struct.ensures.room c.in_ok-end.ensures.is) _ _ (lacks_these c.in_ok-end.ensures.frame.left.room full c.in_err-close_struct.ensures.lacks))
+    rw (p.1, p.2) (struct_no_room _ _ _ _ (in_later c.in_ok-end.ensures.frame.left.room c.in_err-close_struct.ensures.room c.in_ok-end.ensures.is) _ _ (lacks_these c.in_ok-end.ensures.frame.left.room tt full c.in_err-close_struct.ensures.lacks))
 
 pub struct_body-returns-in_err-close_struct-clause-level : goal.struct_body-returns-in_err-close_struct-clause-level
 struct_body-returns-in_err-close_struct-clause-level g t c =
@@ -267,44 +269,45 @@ struct_body-returns-clause-is g t c =
 
 pub array_body-row_body-requires-clause-packing : goal.array_body-row_body-requires-clause-packing
 array_body-row_body-requires-clause-packing g t c =
-    let packs = c.in-Some.ensures in
+    let packs = c.in-Numbers.ensures in
     let short = g.met.S.Space.short c.args.space.now in
-    row-opened c.args.self.now.nodes.now c.args.self.now.store.now c.in-Some.shape c.args.start (outer_of (levels c.args.self.now.nodes.now c.args.self.now.store.now)) packs.packed packs.packs (omega (arith, c.requires.inside, short)) c.requires.empty c.requires.sound c.requires.fresh
+    row-opened c.args.self.now.nodes.now c.args.self.now.store.now c.in-Numbers.shape c.args.start (outer_of (levels c.args.self.now.nodes.now c.args.self.now.store.now)) packs.packed packs.packs (omega (arith, c.requires.inside, short)) (sym (ap (λ (k : Marks). k.nodes) c.requires.opened)) c.requires.sound c.requires.fresh
 
-pub array_body-map_elements-requires : goal.array_body-map_elements-requires
-array_body-map_elements-requires g t c =
-    let begins : BeginsApart c.args.self.now.nodes.now c.args.self.now.store.now = λ packing. rw c.requires.fresh refl in
+pub array_body-records_body-requires : goal.array_body-records_body-requires
+unfolding depth
+array_body-records_body-requires g t c =
+    let p = c.in-Records.ensures in
+    let deep = rw p.0.is at c.requires.open.1 in
+    let fields = fields_within c.args.self.now.nodes.now c.args.element c.requires.element (level_count c.args.self.now.store.now + 1) c.in-Records.fields.now p.0.below p.0.sound (omega (arith, deep)) in
+    let few : level_count c.args.self.now.store.now ≤ 64 = omega (arith, deep) in
     search rules
 
-pub array_body-close_array-requires-clause-members : goal.array_body-close_array-requires-clause-members
-array_body-close_array-requires-clause-members g t c = λ packing names. any_names names c.args.self.now.nodes.now c.map_elements.new.self.store.now ∙ c.in_ok-end.ensures.begins packing
-
-pub array_body-returns-in_err-end-clause-is : goal.array_body-returns-in_err-end-clause-is
-array_body-returns-in_err-end-clause-is g t c =
+pub elements_body-returns-in_err-end-clause-is : goal.elements_body-returns-in_err-end-clause-is
+elements_body-returns-in_err-end-clause-is g t c =
     let p = err_from_is_err_and c.from_residual.result c.from_residual.ensures.1 in
     rw (p.1, p.2) (follow_stop _ _ _ c.in_err-end.ensures.is)
 
-pub array_body-returns-in_err-close_array-clause-is : goal.array_body-returns-in_err-close_array-clause-is
-array_body-returns-in_err-close_array-clause-is g t c =
+pub elements_body-returns-in_err-close_array-clause-is : goal.elements_body-returns-in_err-close_array-clause-is
+elements_body-returns-in_err-close_array-clause-is g t c =
     let p = err_from_is_err_and c.from_residual-in_err-close_array.result c.from_residual-in_err-close_array.ensures.1 in
-    let apart : StandApart (type_of c.args.self.now.nodes.now c.args.element) c.args.self.now.store.now.room = search rules in
-    let lacks = lacks_these c.in_ok-end.ensures.frame.left.room (c.in_err-close_array.ensures.full c.args.self.now.nodes.now) c.in_err-close_array.ensures.lacks in
-    rw (p.1, p.2) (array_no_room _ _ _ _ (in_later c.in_ok-end.ensures.frame.left.room c.in_err-close_array.ensures.room c.in_ok-end.ensures.is) (type_of c.args.self.now.nodes.now c.args.element) (array_lacks (row_width (type_of c.args.self.now.nodes.now c.args.element)) apart lacks))
+    let apart = c.requires.apart in
+    let lacks = lacks_these c.in_ok-end.ensures.frame.left.room tt (c.in_err-close_array.ensures.full c.args.self.now.nodes.now) c.in_err-close_array.ensures.lacks in
+    rw (p.1, p.2) (array_no_room _ _ _ _ (in_later c.in_ok-end.ensures.frame.left.room c.in_err-close_array.ensures.room c.in_ok-end.ensures.is) (type_of c.args.self.now.nodes.now c.args.element) (array_lacks (row_of (type_of c.args.self.now.nodes.now c.args.element)) apart lacks))
 
-pub array_body-returns-in_err-close_array-clause-level : goal.array_body-returns-in_err-close_array-clause-level
-array_body-returns-in_err-close_array-clause-level g t c =
+pub elements_body-returns-in_err-close_array-clause-level : goal.elements_body-returns-in_err-close_array-clause-level
+elements_body-returns-in_err-close_array-clause-level g t c =
     let p = err_from_is_err_and c.from_residual-in_err-close_array.result c.from_residual-in_err-close_array.ensures.1 in
     rw p.1 (regrown_stays c.args.self.now.nodes.now _ _ _ c.in_ok-end.ensures.level c.in_err-close_array.ensures.err)
 
-pub array_body-returns-clause-is : goal.array_body-returns-clause-is
-array_body-returns-clause-is g t c =
+pub elements_body-returns-clause-is : goal.elements_body-returns-clause-is
+elements_body-returns-clause-is g t c =
     let n = c.note_made.ensures in
     let closed = c.in_ok-close_array.ensures.ok c.args.self.now.nodes.now in
     let h = rw c.in_ok-end.ensures.level.outer at closed in
     let room = c.in_ok-close_array.ensures.room in
     let moves = moves_to c.in_ok-end.ensures.frame.left.room (same_room c.close_array.new.self) c.in_ok-close_array.ensures.within c.in_ok-close_array.ensures.moves in
-    let apart : StandApart (type_of c.args.self.now.nodes.now c.args.element) c.args.self.now.store.now.room = search rules in
-    record { value = _; kept = h; ends = refl; follows = array_made _ _ _ _ (in_later c.in_ok-end.ensures.frame.left.room room c.in_ok-end.ensures.is) (type_of c.args.self.now.nodes.now c.args.element) (array_moves (row_width (type_of c.args.self.now.nodes.now c.args.element)) apart moves) n.steps n.made }
+    let apart = c.requires.apart in
+    record { value = _; kept = h; ends = refl; follows = array_made _ _ _ _ (in_later c.in_ok-end.ensures.frame.left.room room c.in_ok-end.ensures.is) (type_of c.args.self.now.nodes.now c.args.element) (array_moves (row_of (type_of c.args.self.now.nodes.now c.args.element)) apart moves) n.steps n.made }
 
 pub union_body-returns-in_err-index-clause-is : goal.union_body-returns-in_err-index-clause-is
 union_body-returns-in_err-index-clause-is g t c =
@@ -318,7 +321,7 @@ union_body-returns-in_err-close_union-clause-is g t c =
     let fresh = c.requires.fresh in
     let inside = h.keeps ∙ ap (λ ls. pushed ls (Some h.value)) fresh in
     let full = rw (inside, c.requires.names, ← h.ends) at (c.in_err-close_union.ensures.full c.args.self.now.nodes.now) in
-    rw (p.1, p.2) (union_no_room _ _ _ _ _ (in_later c.in_ok-index.ensures.frame.left.room c.in_err-close_union.ensures.room h.follows) (lacks_these c.in_ok-index.ensures.frame.left.room full c.in_err-close_union.ensures.lacks))
+    rw (p.1, p.2) (union_no_room _ _ _ _ _ (in_later c.in_ok-index.ensures.frame.left.room c.in_err-close_union.ensures.room h.follows) (lacks_these c.in_ok-index.ensures.frame.left.room tt full c.in_err-close_union.ensures.lacks))
 
 pub union_body-returns-in_err-close_union-clause-level : goal.union_body-returns-in_err-close_union-clause-level
 union_body-returns-in_err-close_union-clause-level g t c =
@@ -407,7 +410,7 @@ map_fields-returns-in_err-push_absent-clause-is g t c =
     let next = rw (← c.field-item.is) at next in
     let there = c.in_ok-is_there.ensures in
     let there_is = rw (c.if-branch.false, c.from-origin.ensures) at there.is in
-    rw (p.1, p.2) (follow_on (in_later i.frame.room c.in_err-push_absent.ensures.room i.so_far) (absent_no_room _ _ _ _ _ _ _ _ _ _ _ next (e.limit ∙ i.frame.limit) e.ok e.made there.made there_is (lacks_these i.frame.room (c.in_err-push_absent.ensures.full c.args.self.now.nodes.now) c.in_err-push_absent.ensures.lacks)))
+    rw (p.1, p.2) (follow_on (in_later i.frame.room c.in_err-push_absent.ensures.room i.so_far) (absent_no_room _ _ _ _ _ _ _ _ _ _ _ next (e.limit ∙ i.frame.limit) e.ok e.made there.made there_is (lacks_these i.frame.room tt (c.in_err-push_absent.ensures.full c.args.self.now.nodes.now) c.in_err-push_absent.ensures.lacks)))
 
 pub map_fields-returns-in_err-push_absent-clause-level : goal.map_fields-returns-in_err-push_absent-clause-level
 map_fields-returns-in_err-push_absent-clause-level g t c = regrown_stays c.args.self.now.nodes.now _ _ _ c.loop-field.invariant.level c.in_err-push_absent.ensures.err
@@ -464,7 +467,6 @@ map_elements-loop-order-init g t c =
       inside = search rules;
       level = search rules;
       counted = search rules;
-      begins = c.requires.begins;
       so_far = (_, omega (arith, few), follow_here);
     }
 
@@ -486,7 +488,7 @@ map_elements-returns-then-end-place-clause-is g t c =
     let m = rw i.lent.nodes at c.in-Ok.ensures.is in
     let h = rw i.frame.len at m.follows in
     let h = in_world (g.S.Space.view c.args.space.now) (g.S.Space.view c.loop-order.space) i.frame.bytes i.frame.room c.in-Ok.ensures.frame.left.room h in
-    let h = element_done (row_width (type_of c.args.self.now.nodes.now c.args.element)) c.requires.apart h in
+    let h = element_done (row_of (type_of c.args.self.now.nodes.now c.args.element)) c.requires.apart h in
     rw c.from.ensures (follow_on (in_later i.frame.room c.in-Ok.ensures.frame.left.room i.so_far.2) (elements_no_bits _ _ _ _ _ _ _ (max 1 (least_width (type_of c.args.self.now.nodes.now c.args.element))) _ i.so_far.1 i.inside due (e.limit ∙ i.frame.limit) e.ok e.made _ (m.ends ∙ c.if-end-place.true) h))
 
 pub map_elements-loop-order-preserved : goal.map_elements-loop-order-preserved
@@ -502,7 +504,7 @@ map_elements-loop-order-preserved g t c =
     let ends = m.ends in
     let far : c.loop-order.place + max 1 (least_width (type_of c.args.self.now.nodes.now c.args.element)) ≤ c.in-Ok.end = omega (arith, wide, ends, c.in-Ok.ensures.ends.0, c.if-end-place.false) in
     let fit = followed_fits _ _ _ _ _ h in
-    let h = element_done (row_width (type_of c.args.self.now.nodes.now c.args.element)) c.requires.apart h in
+    let h = element_done (row_of (type_of c.args.self.now.nodes.now c.args.element)) c.requires.apart h in
     let next = elements_goes (element_plan (type_of c.args.self.now.nodes.now c.args.element) (plan (8 * (g.S.Space.view c.args.space.now).len) (type_of c.args.self.now.nodes.now c.args.element) c.args.order)) (8 * (g.S.Space.view c.args.space.now).len) c.args.start c.args.extent c.loop-order.count (levels c.args.self.now.nodes.now c.loop-order.self.store.now) c.loop-order.place (max 1 (least_width (type_of c.args.self.now.nodes.now c.args.element))) _ i.so_far.1 i.inside due (e.limit ∙ i.frame.limit) e.ok e.made m.value c.in-Ok.end (c.loop-order.count + 1) refl ends c.if-end-place.false far h in
     record {
       lent = search rules;
@@ -511,10 +513,6 @@ map_elements-loop-order-preserved g t c =
       inside = search rules;
       level = pushed_stays c.args.self.now.nodes.now _ _ _ _ i.level m.kept c.in-Ok.ensures.level.depth;
       counted = omega (arith, i.counted, far);
-      begins = λ packing.
-          let there = rw c.in-Ok.ensures.frame.left.room.room at packing in
-          let here = rw i.frame.room.room at there in
-          rw m.kept (pushed_apart _ _ _ (levels c.args.self.now.nodes.now c.loop-order.self.store.now) _ m.value (c.requires.apart here) fit (i.begins there));
       so_far = (next.0, next.1, rw m.kept (follow_on (in_later i.frame.room c.in-Ok.ensures.frame.left.room i.so_far.2) next.2));
     }
 
@@ -527,15 +525,9 @@ map_elements-returns-then-ends-clause-is g t c =
     let h = rw (i.lent.nodes, i.frame.len) at c.in-Err.ensures.is in
     let h = in_world (g.S.Space.view c.args.space.now) (g.S.Space.view c.loop-order.space) i.frame.bytes i.frame.room c.in-Err.ensures.frame.left.room h in
     let ends = sym c.ends.ensures ∙ c.if-ends.true in
-    let h = element_stopped (row_width (type_of c.args.self.now.nodes.now c.args.element)) c.requires.apart _ h in
+    let h = element_stopped (row_of (type_of c.args.self.now.nodes.now c.args.element)) c.requires.apart _ h in
     let stays = rw i.lent.nodes at c.in-Err.ensures.level in
     rw stays.same (follow_on (in_later i.frame.room c.in-Err.ensures.frame.left.room i.so_far.2) (elements_over _ _ _ _ _ _ _ (max 1 (least_width (type_of c.args.self.now.nodes.now c.args.element))) _ i.so_far.1 i.inside due (e.limit ∙ i.frame.limit) e.ok e.made _ ends h))
-
-pub map_elements-returns-then-ends-clause-begins : goal.map_elements-returns-then-ends-clause-begins
-map_elements-returns-then-ends-clause-begins g t c = λ packing.
-    let there = rw c.in-Err.ensures.frame.left.room.room at packing in
-    let stays = rw c.loop-order.invariant.lent.nodes at c.in-Err.ensures.level in
-    rw stays.same (c.loop-order.invariant.begins there)
 
 pub map_elements-returns-in-Err-clause-is : goal.map_elements-returns-in-Err-clause-is
 map_elements-returns-in-Err-clause-is g t c =
@@ -546,7 +538,7 @@ map_elements-returns-in-Err-clause-is g t c =
     let h = rw (i.lent.nodes, i.frame.len) at c.in-Err.ensures.is in
     let h = in_world (g.S.Space.view c.args.space.now) (g.S.Space.view c.loop-order.space) i.frame.bytes i.frame.room c.in-Err.ensures.frame.left.room h in
     let ends = sym c.ends.ensures ∙ c.if-ends.false in
-    let h = element_stopped (row_width (type_of c.args.self.now.nodes.now c.args.element)) c.requires.apart _ h in
+    let h = element_stopped (row_of (type_of c.args.self.now.nodes.now c.args.element)) c.requires.apart _ h in
     follow_on (in_later i.frame.room c.in-Err.ensures.frame.left.room i.so_far.2) (elements_stop _ _ _ _ _ _ _ (max 1 (least_width (type_of c.args.self.now.nodes.now c.args.element))) _ i.so_far.1 i.inside due (e.limit ∙ i.frame.limit) e.ok e.made _ ends h)
 
 pub map_elements-returns-then-is_met-clause-is : goal.map_elements-returns-then-is_met-clause-is

@@ -5,7 +5,6 @@ use Rattle.pickle_map.specs.Calls.{as_fields, as_alternatives, as_elements}
 use Rattle.pickle_map.specs.Follows.{Partly}
 use Rattle.pickle_map.specs.AtWork.{StaysLent}
 use Rattle.pickle_map.specs.Framed.{Frame, Runs, LevelStays, under_way}
-use Rattle.pickle_map.specs.Row.{BeginsApart}
 use Rattle.mapping_plans.specs.Mapping.{plan, fields_plan, element_plan, elements_plan, alternatives_plan}
 use Rattle.value_store.specs.Slots.{levels, level_count}
 use Rattle.pickle_map.proofs.Shapes.{fields_bound, parts_bound}
@@ -25,10 +24,13 @@ abbrev pub decreases-map_checked : goal.decreases-map_checked
 decreases-map_checked g l = 8 * l.node + 7
 
 abbrev pub decreases-map_array : goal.decreases-map_array
-decreases-map_array g l = 8 * l.element + 9
+decreases-map_array g l = 8 * l.element + 10
 
 abbrev pub decreases-array_body : goal.decreases-array_body
-decreases-array_body g l = 8 * l.element + 8
+decreases-array_body g l = 8 * l.element + 9
+
+abbrev pub decreases-elements_body : goal.decreases-elements_body
+decreases-elements_body g l = 8 * l.element + 8
 
 abbrev pub decreases-map_elements : goal.decreases-map_elements
 decreases-map_elements g l = 8 * l.element + 7
@@ -85,7 +87,6 @@ invariant-map_elements-loop-order g l = record {
   inside : l.place ≤ 8 * (g.S.Space.view l.initial.space).len;
   level : LevelStays l.initial.self.nodes.now l.initial.self.store.now l.self.store.now;
   counted : l.count + l.start ≤ l.place;
-  begins : BeginsApart l.initial.self.nodes.now l.self.store.now;
   so_far : (n : ℕ) × (8 * (g.S.Space.view l.initial.space).len < l.place + n * max 1 (least_width (type_of l.initial.self.nodes.now l.element))) ×
       Runs (g.S.Space.view l.initial.space) l.initial.self.meter.now l.self.meter.now l.initial.self.store.now l.self.store.now
       (as_elements l.element l.extent l.order l.start l.initial.self.nodes.now (8 * (g.S.Space.view l.initial.space).len) (levels l.initial.self.nodes.now l.initial.self.store.now))

@@ -27,7 +27,7 @@ integral_body-returns-in_err-close_struct-clause-is g t c =
     let named = c.requires.names ∙ sym (parts_named (type_of c.args.self.now.nodes.now) c.args.fields.now) in
     let full = rw (named, c.from.ensures) at (c.in_err-close_struct.ensures.full c.args.self.now.nodes.now) in
     let keeps = c.in_ok-place_fields.ensures.frame.left.room in
-    rw (p.1, p.2) (λ known. closes_no_room _ _ _ (in_later keeps c.in_err-close_struct.ensures.room (c.in_ok-place_fields.ensures.is known)) (lacks_these keeps full c.in_err-close_struct.ensures.lacks))
+    rw (p.1, p.2) (λ known. closes_no_room _ _ _ (in_later keeps c.in_err-close_struct.ensures.room (c.in_ok-place_fields.ensures.is known)) (lacks_these keeps tt full c.in_err-close_struct.ensures.lacks))
 
 pub integral_body-returns-in_err-close_struct-clause-level : goal.integral_body-returns-in_err-close_struct-clause-level
 integral_body-returns-in_err-close_struct-clause-level g t c =

@@ -62,7 +62,7 @@ returns-in_err-push_packed-in-Ok-clause-is g c =
     let more = row_more c.args.shape i.so_far.0 c.in-Ok.digits c.args.start c.loop-meter.place outer i.so_far.3 in
     let full = subst (Exceeds c.loop-meter.store.room) more (c.in_err-push_packed-in-Ok.ensures.full c.args.self.now.nodes.now i.so_far.0 outer i.so_far.5) in
     let cannot = rw c.element_width-width.ensures at c.in_err-push_packed-in-Ok.ensures.lacks in
-    let lacks = lacks_these (same_room c.loop-meter.store) full cannot in
+    let lacks = lacks_these (same_room c.loop-meter.store) tt full cannot in
     let h = element_no_room {world = world_of (g.S.Space.view c.loop-meter.space) c.loop-meter.store c.push_packed.new.self} c.args.shape (8 * (g.S.Space.view c.args.space.now).len) (type_of c.args.self.now.nodes.now c.args.element) c.args.order (row_levels c.args.shape i.so_far.0 c.args.start (outer_of (levels c.args.self.now.nodes.now c.args.self.now.store.now))) c.loop-meter.place c.requires.shape.is i.inside c.in-Ok.digits r.limit r.steps r.made fits may lacks in
     let h = in_world (g.S.Space.view c.args.space.now) (g.S.Space.view c.loop-meter.space) i.frame.bytes i.frame.room c.in_err-push_packed-in-Ok.ensures.room h in
     rw (p.1, p.2) (follow_on (in_later i.frame.room c.in_err-push_packed-in-Ok.ensures.room i.so_far.6) (elements_stop _ _ _ _ _ _ _ (max 1 (least_width (type_of c.args.self.now.nodes.now c.args.element))) _ i.so_far.2 i.inside due (e.limit ∙ i.frame.limit) e.ok e.made Memory refl h))

@@ -11,7 +11,7 @@ pub returns-in_err-push_offset-clause-is : goal.returns-in_err-push_offset-claus
 unfolding number_plan
 returns-in_err-push_offset-clause-is g c =
     let p = err_from_is_err_and c.from_residual.result c.from_residual.ensures.1 in
-    rw (p.1, p.2) (λ known. follow_no_room (lacks_these (same_room c.args.self.now.store.now) (c.in_err-push_offset.ensures.full c.args.self.now.nodes.now) c.in_err-push_offset.ensures.lacks))
+    rw (p.1, p.2) (λ known. follow_no_room (lacks_these (same_room c.args.self.now.store.now) tt (c.in_err-push_offset.ensures.full c.args.self.now.nodes.now) c.in_err-push_offset.ensures.lacks))
 
 pub returns-in_err-push_offset-clause-level : goal.returns-in_err-push_offset-clause-level
 returns-in_err-push_offset-clause-level g c =

@@ -23,7 +23,7 @@ returns-in_err-close_row-clause-is g c =
     let outer = outer_of (levels c.args.self.now.nodes.now c.args.self.now.store.now) in
     let closed = row_closed c.args.shape m.numbers c.args.start c.in_ok-end.end outer m.ends in
     let full = rw closed at (c.in_err-close_row.ensures.full c.args.self.now.nodes.now m.numbers outer m.packing) in
-    let lacks = lacks_these c.in_ok-end.ensures.frame.left.room full c.in_err-close_row.ensures.lacks in
+    let lacks = lacks_these c.in_ok-end.ensures.frame.left.room tt full c.in_err-close_row.ensures.lacks in
     let move = row_move c.args.shape (type_of c.args.self.now.nodes.now c.args.element) c.requires.shape.is in
     rw (p.1, p.2) (array_no_room _ _ _ _ (in_later c.in_ok-end.ensures.frame.left.room c.in_err-close_row.ensures.room m.runs) (type_of c.args.self.now.nodes.now c.args.element) (rw move lacks))
 

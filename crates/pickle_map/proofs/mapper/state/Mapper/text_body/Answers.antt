@@ -40,7 +40,7 @@ returns-in_err-close_text-in-Ok-clause-is g c =
     let full = c.in_err-close_text-in-Ok.ensures.full c.args.self.now.nodes.now i.so_far.0 (outer_of (levels c.args.self.now.nodes.now c.args.self.now.store.now)) i.so_far.4 in
     let end : c.args.start + 8 * (length i.so_far.0 + 1) ≡ c.loop-byte.place + 8 = omega (arith, i.so_far.3) in
     let full = rw end at full in
-    rw (p.1, p.2) (follow_on (in_later i.frame.room c.in_err-close_text-in-Ok.ensures.room i.so_far.5) (text_not_closed _ _ _ _ _ _ i.so_far.2 i.inside _ (r.limit ∙ i.frame.limit) r.steps r.made fits may c.if-byte-eq0.true (lacks_these i.frame.room full c.in_err-close_text-in-Ok.ensures.lacks)))
+    rw (p.1, p.2) (follow_on (in_later i.frame.room c.in_err-close_text-in-Ok.ensures.room i.so_far.5) (text_not_closed _ _ _ _ _ _ i.so_far.2 i.inside _ (r.limit ∙ i.frame.limit) r.steps r.made fits may c.if-byte-eq0.true (lacks_these i.frame.room tt full c.in_err-close_text-in-Ok.ensures.lacks)))
 
 pub returns-in_err-close_text-in-Ok-clause-level : goal.returns-in_err-close_text-in-Ok-clause-level
 returns-in_err-close_text-in-Ok-clause-level g c =
@@ -74,7 +74,7 @@ returns-in_err-push_byte-in-Ok-clause-is g c =
     let fits = rw i.frame.len at r.inside in
     let may = may_same _ _ _ _ i.frame.bytes r.ok in
     let full = c.in_err-push_byte-in-Ok.ensures.full c.args.self.now.nodes.now i.so_far.0 (outer_of (levels c.args.self.now.nodes.now c.args.self.now.store.now)) i.so_far.4 in
-    rw (p.1, p.2) (follow_on (in_later i.frame.room c.in_err-push_byte-in-Ok.ensures.room i.so_far.5) (text_no_room _ _ _ _ _ _ i.so_far.2 i.inside _ (r.limit ∙ i.frame.limit) r.steps r.made fits may c.if-byte-eq0.false (lacks_these i.frame.room full c.in_err-push_byte-in-Ok.ensures.lacks)))
+    rw (p.1, p.2) (follow_on (in_later i.frame.room c.in_err-push_byte-in-Ok.ensures.room i.so_far.5) (text_no_room _ _ _ _ _ _ i.so_far.2 i.inside _ (r.limit ∙ i.frame.limit) r.steps r.made fits may c.if-byte-eq0.false (lacks_these i.frame.room tt full c.in_err-push_byte-in-Ok.ensures.lacks)))
 
 pub returns-in_err-push_byte-in-Ok-clause-level : goal.returns-in_err-push_byte-in-Ok-clause-level
 returns-in_err-push_byte-in-Ok-clause-level g c =

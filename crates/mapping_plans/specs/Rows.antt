@@ -1,0 +1,95 @@
+-- How a store may pack the elements of an array of a type.
+use Rattle.std.specs.Prelude.{ℕ, ◌+◌, List, [], ◌∷◌, Option, Some, None, Bool, true, false, nat_eq, nat_le, if◌then◌else◌}
+use Rattle.pickle_types.specs.Types.{PokeType, IntegerOf, OffsetOf, StringOf, ArrayOf, StructOf, IntegralOf, UnionOf, Fields, NoFields, FieldThen, Term, Number, Text, Name, Bracket, Before, Between, Choice, Index, Select, AttributeOf, ToInteger, ToOffset, InUnit}
+use Rattle.value_store.specs.Packed.{bytes_for}
+use Rattle.value_store.specs.declared.store.slots.Shape.{Shape}
+use Rattle.value_store.specs.declared.store.slots.Shape.TheVariants as value
+
+-- an expression names nothing of the frame at that level, counted from the innermost
+abbrev pub avoids : (level : ℕ) → Term → Bool
+avoids level (Number type value) = true
+avoids level (Text bytes) = true
+avoids level (Name named place) = if nat_eq named level then false else true
+avoids level (Bracket e) = avoids level e
+avoids level (Before op e) = avoids level e
+avoids level (Between op a b) = if avoids level a then avoids level b else false
+avoids level (Choice common c x y) = if avoids level c then (if avoids level x then avoids level y else false) else false
+avoids level (Index e i) = if avoids level e then avoids level i else false
+avoids level (Select e place) = avoids level e
+avoids level (AttributeOf attribute e) = avoids level e
+avoids level (ToInteger type e) = avoids level e
+avoids level (ToOffset type unit e) = avoids level e
+avoids level (InUnit unit e) = avoids level e
+
+-- a clause that is left out avoids each frame
+abbrev pub clause_avoids : (level : ℕ) → Option Term → Bool
+clause_avoids level None = true
+clause_avoids level (Some e) = avoids level e
+
+-- how elements are kept, where arrays are packed: as other values, as numbers of so many bits side by side, or as structs of
+-- numbers of such widths side by side
+pub data Row : Type 0 where
+  Apart : Row
+  Numbers : (width : ℕ) → Row
+  Records : (widths : List ℕ) → Row
+
+-- the width of an integer or an offset
+abbrev pub scalar_width : PokeType → Option ℕ
+scalar_width (IntegerOf type) = Some type.width
+scalar_width (OffsetOf type unit) = Some type.width
+scalar_width StringOf = None
+scalar_width (ArrayOf element bound) = None
+scalar_width (StructOf name pinned _) = None
+scalar_width (IntegralOf name type _) = None
+scalar_width (UnionOf name alternatives) = None
+
+-- the width of a field that is always there, behind the one before it, and whose constraint names nothing of the frame
+-- around the struct
+abbrev pub column_width : PokeType → (constraint label condition : Option Term) → Option ℕ
+column_width type constraint None None = if clause_avoids 1 constraint then scalar_width type else None
+column_width type constraint (Some label) condition = None
+column_width type constraint None (Some condition) = None
+
+abbrev pub column_then : Option ℕ → Option (List ℕ) → Option (List ℕ)
+column_then (Some width) (Some widths) = Some (width ∷ widths)
+column_then None widths = None
+column_then (Some width) None = None
+
+-- the widths of fields that all are such numbers
+abbrev pub column_widths : Fields → Option (List ℕ)
+column_widths NoFields = Some []
+column_widths (FieldThen name order type constraint label condition rest) = column_then (column_width type constraint label condition) (column_widths rest)
+
+-- how many bytes numbers of these widths take side by side
+abbrev pub stride_of : List ℕ → ℕ
+stride_of [] = 0
+stride_of (width ∷ widths) = bytes_for width + stride_of widths
+
+-- at least one byte, and at most 512
+abbrev pub records_of : Option (List ℕ) → Row
+records_of None = Apart
+records_of (Some widths) = if nat_le 1 (stride_of widths) then (if nat_le (stride_of widths) 512 then Records widths else Apart) else Apart
+
+abbrev pub struct_row : (pinned : Bool) → Fields → Row
+struct_row true _ = Apart
+struct_row false fields = records_of (column_widths fields)
+
+-- how the elements of a type are kept
+abbrev pub row_of : PokeType → Row
+row_of (IntegerOf type) = Numbers type.width
+row_of (OffsetOf type unit) = Numbers type.width
+row_of StringOf = Apart
+row_of (ArrayOf element bound) = Apart
+row_of (StructOf name pinned fields) = struct_row pinned fields
+row_of (IntegralOf name type _) = Apart
+row_of (UnionOf name alternatives) = Apart
+
+-- the shape of the node of an integer or an offset
+abbrev pub scalar_shape : PokeType → Shape
+scalar_shape (IntegerOf type) = value.Integer type.width type.signed
+scalar_shape (OffsetOf type unit) = value.Offset type.width type.signed unit
+scalar_shape StringOf = value.Text
+scalar_shape (ArrayOf element bound) = value.Array
+scalar_shape (StructOf name pinned _) = value.Array
+scalar_shape (IntegralOf name type _) = value.Array
+scalar_shape (UnionOf name alternatives) = value.Array
