@@ -134,3 +134,10 @@ module _ (nodes : List Node) (limit : ℕ) where
   pub stops_seen : (before mid after : ℕ) (u : Unvalued) (a : Evaluation) → mid ≡ before + 1 → Evaluated nodes limit mid after (Err u) a → Seen limit before after (Err u) (with_steps 1 a)
   stops_seen b m z (Fault kind) a em h = (h.0, omega (arith, em, h.1))
   stops_seen b m z Limit a em h = (h.0, omega (arith, em, h.1))
+
+  -- what was seen after a step
+  pub stepped_seen : (before mid after : ℕ) (r : Result Content Unvalued) (a : Evaluation) → mid ≡ before + 1 →
+      Seen limit mid after r a → Seen limit before after r (with_steps 1 a)
+  stepped_seen b m z (Ok c) a em h = (h.0, h.1, h.2, omega (arith, em, h.3))
+  stepped_seen b m z (Err (Fault kind)) a em h = (h.0, omega (arith, em, h.1))
+  stepped_seen b m z (Err Limit) a em h = (h.0, omega (arith, em, h.1))

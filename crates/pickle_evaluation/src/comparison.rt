@@ -17,6 +17,9 @@ use value_store::ranges::converted;
 use value_store::scalar::Scalar;
 use value_store::store::Store;
 
+/// The steps of a comparison of two integers, each a literal or a name.
+pub const COMPARISON_STEPS: u64 = 3;
+
 /// An integer and its type.
 #[derive(Clone, Copy)]
 pub struct Typed {

@@ -16,7 +16,7 @@ ghost use Rattle.pickle_evaluation.specs.Contents.{IsSoundContent, IsHeld};
 ghost use Rattle.pickle_evaluation.specs.Evaluating.{Chooses, Combines, Evaluates, EvaluatesOn, Indexes, Looks};
 ghost use Rattle.value_store.specs.Scalars.{computed_of, IsScalar};
 
-use crate::comparison::leaf;
+use crate::comparison::{COMPARISON_STEPS, comparison, leaf};
 use crate::content::{Content, combined, in_unit, prefixed, seen, to_integer, to_offset, truth_of};
 use crate::integers::truth;
 use crate::operand::{Operand, Unvalued};
@@ -110,7 +110,8 @@ fn applied<'a>(
     }
 }
 
-/// What matters to an operator about an operand. A literal or named integer takes the fast path.
+/// What matters to an operator about an operand. Literal and named integers take a fast path, and so do comparisons of
+/// two of them.
 #[cycle(evaluate)]
 #[inline(never)]
 pub fn look<'a>(
@@ -129,10 +130,18 @@ pub fn look<'a>(
         meter.tick()?;
         return Ok(Content::Scalar(Scalar::Integer(n.number, n.of)));
     }
+    if let Some(holds) = comparison(e, store) {
+        take_steps(COMPARISON_STEPS, meter)?;
+        return Ok(Content::Scalar(truth(holds)));
+    }
     match e {
         Resolved::Infix(op, a, b) => {
             meter.tick()?;
             Ok(Content::Scalar(infix(*op, a, b, store, meter)?))
+        }
+        Resolved::Bracket(e) => {
+            meter.tick()?;
+            look(e, store, meter)
         }
         _ => Ok(seen(evaluate(e, store, meter)?)),
     }

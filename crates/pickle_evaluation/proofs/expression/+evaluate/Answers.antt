@@ -17,7 +17,9 @@ use Rattle.pickle_meaning.specs.Evaluation.{evaluation, operand_label, truth_of,
 use Rattle.pickle_evaluation.specs.Comes.{computed_operand, infix_part, choice_part, index_part}
 use Rattle.pickle_evaluation.proofs.Signed.{small_fits}
 use Rattle.pickle_evaluation.proofs.Evaluations.{first_stops, goes_on}
-use Rattle.pickle_evaluation.proofs.Arms.{computed_seen, stops_seen, seen_stops, seen_goes_on, seen_at, seen_arm_stops, seen_arm_computes, seen_arm_faults, at_limit, is_led, is_not_led, leads, leads_not, arm_stops, arm_computes, arm_faults, arm_leads, arm_leads_not, arm_is, settles, settles_not, not_chosen, left_chosen, right_chosen}
+use Rattle.pickle_evaluation.proofs.Arms.{computed_seen, stops_seen, seen_stops, seen_goes_on, seen_at, stepped_seen, seen_arm_stops, seen_arm_computes, seen_arm_faults, at_limit, is_led, is_not_led, leads, leads_not, arm_stops, arm_computes, arm_faults, arm_leads, arm_leads_not, arm_is, settles, settles_not, not_chosen, left_chosen, right_chosen}
+use Rattle.pickle_evaluation.specs.Evaluating.{truth_label}
+use Rattle.value_store.specs.Scalars.{scalar_label}
 use Rattle.value_store.specs.Slots.{levels}
 use Rattle.pickle_evaluation.proofs.expression.+evaluate.Goals as goal
 
@@ -314,6 +316,18 @@ look-returns-in-Some-clause-is t c nodes =
     let n = to_z-of_z w128 c.in-Some.n.number (small_fits c.in-Some.n.of.signed c.in-Some.n.number c.in-Some.ensures.width.1) in
     rw (n, one.3) (one.0, one.1, one.2, c.in_ok-tick.ensures.ok)
 
+pub look-returns-in_err-take_steps-clause-is : goal.look-returns-in_err-take_steps-clause-is
+look-returns-in_err-take_steps-clause-is t c nodes =
+    let p = err_from_is_err_and c.from_residual-in_err-take_steps.result c.from_residual-in_err-take_steps.ensures.1 in
+    let found = c.in-Some-comparison.ensures nodes in
+    rw (p.1, p.2, found.3) c.in_err-take_steps.ensures.err
+
+pub look-returns-in-Some-comparison-clause-is : goal.look-returns-in-Some-comparison-clause-is
+look-returns-in-Some-comparison-clause-is t c nodes =
+    let found = c.in-Some-comparison.ensures nodes in
+    let same : truth_label c.in-Some-comparison.holds ≡ scalar_label c.truth.result = let e = c.truth.ensures.is in cc in
+    rw found.3 (found.0, found.1, found.2 ∙ same, c.in_ok-take_steps.ensures.ok)
+
 pub look-returns-in_err-tick-in-Infix-clause-is : goal.look-returns-in_err-tick-in-Infix-clause-is
 look-returns-in_err-tick-in-Infix-clause-is t c nodes =
     let p = err_from_is_err_and c.from_residual-in_err-tick-in-Infix.result c.from_residual-in_err-tick-in-Infix.ensures.1 in
@@ -333,6 +347,21 @@ look-returns-in_ok-infix-in-Infix-clause-is t c nodes =
     rw (c.in-Infix.is, ← c.deref.ensures, ← c.deref-in-Infix.ensures)
     (computed_seen nodes c.args.meter.now.limit c.args.meter.now.steps c.tick-in-Infix.new.self.steps c.infix.new.meter.steps c.in_ok-infix-in-Infix.field-0 (infix_part c.in-Infix.op (term_of c.deref.result.now) (term_of c.deref-in-Infix.result.now) (levels nodes c.args.store.now)) c.in_ok-tick-in-Infix.ensures.ok
     (at_limit nodes c.tick-in-Infix.new.self.limit c.args.meter.now.limit c.tick-in-Infix.new.self.steps c.infix.new.meter.steps (Ok (computing.Scalar c.in_ok-infix-in-Infix.field-0)) (infix_part c.in-Infix.op (term_of c.deref.result.now) (term_of c.deref-in-Infix.result.now) (levels nodes c.args.store.now)) c.in_ok-tick-in-Infix.ensures.limit (c.in_ok-infix-in-Infix.ensures.is nodes)))
+
+pub look-returns-in_err-tick-in-Bracket-clause-is : goal.look-returns-in_err-tick-in-Bracket-clause-is
+look-returns-in_err-tick-in-Bracket-clause-is t c nodes =
+    let p = err_from_is_err_and c.from_residual-in_err-tick-in-Bracket.result c.from_residual-in_err-tick-in-Bracket.ensures.1 in
+    let same = c.in_err-tick-in-Bracket.ensures.err in
+    rw (p.1, p.2) (no_step nodes c.args.meter.now.limit c.args.meter.now.steps c.tick-in-Bracket.new.self.steps c.args.e.now (levels nodes c.args.store.now) same (same ∙ c.in_err-tick-in-Bracket.ensures.refused.0 refl))
+
+pub look-returns-in_ok-tick-in-Bracket-clause-is : goal.look-returns-in_ok-tick-in-Bracket-clause-is
+unfolding evaluation
+look-returns-in_ok-tick-in-Bracket-clause-is t c nodes =
+    let inside = evaluation (term_of c.deref-in-Bracket.result.now) (levels nodes c.args.store.now) in
+    let middle = c.tick-in-Bracket.new.self.steps in
+    rw (c.in-Bracket.is, ← c.deref-in-Bracket.ensures)
+    (stepped_seen nodes c.args.meter.now.limit c.args.meter.now.steps middle c.look.new.meter.steps c.look.result inside c.in_ok-tick-in-Bracket.ensures.ok
+    (seen_at nodes c.args.meter.now.limit c.tick-in-Bracket.new.self.limit middle c.look.new.meter.steps c.look.result inside c.in_ok-tick-in-Bracket.ensures.limit (c.look.ensures.is nodes)))
 
 pub look-returns-in_ok-evaluate-in_default-e-clause-is : goal.look-returns-in_ok-evaluate-in_default-e-clause-is
 look-returns-in_ok-evaluate-in_default-e-clause-is t c nodes =
