@@ -28,33 +28,28 @@ pub enum Explained {
 
 /// The endings of a job that `--why` would explain.
 pub fn explained_endings(asked: &Asked) -> Explained {
-    if asked.why {
+    if asked.why || lacks_why(&asked.job) {
         return Explained::Nothing;
     }
-    match &asked.job {
-        Job::Map { .. }
-        | Job::Bound { .. }
-        | Job::BoundText { .. }
-        | Job::Check { .. }
-        | Job::Types { .. } => Explained::Endings,
-        Job::Request(request) => match (&request.over, &request.form) {
-            (
-                Over::File(_),
-                Form::Printed {
-                    faults: FaultForm::Text,
-                    ..
-                },
-            ) => Explained::Endings,
-            (
-                Over::Files { .. },
-                Form::Printed {
-                    faults: FaultForm::Text,
-                    ..
-                },
-            ) => Explained::Refusals,
-            _ => Explained::Nothing,
-        },
-        Job::Formats | Job::Dump { .. } => Explained::Nothing,
+    let Job::Request(request) = &asked.job else {
+        return Explained::Endings;
+    };
+    match (&request.over, &request.form) {
+        (
+            Over::File(_),
+            Form::Printed {
+                faults: FaultForm::Text,
+                ..
+            },
+        ) => Explained::Endings,
+        (
+            Over::Files { .. },
+            Form::Printed {
+                faults: FaultForm::Text,
+                ..
+            },
+        ) => Explained::Refusals,
+        _ => Explained::Nothing,
     }
 }
 
