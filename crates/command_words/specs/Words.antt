@@ -5,18 +5,12 @@ use Rattle.text_forms.specs.declared.mode.Mode.TheVariants.{Flat, Tree, Json, Li
 use Rattle.command_words.specs.declared.answer_form.AnswerForm.TheVariants as answer
 use Rattle.command_words.specs.declared.words.Asked.{Asked}
 use Rattle.command_words.specs.declared.words.Job.{Job}
-use Rattle.command_words.specs.declared.words.Job.TheVariants.{Map, Request, Bound, BoundText, Check, Types, Formats, Dump}
+use Rattle.command_words.specs.declared.words.Job.TheVariants.{Check}
 
 -- a check of the pickle with this name
 abbrev pub IsCheckOf : List ℕ → Job → Type 0
-IsCheckOf name (Map at order limit mode pickle type file) = ⊥
-IsCheckOf name (Request request) = ⊥
-IsCheckOf name (Bound pickle type bits) = ⊥
-IsCheckOf name (BoundText pickle type bits mode style) = ⊥
 IsCheckOf name (Check pickle) = string_bytes pickle ≡ name
-IsCheckOf name (Types pickle) = ⊥
-IsCheckOf name Formats = ⊥
-IsCheckOf name (Dump from size ruler file) = ⊥
+IsCheckOf name job = ⊥
 
 -- the same, without an explanation of a refusal, in words, and of no dump
 abbrev pub IsBareCheckOf : List ℕ → Asked → Type 0
