@@ -1,7 +1,7 @@
 -- Comparisons of integers, by the values of their sides.
 use Rattle.std.proofs.Common.{◌≡◌, ℕ, ◌+◌, if◌then◌else◌, Bool, true, Some, None, Result, Ok, Err, ℤ, pos, refl}
 use Rattle.pickle_tree.specs.declared.tree.Infix.{Infix}
-use Rattle.pickle_tree.specs.declared.tree.Infix.TheVariants.{LogicalOr, LogicalAnd, BitOr, BitXor, BitAnd, Equal, NotEqual, Less, LessEqual, Greater, GreaterEqual, ShiftLeft, ShiftRight, Add, Subtract, Multiply, Divide, Remainder}
+use Rattle.pickle_tree.specs.declared.tree.Infix.TheVariants.{Equal, NotEqual, Less, LessEqual, Greater, GreaterEqual}
 use Rattle.pickle_types.specs.declared.integer.IntegerType.{IntegerType}
 use Rattle.pickle_types.specs.Types.{Term, Name, Between}
 use Rattle.pickle_types.specs.Operators.{common}
@@ -14,66 +14,33 @@ use Rattle.pickle_meaning.specs.Values.{Label, IntegerLabel, OffsetLabel, TextLa
 
 -- neither side settles a comparison alone
 pub not_settled : (op : Infix) (t : Result Bool MapFaultKind) → is_comparison op ≡ true → settled op t ≡ None
-not_settled LogicalOr t e = cc
-not_settled LogicalAnd t e = cc
-not_settled BitOr t e = refl
-not_settled BitXor t e = refl
-not_settled BitAnd t e = refl
 not_settled Equal t e = refl
 not_settled NotEqual t e = refl
 not_settled Less t e = refl
 not_settled LessEqual t e = refl
 not_settled Greater t e = refl
 not_settled GreaterEqual t e = refl
-not_settled ShiftLeft t e = refl
-not_settled ShiftRight t e = refl
-not_settled Add t e = refl
-not_settled Subtract t e = refl
-not_settled Multiply t e = refl
-not_settled Divide t e = refl
-not_settled Remainder t e = refl
+not_settled op t e = cc
 
 pub common_order : (op : Infix) (x : ℤ) (t : IntegerType) (y : ℤ) (u : IntegerType) → is_comparison op ≡ true →
     on_integers op x t y u ≡ on_common op (common t u) (converted (common t u) x) (converted (common t u) y)
 unfolding on_integers
-common_order LogicalOr x t y u e = cc
-common_order LogicalAnd x t y u e = cc
-common_order BitOr x t y u e = cc
-common_order BitXor x t y u e = cc
-common_order BitAnd x t y u e = cc
 common_order Equal x t y u e = refl
 common_order NotEqual x t y u e = refl
 common_order Less x t y u e = refl
 common_order LessEqual x t y u e = refl
 common_order Greater x t y u e = refl
 common_order GreaterEqual x t y u e = refl
-common_order ShiftLeft x t y u e = cc
-common_order ShiftRight x t y u e = cc
-common_order Add x t y u e = cc
-common_order Subtract x t y u e = cc
-common_order Multiply x t y u e = cc
-common_order Divide x t y u e = cc
-common_order Remainder x t y u e = cc
+common_order op x t y u e = cc
 
 pub last_comparison : (op : Infix) → is_comparison op ≡ true → (op ≡ Equal → ⊥) → (op ≡ NotEqual → ⊥) → (op ≡ Less → ⊥) → (op ≡ LessEqual → ⊥) → (op ≡ Greater → ⊥) → op ≡ GreaterEqual
-last_comparison LogicalOr e n1 n2 n3 n4 n5 = cc
-last_comparison LogicalAnd e n1 n2 n3 n4 n5 = cc
-last_comparison BitOr e n1 n2 n3 n4 n5 = cc
-last_comparison BitXor e n1 n2 n3 n4 n5 = cc
-last_comparison BitAnd e n1 n2 n3 n4 n5 = cc
 last_comparison Equal e n1 n2 n3 n4 n5 = absurd (n1 refl)
 last_comparison NotEqual e n1 n2 n3 n4 n5 = absurd (n2 refl)
 last_comparison Less e n1 n2 n3 n4 n5 = absurd (n3 refl)
 last_comparison LessEqual e n1 n2 n3 n4 n5 = absurd (n4 refl)
 last_comparison Greater e n1 n2 n3 n4 n5 = absurd (n5 refl)
 last_comparison GreaterEqual e n1 n2 n3 n4 n5 = refl
-last_comparison ShiftLeft e n1 n2 n3 n4 n5 = cc
-last_comparison ShiftRight e n1 n2 n3 n4 n5 = cc
-last_comparison Add e n1 n2 n3 n4 n5 = cc
-last_comparison Subtract e n1 n2 n3 n4 n5 = cc
-last_comparison Multiply e n1 n2 n3 n4 n5 = cc
-last_comparison Divide e n1 n2 n3 n4 n5 = cc
-last_comparison Remainder e n1 n2 n3 n4 n5 = cc
+last_comparison op e n1 n2 n3 n4 n5 = cc
 
 -- an operand that has a label, and the result for that label
 pub and_comes : (a : Evaluation) (f : Operand → Evaluation) (g : Evaluation) (l : Label) (n : ℕ) → ComesTo a l n → ((x : Operand) → operand_label x ≡ l → f x ≡ g) → and_operand a f ≡ with_steps n g

@@ -149,14 +149,7 @@ fn on_bits(
         Infix::Subtract => units_of(number, unit, x - y),
         Infix::Divide => quotient_of_bits(number, x, y),
         Infix::Remainder => remainder_of_bits(number, unit, x, y),
-        Infix::LogicalOr
-        | Infix::LogicalAnd
-        | Infix::BitOr
-        | Infix::BitXor
-        | Infix::BitAnd
-        | Infix::ShiftLeft
-        | Infix::ShiftRight
-        | Infix::Multiply => Err(MapFaultKind::Absent),
+        _ => Err(MapFaultKind::Absent),
     }
 }
 
@@ -273,22 +266,6 @@ fn on_scaled(
 {
     match op {
         Infix::Multiply => scaled(common(t, u), unit, x, t.signed, y, u.signed),
-        Infix::LogicalOr
-        | Infix::LogicalAnd
-        | Infix::BitOr
-        | Infix::BitXor
-        | Infix::BitAnd
-        | Infix::Equal
-        | Infix::NotEqual
-        | Infix::Less
-        | Infix::LessEqual
-        | Infix::Greater
-        | Infix::GreaterEqual
-        | Infix::ShiftLeft
-        | Infix::ShiftRight
-        | Infix::Add
-        | Infix::Subtract
-        | Infix::Divide
-        | Infix::Remainder => Err(MapFaultKind::Absent),
+        _ => Err(MapFaultKind::Absent),
     }
 }
