@@ -14,12 +14,11 @@ use Rattle.pickle_meaning.specs.Means.{value_of}
 use Rattle.pickle_meaning.specs.Values.{Mapped, top_of, outer_of, gathered}
 use Rattle.value_store.specs.Closed.{struct_label}
 use Rattle.value_store.specs.Levels.{extended}
-use Rattle.value_store.specs.Gathering.{records_array, with_records, last_value, EndsWithTemplate, IsDraft, IsGathering, gathering_levels, AddsColumn, BeginsRecords, TakesRecord, Gathers, ClosesRecords}
+use Rattle.value_store.specs.Gathering.{AreColumns, records_array, with_records, last_value, EndsWithTemplate, IsDraft, IsGathering, gathering_levels, AddsColumn, BeginsRecords, TakesRecord, Gathers, ClosesRecords}
 use Rattle.value_store.specs.Names.{Names}
 use Rattle.value_store.specs.Packed.{bytes_for, bytes_number}
-use Rattle.value_store.specs.Slots.{Slots, Held, no_value, packs, part, family_links, last_of, tree_of, trees, value_at, stack, levels, levels_at, cut_to, innermost, number_bits, IsNumber, AreRecords, IsColumn, AreColumns, IsTemplate, IsSound, IsLevel, AreLevels, Adds, Regrown, with_leaf, with_family, with_more}
-use Rattle.value_store.proofs.Columns.{columns-within}
-use Rattle.value_store.proofs.Counted.{marks-cut, levels-sound}
+use Rattle.value_store.specs.Slots.{Slots, Held, no_value, packs, part, family_at, family_links, last_of, tree_of, trees, value_at, stack, levels, levels_at, cut_to, innermost, number_bits, IsNumber, AreRecords, IsColumn, IsBranch, IsTemplatePart, NumberPart, BranchPart, AreTemplateParts, NoParts, PartThen, AbsentPartThen, IsTemplate, IsSound, IsLevel, AreLevels, Adds, Regrown, with_leaf, with_family, with_more}
+use Rattle.value_store.proofs.Counted.{marks-cut}
 use Rattle.value_store.proofs.FamilyRows.{Grows, part-append, slice_get-push}
 use Rattle.value_store.proofs.Fits.{innermost-level, levels-replaced, levels_at-replaced}
 use Rattle.value_store.proofs.Grown.{NewNode, nodes-new, pending-new, trees-new, stack-new, stack-cut, length-trees}
@@ -27,8 +26,15 @@ use Rattle.value_store.proofs.Held.{family-frames, family-levels}
 use Rattle.value_store.proofs.Taken.{pushed-extended}
 use Rattle.value_store.proofs.Placed.{leaf-new, family-end, family-row, family-new, family-value}
 use Rattle.value_store.proofs.PlacedBytes.{bytes-here, bytes-row, bytes-tiles}
-use Rattle.value_store.proofs.Templates.{IsTemplate-grow, AreColumns-grow}
+use Rattle.value_store.proofs.Templates.{number_no_branch, IsTemplate-grow, AreColumns-grow}
 use Rattle.value_store.proofs.Writing.{last-set}
+
+-- numbers side by side are parts of a template
+column_parts : (s : Slots) (size stride at start : ℕ) (bytes : List ℕ) (ls : List (Option ℕ)) → AreColumns s size stride at start bytes ls → AreTemplateParts s size stride start bytes ls
+column_parts s size stride at start bytes [] h = NoParts
+column_parts s size stride at start bytes (None ∷ ls) h = absurd h
+column_parts s size stride at start bytes (Some j ∷ ls) h =
+    PartThen (NumberPart h.0) (column_parts s size stride (at + bytes_for (number_bits h.0.node.shape)) start bytes ls h.2)
 
 -- an array of packed structs takes the place of its template
 
@@ -167,39 +173,40 @@ module _ (size stride start : ℕ) (bytes more : List ℕ) (are : AreRecords siz
       let all : length more ≡ stride * 1 = omega (arith, whole) in
       ap (λ n. n / stride) all ∙ mul-div_cancel_left 1 (omega (arith, are.some))
 
-  column-more : (s : Slots) (at j : ℕ) (c : IsColumn s size stride at start bytes j) (d : IsColumn s size stride at start more j) → at + bytes_for (number_bits c.node.shape) ≤ stride →
-      IsColumn s size stride at start (bytes ++ more) j
-  column-more s at j c d fits =
+  column-more : (s : Slots) (j : ℕ) (c : IsColumn s size stride start bytes j) (d : IsColumn s size stride start more j) → IsColumn s size stride start (bytes ++ more) j
+  column-more s j c d =
+      let at = c.node.content in
       let k = bytes_for (number_bits c.node.shape) in
       let w = number_bits c.node.shape in
       let same : d.node ≡ c.node = let e : Some d.node ≡ Some c.node = sym d.found ∙ c.found in cc in
       let last : bytes_number (part (stride * 0 + at) k more) < 2 ^ w =
-      subst (λ (n : Node). bytes_number (part (stride * 0 + at) (bytes_for (number_bits n.shape)) more) < 2 ^ number_bits n.shape) same (d.below 0 (omega (arith, one-more))) in
+      subst (λ (n : Node). bytes_number (part (stride * 0 + n.content) (bytes_for (number_bits n.shape)) more) < 2 ^ number_bits n.shape) same (d.below 0 (omega (arith, one-more))) in
       record {
         node = c.node;
         found = c.found;
         number = c.number;
-        place = c.place;
+        fits = c.fits;
         within = c.within;
-        below = λ i p. below-more w k at i fits c.below last (eq-or-lt_of_le (omega (arith, p, count-more)));
+        below = λ i p. below-more w k at i c.fits c.below last (eq-or-lt_of_le (omega (arith, p, count-more)));
       }
 
-  columns-more : (s : Slots) (sound : IsSound s) (at : ℕ) (ls : List (Option ℕ)) → AreColumns s size stride at start bytes ls → AreColumns s size stride at start more ls →
-      AreColumns s size stride at start (bytes ++ more) ls
-  unfolding column-more
-  columns-more s sound at [] h g = h
-  columns-more s sound at (None ∷ ls) h g = h
-  columns-more s sound at (Some j ∷ ls) h g =
-      let same : g.0.node ≡ h.0.node = let e : Some g.0.node ≡ Some h.0.node = sym g.0.found ∙ h.0.found in cc in
-      let next = at + bytes_for (number_bits h.0.node.shape) in
-      let rest : AreColumns s size stride next start more ls = subst (λ (n : Node). AreColumns s size stride (at + bytes_for (number_bits n.shape)) start more ls) same g.1 in
-      (column-more s at j h.0 g.0 (columns-within s sound size stride start bytes next ls h.1), columns-more s sound next ls h.1 rest)
+  module _ (s : Slots) where
+    mutual
+      part-more : {j : ℕ} → IsTemplatePart s size stride start bytes j → IsTemplatePart s size stride start more j → IsTemplatePart s size stride start (bytes ++ more) j
+      part-more (NumberPart {j} column) (NumberPart other) = NumberPart (column-more s j column other)
+      part-more (NumberPart column) (BranchPart branch others) = absurd (number_no_branch column branch)
+      part-more (BranchPart branch parts) (NumberPart other) = absurd (number_no_branch other branch)
+      part-more (BranchPart branch parts) (BranchPart other others) =
+          let same : other.node ≡ branch.node = let e : Some other.node ≡ Some branch.node = sym other.found ∙ branch.found in cc in
+          BranchPart branch (parts-more parts (subst (λ (n : Node). AreTemplateParts s size stride start more (family_links s.families s.links n.content)) same others))
 
-  template-more : (s : Slots) (sound : IsSound s) (i : ℕ) → IsTemplate s i size stride start bytes → IsTemplate s i size stride start more → IsTemplate s i size stride start (bytes ++ more)
-  template-more s sound i t r =
-      let same : r.node ≡ t.node = let e : Some r.node ≡ Some t.node = sym r.found ∙ t.found in cc in
-      let c = t.node.content in
-      let rest = subst (λ (n : Node). AreColumns s size stride 0 start more (family_links s.families s.links n.content)) same r.columns in
+      parts-more : {ls : List (Option ℕ)} → AreTemplateParts s size stride start bytes ls → AreTemplateParts s size stride start more ls → AreTemplateParts s size stride start (bytes ++ more) ls
+      parts-more NoParts NoParts = NoParts
+      parts-more (PartThen part rest) (PartThen other others) = PartThen (part-more part other) (parts-more rest others)
+      parts-more (AbsentPartThen rest) (AbsentPartThen others) = AbsentPartThen (parts-more rest others)
+
+  template-more : (s : Slots) (i : ℕ) → IsTemplate s i size stride start bytes → IsTemplate s i size stride start more → IsTemplate s i size stride start (bytes ++ more)
+  template-more s i t r =
       record {
         some = t.some;
         node = t.node;
@@ -207,9 +214,9 @@ module _ (size stride start : ℕ) (bytes more : List ℕ) (are : AreRecords siz
         type = t.type;
         shape = t.shape;
         begins = t.begins;
-        family = t.family;
         sized = t.sized;
-        columns = columns-more s sound 0 (family_links s.families s.links c) t.columns rest;
+        few = t.few;
+        part = part-more s t.part r.part;
       }
 
 -- the store after one more struct
@@ -220,7 +227,7 @@ module _ (h : Held) (more : List ℕ) where
   more-gathering capacity before size stride start bytes g whole short fits = record {
     is = ap (with_more more) g.is ∙ with_more-records more size stride start (innermost h.frames).pending bytes before;
     own = g.own;
-    template = template-more size stride start bytes more g.are whole before (levels-sound h.room h.frames before g.own) (length before.nodes) g.template fits;
+    template = template-more size stride start bytes more g.are whole before (length before.nodes) g.template fits;
     are = are-more size stride start bytes more g.are whole short;
     packs = g.packs;
   }
@@ -250,29 +257,24 @@ module _ (h : Held) (more : List ℕ) where
 
 -- the numbers of a template that is built
 module _ (size start : ℕ) where
-  -- no struct has bytes yet, so any number of bytes may be the stride
-  column-unread : (s : Slots) (old stride at j : ℕ) → IsColumn s size old at start [] j → IsColumn s size stride at start [] j
-  column-unread s old stride at j c = record {
+  -- no struct has bytes yet, so any number of bytes may be the stride where the number's fit
+  column-unread : (s : Slots) (old stride j : ℕ) → old ≤ stride → IsColumn s size old start [] j → IsColumn s size stride start [] j
+  column-unread s old stride j more c = record {
     node = c.node;
     found = c.found;
     number = c.number;
-    place = c.place;
+    fits = omega (arith, c.fits, more);
     within = c.within;
     below = λ i p. absurd (omega (arith, p, zero-div stride));
   }
 
-  columns-push : (s : Slots) (end at j : ℕ) (ls : List (Option ℕ)) → AreColumns s size end at start [] ls → (c : IsColumn s size end end start [] j) →
-      AreColumns s size (end + bytes_for (number_bits c.node.shape)) at start [] (ls ++ Some j ∷ [])
+  columns-push : (s : Slots) (end next at j : ℕ) (ls : List (Option ℕ)) → AreColumns s size end at start [] ls → (c : IsColumn s size next start [] j) → c.node.content ≡ end →
+      end + bytes_for (number_bits c.node.shape) ≡ next → AreColumns s size next at start [] (ls ++ Some j ∷ [])
   unfolding column-unread
-  columns-push s end at j [] h c =
-      let next = end + bytes_for (number_bits c.node.shape) in
-      let here : IsColumn s size next end start [] j = column-unread s end next end j c in
-      let own : (d : IsColumn s size next end start [] j) × AreColumns s size next (end + bytes_for (number_bits d.node.shape)) start [] [] = (here, refl) in
-      subst (λ m. AreColumns s size next m start [] (Some j ∷ [])) (sym h) own
-  columns-push s end at j (None ∷ ls) h c = absurd h
-  columns-push s end at j (Some i ∷ ls) h c =
-      let next = end + bytes_for (number_bits c.node.shape) in
-      (column-unread s end next at i h.0, columns-push s end (at + bytes_for (number_bits h.0.node.shape)) j ls h.1 c)
+  columns-push s end next at j [] h c place e = (c, place ∙ sym h, ap (λ m. m + bytes_for (number_bits c.node.shape)) h ∙ e)
+  columns-push s end next at j (None ∷ ls) h c place e = absurd h
+  columns-push s end next at j (Some i ∷ ls) h c place e =
+      (column-unread s end next i (omega (arith, e)) h.0, h.1, columns-push s end next (at + bytes_for (number_bits h.0.node.shape)) j ls h.2 c place e)
 
   pub draft-none : (h : Held) → length h.slots.pending ≡ (innermost h.frames).pending → IsDraft h size start 0
   draft-none h e = subst (λ ls. AreColumns h.slots size 0 0 start [] ls) (sym (drop_all' (innermost h.frames).pending h.slots.pending (omega (arith, e)))) refl
@@ -293,21 +295,22 @@ module _ (size start : ℕ) where
       let low = (innermost-level h.room h.frames s all).is.within.pending in
       let new = leaf-new shape begin at s number in
       let grown = AreColumns-grow s u size at 0 start [] (drop k s.pending) new.grows draft in
-      let c : IsColumn u size at at start [] (length s.nodes) = record {
+      let next = at + bytes_for (number_bits shape) in
+      let c : IsColumn u size next start [] (length s.nodes) = record {
         node = n;
         found = slice_get-push s.nodes n [];
         number = number;
-        place = refl;
+        fits = omega arith;
         within = within;
-        below = λ i p. absurd (omega (arith, p, zero-div at));
+        below = λ i p. absurd (omega (arith, p, zero-div next));
       } in
       subst (λ ls. AreColumns u size (at + bytes_for (number_bits shape)) 0 start [] ls) (sym (drop-append-le k s.pending (Some (length s.nodes) ∷ []) low))
-      (columns-push u at 0 (length s.nodes) (drop k s.pending) grown c)
+      (columns-push u at next 0 (length s.nodes) (drop k s.pending) grown c refl refl)
 
 -- the template is closed
-pub draft-closed : (h : Held) (of size stride start : ℕ) → AreLevels h.room h.frames h.slots → IsDraft h size start stride →
+pub draft-closed : (h : Held) (of size stride start : ℕ) → AreLevels h.room h.frames h.slots → IsDraft h size start stride → stride ≤ 2 ^ 16 →
     EndsWithTemplate (with_family (Struct of) start size (innermost h.frames).pending h.slots) size stride start []
-draft-closed h of size stride start all draft =
+draft-closed h of size stride start all draft few =
     let s = h.slots in
     let mark = (innermost h.frames).pending in
     let u = with_family (Struct of) start size mark s in
@@ -318,16 +321,20 @@ draft-closed h of size stride start all draft =
     let count : length u.nodes ≡ length s.nodes + 1 = length_push s.nodes n in
     let last : length u.nodes - 1 ≡ length s.nodes = omega (arith, count) in
     let columns : AreColumns u size stride 0 start [] (drop mark s.pending) = AreColumns-grow s u size stride 0 start [] (drop mark s.pending) new.grows draft in
+    let here : slice_get u.nodes (length u.nodes - 1) ≡ Some n = ap (λ m. slice_get u.nodes m) last ∙ slice_get-push s.nodes n [] in
+    let sized : (family_at u.families n.content).size ≡ size = ap (λ (f : Family). f.size) (family-end (Struct of) start size mark s tt i.sound w) in
+    let links = family-row (Struct of) start size mark s tt i.sound w in
+    let branch : IsBranch u size start (length u.nodes - 1) = record { node = n; found = here; composite = tt; family = new.is.content; within = omega (arith, sized) } in
     record {
       some = omega (arith, count);
       node = n;
-      found = ap (λ m. slice_get u.nodes m) last ∙ slice_get-push s.nodes n [];
+      found = here;
       type = of;
       shape = refl;
       begins = refl;
-      family = new.is.content;
-      sized = ap (λ (f : Family). f.size) (family-end (Struct of) start size mark s tt i.sound w);
-      columns = subst (λ ls. AreColumns u size stride 0 start [] ls) (sym (family-row (Struct of) start size mark s tt i.sound w)) columns;
+      sized = sized;
+      few = few;
+      part = BranchPart branch (subst (λ ls. AreTemplateParts u size stride start [] ls) (sym links) (column_parts u size stride 0 start [] (drop mark s.pending) columns));
     }
 
 pub are-none : (size stride start : ℕ) → 1 ≤ stride → start < 2 ^ 64 → AreRecords size stride [] start
@@ -371,17 +378,17 @@ unfolding levels
 outer-closed names h of size start all = ap outer_of (family-levels h (Struct of) start size tt all names h.capacity)
 
 -- the template is closed, and the array takes its place
-pub begins : (h r m n : Held) (of size stride start : ℕ) → AreLevels h.room h.frames h.slots → IsDraft h size start stride → 1 ≤ stride → start < 2 ^ 64 → packs h.room ≡ true →
+pub begins : (h r m n : Held) (of size stride start : ℕ) → AreLevels h.room h.frames h.slots → IsDraft h size start stride → 1 ≤ stride → stride ≤ 2 ^ 16 → start < 2 ^ 64 → packs h.room ≡ true →
     Regrown h r → Regrown (record r { slots = with_family (Struct of) start size (innermost r.frames).pending r.slots }) m →
     Regrown (record m { slots = with_records size stride [] start (innermost m.frames).pending m.slots }) n → BeginsRecords h n of size stride start
-begins h r m n of size stride start all draft some short packed e f g =
+begins h r m n of size stride start all draft some few short packed e f g =
     let close : Held → Held = λ x. record x { slots = with_family (Struct of) start size (innermost x.frames).pending x.slots; capacity = m.capacity } in
     let place : Held → Held = λ x. record x { slots = with_records size stride [] start (innermost x.frames).pending x.slots; capacity = n.capacity } in
     let u = with_family (Struct of) start size (innermost h.frames).pending h.slots in
     let closed : m ≡ record h { slots = u; capacity = m.capacity } = f ∙ ap close e in
     let placed : n ≡ record h { slots = with_records size stride [] start (innermost h.frames).pending u; capacity = n.capacity } = g ∙ ap place closed in
     let frames = family-frames h (Struct of) start size tt all in
-    let here = gathering-none (record h { slots = u }) size stride start n.capacity frames (draft-closed h of size stride start all draft) some short packed in
+    let here = gathering-none (record h { slots = u }) size stride start n.capacity frames (draft-closed h of size stride start all draft few) some short packed in
     let gathering : IsGathering n u size stride start [] = subst (λ x. IsGathering x u size stride start []) (sym placed) here in
     record {
       before = u;
@@ -394,12 +401,12 @@ begins h r m n of size stride start all draft some short packed e f g =
     }
 
 -- the template that the array takes the place of
-pub closed-template : (h r m : Held) (of size stride start : ℕ) → AreLevels h.room h.frames h.slots → IsDraft h size start stride →
+pub closed-template : (h r m : Held) (of size stride start : ℕ) → AreLevels h.room h.frames h.slots → IsDraft h size start stride → stride ≤ 2 ^ 16 →
     Regrown h r → Regrown (record r { slots = with_family (Struct of) start size (innermost r.frames).pending r.slots }) m → EndsWithTemplate m.slots size stride start []
-closed-template h r m of size stride start all draft e f =
+closed-template h r m of size stride start all draft few e f =
     let close : Held → Slots = λ x. with_family (Struct of) start size (innermost x.frames).pending x.slots in
     let is : m.slots ≡ with_family (Struct of) start size (innermost h.frames).pending h.slots = ap (λ (x : Held). x.slots) f ∙ ap close e in
-    subst (λ x. EndsWithTemplate x size stride start []) (sym is) (draft-closed h of size stride start all draft)
+    subst (λ x. EndsWithTemplate x size stride start []) (sym is) (draft-closed h of size stride start all draft few)
 
 -- the clauses of the calls
 pub adds-column : {T E : Type 0} (r : Result T E) (h n : Held) (shape : Shape) (begin at : ℕ) → AreLevels h.room h.frames h.slots → IsNumber shape →

@@ -107,7 +107,7 @@ label_shape names s Array c = refl
 label_shape names s (Struct of) c = refl
 label_shape names s (Union taken of) c = refl
 
-content_width : (s : Slots) (shape : Shape) (start c : ℕ) → IsContent s shape start c → HasWidth shape
+pub content_width : (s : Slots) (shape : Shape) (start c : ℕ) → IsContent s shape start c → HasWidth shape
 content_width s (Integer w g) start c h = h
 content_width s (Offset w g u) start c h = h
 content_width s Text start c h = tt

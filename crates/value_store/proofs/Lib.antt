@@ -19,7 +19,7 @@ pub mod PackedRows
 pub mod Packed
 pub mod Found
 pub mod Lent
-pub mod Columns
+pub mod Instances
 pub mod Linked
 pub mod RecordsRead
 pub mod Gathering

@@ -1,25 +1,28 @@
 -- The parts of a node.
-use Rattle.std.proofs.Common.{◌≡◌, ℕ, ◌<◌, ◌≤◌, ◌⊎◌, inl, inr, Bool, true, false, suc, List, [], Option, Some, None, length, take, map, refl, sym, ◌∙◌, ap, subst, arith}
-use Rattle.std.specs.Prelude.{slice_get, slice_index_or, unwrap_or, IfSome, nat_lt}
+use mathlib.Core.Logic.{∥∥₁_elim, ∥∥₁_map}
+use Rattle.std.proofs.Common.{◌≡◌, ℕ, ◌+◌, ◌-◌, ◌*◌, ◌<◌, ◌≤◌, ◌⊎◌, inl, inr, Bool, zero, suc, List, [], Option, Some, None, length, take, map, refl, sym, ◌∙◌, ap, subst, arith}
+use Rattle.std.specs.Prelude.{slice_get, slice_index_or, unwrap_or, IfSome}
 use Rattle.std.specs.Option.{option_map}
+use Rattle.std.specs.Coded.{le_prop}
 use Rattle.std.proofs.lemmas.List.{length-map}
-use Rattle.std.proofs.lemmas.Bool.{lt-ltb, ltb-true}
 use Rattle.std.proofs.lemmas.Option.{slice_get-get_or, slice_get_past, slice_get_within, slice_get-map}
 use Rattle.value_store.specs.declared.store.slots.Node.{Node}
 use Rattle.value_store.specs.declared.store.slots.Place.{Place}
 use Rattle.value_store.specs.declared.store.slots.Place.TheVariants as place
 use Rattle.value_store.specs.declared.store.slots.Shape.{Shape}
 use Rattle.value_store.specs.declared.store.slots.Shape.TheVariants.{Integer, Offset, Text, Integers, Offsets, Records, Array, Struct, Union}
-use Rattle.value_store.specs.Slots.{Slots, opened, links_of, parts_in, trees, value_at, row_numbers, record_count, elements, element_width, element_value, LinksBelow, IsPacked, IsContent, IsSound, IsRead}
+use Rattle.value_store.specs.Slots.{Slots, opened, family_links, links_of, parts_in, trees, value_at, row_numbers, record_count, elements, element_width, element_value, LinksBelow, IsNumber, IsComposite, IsPacked, IsContent, IsTemplatePart, NumberPart, BranchPart, AreTemplateParts, NoParts, PartThen, AbsentPartThen, IsSound, IsRead}
 use Rattle.pickle_meaning.specs.Values.{Value, NoMembers, members_of, member_count, member_at, gathered}
 use Rattle.value_store.specs.Names.{Names}
 use Rattle.value_store.specs.Linked.{node_links, links_from}
-use Rattle.value_store.specs.Lent.{place_value, place_links, place_packed, place_rank, packed_place, part_place, place_of_part, part_count, parts_at, structs_at, columns_of, column_at, field_of, numbered, where_struct, numbers_of, element_in, packed_count, element_count, IsPlace}
+use Rattle.value_store.specs.Records.{instance}
+use Rattle.value_store.specs.Lent.{place_value, place_links, place_packed, place_rank, packed_place, linked_place, part_place, place_of_part, part_count, parts_at, part_in, row_in, record_size, numbers_of, element_in, packed_count, element_count, IsPlace}
 use Rattle.value_store.proofs.Taken.{member_count-of}
-use Rattle.value_store.proofs.Columns.{is_array, template_of, records-count, array-count, array-part, struct-count, struct-field, member-past}
+use Rattle.value_store.proofs.Instances.{IsPartOf, is_part, has_part, template_of, array-count, array-part, struct-part, member-past, instance-count, instance-at}
 use Rattle.value_store.proofs.Found.{node_sound, read-node, below-found, child-found, member_at-gathered}
 use Rattle.value_store.proofs.Grown.{length-trees, opened-take}
 use Rattle.value_store.proofs.Lent.{length-elements, elements-at}
+use Rattle.value_store.proofs.Placed.{family-links}
 
 packed-parts : (s : Slots) (ts : List Value) (shape : Shape) (start c : ℕ) → IsPacked shape → parts_in s ts shape start c ≡ elements shape start (row_numbers s (element_width shape) c)
 packed-parts s ts (Integer w g) start c p = absurd p
@@ -122,6 +125,80 @@ pub has_element : (s : Slots) (at : ℕ) (n : Node) (w i : ℕ) → slice_get s.
     IsPlace s (place.Element at i)
 has_element s at n w i got is p = subst (λ o. i < element_count s o) (sym got) (omega (arith, p, is.count))
 
+neither : ⊥ ⊎ ⊥ → ⊥
+neither (inl h) = h
+neither (inr h) = h
+
+-- the node of a part of a template: no array of packed numbers or structs, and no text
+pub record IsPartNode (s : Slots) (size start : ℕ) (n : Node) : Type 0 where
+  pub has : HasLinks n.shape
+  pub no_text : n.shape ≡ Text → ⊥
+  pub begins : n.start ≤ start + size
+
+IsPartNode-prop : (s : Slots) (size start : ℕ) (n : Node) → IsProp (IsPartNode s size start n)
+IsPartNode-prop s size start n = hlevel le_prop
+
+part-shape : (s : Slots) (size start : ℕ) (n : Node) → IsNumber n.shape ⊎ IsComposite n.shape → n.start ≤ start + size → IsPartNode s size start n
+part-shape s size start n h begins = record {
+  has = record {
+    not_integers = λ w g e. neither (subst (λ x. IsNumber x ⊎ IsComposite x) e h);
+    not_offsets = λ w g u e. neither (subst (λ x. IsNumber x ⊎ IsComposite x) e h);
+    not_records = λ stride size e. neither (subst (λ x. IsNumber x ⊎ IsComposite x) e h);
+  };
+  no_text = λ e. neither (subst (λ x. IsNumber x ⊎ IsComposite x) e h);
+  begins = begins;
+}
+
+shape_of_part : {s : Slots} {size stride start : ℕ} {bytes : List ℕ} {j : ℕ} (n : Node) → slice_get s.nodes j ≡ Some n → IsTemplatePart s size stride start bytes j → IsPartNode s size start n
+shape_of_part {s} {size} {start = start} n found (NumberPart column) =
+    let same : column.node ≡ n = let e : Some column.node ≡ Some n = sym column.found ∙ found in cc in
+    subst (IsPartNode s size start) same (part-shape s size start column.node (inl column.number) (omega (arith, column.within)))
+shape_of_part {s} {size} {start = start} n found (BranchPart branch parts) =
+    let same : branch.node ≡ n = let e : Some branch.node ≡ Some n = sym branch.found ∙ found in cc in
+    subst (IsPartNode s size start) same (part-shape s size start branch.node (inr branch.composite) (omega (arith, branch.within)))
+
+pub part_node : {s : Slots} {size stride start : ℕ} {bytes : List ℕ} {j : ℕ} (n : Node) → slice_get s.nodes j ≡ Some n → ∥ IsTemplatePart s size stride start bytes j ∥₁ → IsPartNode s size start n
+part_node {s} {size} {start = start} n found part = ∥∥₁_elim part (IsPartNode-prop s size start n) (λ t. shape_of_part n found t)
+
+pub node_there : {s : Slots} {size stride start : ℕ} {bytes : List ℕ} {j : ℕ} → IsTemplatePart s size stride start bytes j → j < length s.nodes
+node_there {s} (NumberPart {j} column) = slice_get_within s.nodes j column.node column.found
+node_there {s} (BranchPart {j} branch parts) = slice_get_within s.nodes j branch.node branch.found
+
+-- the node of a part is there, and so is that of its array
+pub part_within : (s : Slots) (a i j : ℕ) → IsPartOf s a i j → j < length s.nodes
+part_within s a i j p = ∥∥₁_elim p.part le_prop (λ t. node_there t)
+
+number-links : (s : Slots) (shape : Shape) (c : ℕ) → IsNumber shape → links_of s shape c ≡ []
+number-links s (Integer w g) c h = refl
+number-links s (Offset w g u) c h = refl
+number-links s Text c h = absurd h
+number-links s (Integers w g) c h = absurd h
+number-links s (Offsets w g u) c h = absurd h
+number-links s (Records stride size) c h = absurd h
+number-links s Array c h = absurd h
+number-links s (Struct t) c h = absurd h
+number-links s (Union t i) c h = absurd h
+
+-- what a link of a part refers to is a part
+links_child : {s : Slots} {size stride start : ℕ} {bytes : List ℕ} {ls : List (Option ℕ)} → AreTemplateParts s size stride start bytes ls → (k c : ℕ) → slice_get ls k ≡ Some (Some c) →
+    IsTemplatePart s size stride start bytes c
+links_child NoParts k c e = cc
+links_child {s} {size} {stride} {start} {bytes} (PartThen {j} part rest) zero c e = let same : j ≡ c = cc in subst (IsTemplatePart s size stride start bytes) same part
+links_child (PartThen part rest) (suc k) c e = links_child rest k c e
+links_child (AbsentPartThen rest) zero c e = cc
+links_child (AbsentPartThen rest) (suc k) c e = links_child rest k c e
+
+part_child : {s : Slots} {size stride start : ℕ} {bytes : List ℕ} {j : ℕ} → IsTemplatePart s size stride start bytes j → (k c : ℕ) → slice_get (links_from s j) k ≡ Some (Some c) →
+    IsTemplatePart s size stride start bytes c
+part_child {s} (NumberPart {j} column) k c e =
+    let none : links_from s j ≡ [] = ap (node_links s) column.found ∙ number-links s column.node.shape column.node.content column.number in
+    let found : slice_get [] k ≡ Some (Some c) = sym (ap (λ ls. slice_get ls k) none) ∙ e in
+    cc
+part_child {s} (BranchPart {j} branch parts) k c e =
+    let own : links_from s j ≡ family_links s.families s.links branch.node.content =
+    ap (node_links s) branch.found ∙ family-links s branch.node.shape branch.node.content branch.composite in
+    links_child parts k c (sym (ap (λ ls. slice_get ls k) own) ∙ e)
+
 -- the parts of a value, from its links and its number of packed parts
 pub record AreParts (s : Slots) (p : Place) (links : List (Option ℕ)) (packed : ℕ) : Type 0 where
   pub packed_count : (names : Names) → 0 < packed → packed ≡ member_count (members_of (place_value names s p))
@@ -129,9 +206,10 @@ pub record AreParts (s : Slots) (p : Place) (links : List (Option ℕ)) (packed 
   pub packed_part : (names : Names) (i : ℕ) → i < packed → Some (place_value names s (packed_place s p i)) ≡ member_at (members_of (place_value names s p)) i
   pub packed_there : (i : ℕ) → i < packed → IsPlace s (packed_place s p i)
   pub packed_below : (i : ℕ) → i < packed → place_rank (packed_place s p i) < place_rank p
-  pub link_part : (names : Names) (i : ℕ) → packed ≤ i → option_map (value_at names s) (unwrap_or (slice_get links i) None) ≡ member_at (members_of (place_value names s p)) i
-  pub within : (i : ℕ) → IfSome (unwrap_or (slice_get links i) None) (λ j. j < length s.nodes)
-  pub below : (i : ℕ) → IfSome (unwrap_or (slice_get links i) None) (λ j. suc j < place_rank p)
+  pub link_part : (names : Names) (i : ℕ) → packed ≤ i →
+      option_map (λ j. place_value names s (linked_place p j)) (unwrap_or (slice_get links i) None) ≡ member_at (members_of (place_value names s p)) i
+  pub link_there : (i : ℕ) → IfSome (unwrap_or (slice_get links i) None) (λ j. IsPlace s (linked_place p j))
+  pub link_below : (i : ℕ) → IfSome (unwrap_or (slice_get links i) None) (λ j. place_rank (linked_place p j) < place_rank p)
 
 weaken : (o : Option ℕ) (i k : ℕ) → i ≤ k → IfSome o (λ j. j < i) → IfSome o (λ j. j < k)
 weaken None i k p h = tt
@@ -155,8 +233,8 @@ parts_by_links s at n got sound has none =
       packed_there = λ i p. absurd (omega (arith, p, zero));
       packed_below = λ i p. absurd (omega (arith, p, zero));
       link_part = λ names i p. links.part names i;
-      within = λ i. weaken _ at (length s.nodes) (omega (arith, within)) (links.below i);
-      below = λ i. next _ at (links.below i);
+      link_there = λ i. weaken _ at (length s.nodes) (omega (arith, within)) (links.below i);
+      link_below = λ i. next _ at (links.below i);
     }
 
 -- an array of packed numbers
@@ -176,29 +254,29 @@ parts_by_row s at n w got r is none parts places =
       packed_there = λ i p. subst (IsPlace s) (sym (there i)) (has_element s at n w i got is (omega (arith, p, count)));
       packed_below = λ i p. omega (arith, ap place_rank (there i));
       link_part = λ names i p. ap (option_map (value_at names s)) (found i) ∙ sym (row-past names s at n w r is i (omega (arith, p, count)));
-      within = λ i. subst (λ o. IfSome o (λ j. j < length s.nodes)) (sym (found i)) tt;
-      below = λ i. subst (λ o. IfSome o (λ j. suc j < suc at)) (sym (found i)) tt;
+      link_there = λ i. subst (λ o. IfSome o (λ j. j < length s.nodes)) (sym (found i)) tt;
+      link_below = λ i. subst (λ o. IfSome o (λ j. suc j < suc at)) (sym (found i)) tt;
     }
 
 -- an array of packed structs
-parts_by_records : (s : Slots) (at : ℕ) (n : Node) (size stride : ℕ) → slice_get s.nodes at ≡ Some n → IsSound s → n.shape ≡ Records stride size →
+parts_by_records : (s : Slots) (at : ℕ) (n : Node) (stride size : ℕ) → slice_get s.nodes at ≡ Some n → IsSound s → n.shape ≡ Records stride size →
     AreParts s (place.Node at) (links_from s at) (parts_at s (slice_get s.nodes at))
-parts_by_records s at n size stride got sound is =
+parts_by_records s at n stride size got sound is =
     let all = record_count s stride n.content in
-    let t = template_of s sound at n size stride got is in
+    let t = template_of s sound at n stride size got is in
     let count : parts_at s (slice_get s.nodes at) ≡ all = ap (parts_at s) got ∙ ap (λ x. part_count s x n.content) is in
     let links : links_from s at ≡ [] = ap (node_links s) got ∙ ap (λ x. links_of s x n.content) is in
     let found : (i : ℕ) → unwrap_or (slice_get (links_from s at) i) None ≡ None = λ i. ap (λ ls. unwrap_or (slice_get ls i) None) links in
-    let there : (i : ℕ) → packed_place s (place.Node at) i ≡ place.Record at i = λ i. ap (λ o. place_of_part o at i) got ∙ ap (λ x. part_place x at i) is in
+    let there : (i : ℕ) → packed_place s (place.Node at) i ≡ place.Part at i (at - 1) = λ i. ap (λ o. place_of_part o at i) got ∙ ap (λ x. part_place x at i) is in
     record {
-      packed_count = λ names p. count ∙ sym (array-count s sound at n size stride got is names);
-      link_count = λ names e. ap length links ∙ sym (array-count s sound at n size stride got is names ∙ sym count ∙ e);
-      packed_part = λ names i p. ap (λ q. Some (place_value names s q)) (there i) ∙ sym (array-part s sound at n size stride got is names i (omega (arith, p, count)));
-      packed_there = λ i p. subst (IsPlace s) (sym (there i)) (omega (arith, p, count, records-count s sound at n size stride got is));
+      packed_count = λ names p. count ∙ sym (array-count s sound at n stride size got is names);
+      link_count = λ names e. ap length links ∙ sym (array-count s sound at n stride size got is names ∙ sym count ∙ e);
+      packed_part = λ names i p. ap (λ q. Some (place_value names s q)) (there i) ∙ sym (array-part s sound at n stride size got is names i (omega (arith, p, count)));
+      packed_there = λ i p. subst (IsPlace s) (sym (there i)) (struct-part s sound at n stride size got is i (omega (arith, p, count)));
       packed_below = λ i p. omega (arith, ap place_rank (there i), t.some);
-      link_part = λ names i p. ap (option_map (value_at names s)) (found i) ∙ sym (member-past _ i (omega (arith, p, count, array-count s sound at n size stride got is names)));
-      within = λ i. subst (λ o. IfSome o (λ j. j < length s.nodes)) (sym (found i)) tt;
-      below = λ i. subst (λ o. IfSome o (λ j. suc j < suc at)) (sym (found i)) tt;
+      link_part = λ names i p. ap (option_map (value_at names s)) (found i) ∙ sym (member-past _ i (omega (arith, p, count, array-count s sound at n stride size got is names)));
+      link_there = λ i. subst (λ o. IfSome o (λ j. j < length s.nodes)) (sym (found i)) tt;
+      link_below = λ i. subst (λ o. IfSome o (λ j. suc j < suc at)) (sym (found i)) tt;
     }
 
 parts_by_shape : (s : Slots) (at : ℕ) (n : Node) (shape : Shape) → n.shape ≡ shape → slice_get s.nodes at ≡ Some n → IsSound s →
@@ -212,7 +290,7 @@ parts_by_shape s at n (Integers w g) e got sound =
 parts_by_shape s at n (Offsets w g u) e got sound =
     let r = read-node s at n sound got in
     parts_by_row s at n w got r (row_shape s n.shape n.start n.content w (inr (g, u, e)) r.content) (ap (λ x. links_of s x n.content) e) (ap (λ x. part_count s x n.content) e) (λ i. ap (λ x. part_place x at i) e)
-parts_by_shape s at n (Records stride size) e got sound = parts_by_records s at n size stride got sound e
+parts_by_shape s at n (Records stride size) e got sound = parts_by_records s at n stride size got sound e
 parts_by_shape s at n Array e got sound = parts_by_links s at n got sound (subst HasLinks (sym e) (record { not_integers = λ v h q. cc; not_offsets = λ v h u q. cc; not_records = λ z k q. cc })) (ap (λ x. part_count s x n.content) e)
 parts_by_shape s at n (Struct t) e got sound = parts_by_links s at n got sound (subst HasLinks (sym e) (record { not_integers = λ v h q. cc; not_offsets = λ v h u q. cc; not_records = λ z k q. cc })) (ap (λ x. part_count s x n.content) e)
 parts_by_shape s at n (Union t i) e got sound = parts_by_links s at n got sound (subst HasLinks (sym e) (record { not_integers = λ v h q. cc; not_offsets = λ v h u q. cc; not_records = λ z k q. cc })) (ap (λ x. part_count s x n.content) e)
@@ -233,22 +311,6 @@ element-members s (Some n) i = number-members n.shape _ _
     number-members (Struct t) start digits = refl
     number-members (Union t i) start digits = refl
 
-field-members : (s : Slots) (o c : Option Node) (i : ℕ) → members_of (field_of s o c i) ≡ NoMembers
-field-members s None c i = refl
-field-members s (Some n) None i = refl
-field-members s (Some n) (Some c) i = number-members c.shape _ _
-  where
-    number-members : (shape : Shape) (start digits : ℕ) → members_of (numbered shape start digits) ≡ NoMembers
-    number-members (Integer w g) start digits = refl
-    number-members (Offset w g u) start digits = refl
-    number-members Text start digits = refl
-    number-members (Integers w g) start digits = refl
-    number-members (Offsets w g u) start digits = refl
-    number-members (Records stride size) start digits = refl
-    number-members Array start digits = refl
-    number-members (Struct t) start digits = refl
-    number-members (Union t i) start digits = refl
-
 parts_of_none : (s : Slots) (p : Place) → ((names : Names) → members_of (place_value names s p) ≡ NoMembers) → AreParts s p [] 0
 parts_of_none s p none = record {
   packed_count = λ names h. absurd (omega (arith, h));
@@ -257,51 +319,55 @@ parts_of_none s p none = record {
   packed_there = λ i h. absurd (omega (arith, h));
   packed_below = λ i h. absurd (omega (arith, h));
   link_part = λ names i h. sym (ap (λ ms. member_at ms i) (none names));
-  within = λ i. tt;
-  below = λ i. tt;
+  link_there = λ i. tt;
+  link_below = λ i. tt;
 }
-
--- the place of a number of a packed struct
-field_there : (b : Bool) (count field : ℕ) → field < where_struct b count → (b ≡ true) × (field < count)
-field_there true count field h = (refl, h)
-field_there false count field h = absurd (omega (arith, h))
-
-pub field_place : (s : Slots) (a i field : ℕ) → IsPlace s (place.Field a i field) → (i < structs_at s (slice_get s.nodes a)) × (field < length (columns_of s a))
-field_place s a i field h =
-    let r = field_there (nat_lt i (structs_at s (slice_get s.nodes a))) (length (columns_of s a)) field h in
-    (ltb-true i (structs_at s (slice_get s.nodes a)) r.0, r.1)
-
-has_field : (s : Slots) (a i field : ℕ) → i < structs_at s (slice_get s.nodes a) → field < length (columns_of s a) → IsPlace s (place.Field a i field)
-has_field s a i field there h =
-    subst (λ b. field < where_struct b (length (columns_of s a))) (sym (lt-ltb i (structs_at s (slice_get s.nodes a)) there)) h
-
--- a packed struct has its numbers as parts
-parts_by_columns : (s : Slots) (a i : ℕ) → IsSound s → i < structs_at s (slice_get s.nodes a) → AreParts s (place.Record a i) [] (length (columns_of s a))
-parts_by_columns s a i sound there =
-    let r = is_array s a (slice_get s.nodes a) refl (omega (arith, there)) in
-    let count : (names : Names) → member_count (members_of (place_value names s (place.Record a i))) ≡ length (columns_of s a) =
-    λ names. struct-count s sound a r.node r.size r.stride r.found r.shape names i in
-    record {
-      packed_count = λ names h. sym (count names);
-      link_count = λ names e. sym (count names ∙ e);
-      packed_part = λ names field h. sym (struct-field s sound a r.node r.size r.stride r.found r.shape names i field h);
-      packed_there = λ field h. has_field s a i field there h;
-      packed_below = λ field h. omega arith;
-      link_part = λ names field h. sym (member-past _ field (omega (arith, h, count names)));
-      within = λ field. tt;
-      below = λ field. tt;
-    }
 
 no_node : Node
 no_node = record { start = 0; content = 0; shape = Array }
+
+-- a part of a packed struct has the parts of the template's part
+option_map-twice : {A B C : Type 0} (f : A → B) (g : B → C) (o : Option A) → option_map (λ x. g (f x)) o ≡ option_map g (option_map f o)
+option_map-twice f g None = refl
+option_map-twice f g (Some x) = refl
+
+child_there : (s : Slots) (a i j k : ℕ) (o : Option (Option ℕ)) → IsPartOf s a i j → slice_get (links_from s j) k ≡ o → IfSome (unwrap_or o None) (λ c. c < j) →
+    IfSome (unwrap_or o None) (λ c. IsPlace s (place.Part a i c))
+child_there s a i j k None p e below = tt
+child_there s a i j k (Some None) p e below = tt
+child_there s a i j k (Some (Some c)) p e below =
+    has_part s a i c (record { own = p.own; found = p.found; there = p.there; before = omega (arith, below, p.before); part = ∥∥₁_map p.part (λ t. part_child t k c e) })
+
+parts_by_template : (s : Slots) (a i j : ℕ) → IsSound s → IsPartOf s a i j → AreParts s (place.Part a i j) (links_from s j) 0
+parts_by_template s a i j sound p =
+    let n = slice_index_or s.nodes j no_node in
+    let found : slice_get s.nodes j ≡ Some n = slice_get-get_or s.nodes j no_node (part_within s a i j p) in
+    let links = are_links s j n found sound (part_node n found p.part).has in
+    let shift = record_size p.own.shape * i in
+    let row = row_in s p.own i in
+    record {
+      packed_count = λ names h. absurd (omega (arith, h));
+      link_count = λ names e. links.count names ∙ sym (ap (λ o. member_count (members_of (part_in names s o i j))) p.found ∙ instance-count (value_at names s j) shift row);
+      packed_part = λ names k h. absurd (omega (arith, h));
+      packed_there = λ k h. absurd (omega (arith, h));
+      packed_below = λ k h. absurd (omega (arith, h));
+      link_part = λ names k h.
+          let o = unwrap_or (slice_get (links_from s j) k) None in
+          ap (λ w. option_map (λ c. part_in names s w i c) o) p.found
+          ∙ option_map-twice (value_at names s) (λ v. instance v shift row) o
+          ∙ ap (option_map (λ v. instance v shift row)) (links.part names k)
+          ∙ sym (instance-at (value_at names s j) shift row k)
+          ∙ sym (ap (λ w. member_at (members_of (part_in names s w i j)) k) p.found);
+      link_there = λ k. child_there s a i j k (slice_get (links_from s j) k) p refl (links.below k);
+      link_below = λ k. next _ j (links.below k);
+    }
 
 parts_by_place : (s : Slots) (p : Place) → IsSound s → IsPlace s p → AreParts s p (place_links s p) (place_packed s p)
 parts_by_place s (place.Node at) sound h =
     let n = slice_index_or s.nodes at no_node in
     parts_by_shape s at n n.shape refl (slice_get-get_or s.nodes at no_node h) sound
 parts_by_place s (place.Element a i) sound h = parts_of_none s (place.Element a i) (λ names. element-members s (slice_get s.nodes a) i)
-parts_by_place s (place.Record a i) sound h = parts_by_columns s a i sound h
-parts_by_place s (place.Field a i field) sound h = parts_of_none s (place.Field a i field) (λ names. field-members s (slice_get s.nodes a) (column_at s a field) i)
+parts_by_place s (place.Part a i j) sound h = parts_by_template s a i j sound (is_part s a i j h)
 
 pub parts_of : (s : Slots) (p : Place) (links : List (Option ℕ)) (packed : ℕ) → IsSound s → IsPlace s p → links ≡ place_links s p → packed ≡ place_packed s p → AreParts s p links packed
 parts_of s p links packed sound h own count =

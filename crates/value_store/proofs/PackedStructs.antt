@@ -1,27 +1,32 @@
 -- Arrays of packed structs, by the numbers of the structs.
-use Rattle.std.proofs.Common.{Result, Ok, Err, OnOk, suc, ◌≡◌, ℕ, ◌+◌, ◌-◌, ◌*◌, ◌/◌, ◌<◌, ◌≤◌, ◌^◌, List, [], ◌∷◌, ◌++◌, true, false, Option, Some, None, length, take, drop, map, refl, sym, ◌∙◌, ap, subst, arith}
+use Rattle.std.proofs.Common.{Result, Ok, Err, OnOk, suc, ◌≡◌, ℕ, ◌+◌, ◌-◌, ◌*◌, ◌/◌, ◌<◌, ◌≤◌, ◌^◌, List, [], ◌∷◌, ◌++◌, true, false, Option, Some, length, take, drop, map, refl, sym, ◌∙◌, ap, subst, arith}
 use Rattle.std.proofs.Math.Nat.{mul-zero, mul-suc, mul-div_cancel_left}
 use Rattle.std.proofs.lemmas.List.{append_assoc, append-nil, length-append, length_push, take_at, drop_at}
+use Rattle.std.specs.Prelude.{slice_get, unsigned_abs}
+use Rattle.value_store.specs.declared.store.slots.Node.{Node}
 use Rattle.value_store.specs.declared.store.slots.Shape.{Shape}
 use Rattle.value_store.specs.declared.store.slots.Shape.TheVariants.{Integer, Offset, Text, Integers, Offsets, Records, Array, Struct, Union}
 use Rattle.pickle_types.specs.declared.integer.IntegerType.{IntegerType}
 use Rattle.pickle_meaning.specs.Arithmetic.{with_sign}
-use Rattle.pickle_meaning.specs.Values.{Value, Mapped, NoMembers, MemberThen, IntegerLabel, OffsetLabel, ArrayLabel, Levels, label_of, members_of, top_of, outer_of, pushed, gathered}
+use Rattle.pickle_meaning.specs.Values.{Value, Mapped, NoMembers, MemberThen, AbsentThen, IntegerLabel, OffsetLabel, ArrayLabel, Levels, label_of, members_of, top_of, outer_of, pushed, gathered}
 use Rattle.value_store.specs.Closed.{struct_label}
 use Rattle.value_store.specs.Keeping.{IsPushed}
 use Rattle.value_store.specs.Gathering.{IsDraft, AddsColumn, records_array, last_value, EndsWithTemplate, IsGathering, gathering_levels, BeginsRecords, IsRecordsOf, TakesRecord, Gathers, ClosesRecords}
 use Rattle.value_store.specs.PackedStructs.{DraftsMore, struct_bits, struct_bytes, drafted, fields, struct_row, struct_rows, AreDigits, AreRows, AreNumberShapes, struct_of, structs_of, structs_array, IsPackingStructs, IsStructsOf, BeginsStructs, CannotBegin, TakesStruct, PacksStruct, CannotPackStruct, ClosesStructs}
-use Rattle.value_store.specs.Labels.{width_of}
+use Rattle.value_store.specs.Labels.{number_of, width_of}
 use Rattle.value_store.specs.Lent.{numbered}
 use Rattle.value_store.specs.Names.{Names}
 use Rattle.value_store.specs.Packed.{bytes_for, number_bytes, bytes_number}
-use Rattle.value_store.specs.Records.{renewed, bytes_taken, record_members, record_value, records}
-use Rattle.value_store.specs.Slots.{Slots, Held, packs, part, opened, trees, value_at, levels, levels_at, family_links, IsNumber, number_value, number_bits, IsColumn, AreColumns, IsTemplate, IsSound}
-use Rattle.value_store.proofs.Columns.{number-width, link-value, template-read}
+use Rattle.value_store.specs.Records.{instance, instances, records}
+use Rattle.value_store.specs.Slots.{Slots, Held, packs, part, opened, trees, value_at, levels, levels_at, family_links, links_of, parts_in, label_in, IsNumber, IsComposite, number_value, number_bits, IsColumn, IsTemplatePart, NumberPart, BranchPart, AreTemplateParts, NoParts, PartThen, AbsentPartThen, LinksBelow, IsSound}
+use Rattle.value_store.proofs.Instances.{link-value}
 use Rattle.value_store.proofs.Counted.{levels-sound}
-use Rattle.value_store.proofs.Found.{read-node}
+use Rattle.value_store.proofs.Found.{node_sound, read-node}
 use Rattle.value_store.proofs.Fits.{packs_no_more}
 use Rattle.value_store.proofs.Gathering.{gathering-levels}
+use Rattle.value_store.proofs.Grown.{length-trees, opened-take}
+use Rattle.value_store.proofs.Linked.{node_there}
+use Rattle.value_store.proofs.RecordsRead.{small-place}
 use Rattle.value_store.proofs.Taken.{slots-taken, level_pending}
 use Rattle.pickle_meaning.specs.Room.{PendingSlot}
 use Rattle.value_store.proofs.Packed.{length-number_bytes, bytes_number-bytes, bits-below, bytes_for-enough}
@@ -39,47 +44,66 @@ number-label Array begin at h = absurd h
 number-label (Struct t) begin at h = absurd h
 number-label (Union t i) begin at h = absurd h
 
-number-renewed : (c : Shape) (begin at shift : ℕ) (bs : List ℕ) → IsNumber c → renewed (number_value c begin at) shift bs ≡ numbered c (begin + shift) (bytes_number bs)
-number-renewed (Integer w g) begin at shift bs h =
+number-width : (names : Names) (s : Slots) (shape : Shape) (c : ℕ) → IsNumber shape → width_of (label_in names s shape c) ≡ number_bits shape
+number-width names s (Integer w g) c h = refl
+number-width names s (Offset w g u) c h = refl
+number-width names s Text c h = absurd h
+number-width names s (Integers w g) c h = absurd h
+number-width names s (Offsets w g u) c h = absurd h
+number-width names s (Records stride size) c h = absurd h
+number-width names s Array c h = absurd h
+number-width names s (Struct t) c h = absurd h
+number-width names s (Union t i) c h = absurd h
+
+-- a number of a struct of these bytes
+number-instance : (c : Shape) (begin at shift : ℕ) (row : List ℕ) → IsNumber c → at ≤ 2 ^ 16 →
+    instance (number_value c begin at) shift row ≡ numbered c (begin + shift) (bytes_number (take (bytes_for (number_bits c)) (drop at row)))
+number-instance (Integer w g) begin at shift row h few =
     let type : IntegerType = record { width = w; signed = g } in
     let e : (begin + w) + shift ≡ (begin + shift) + w = omega arith in
-    ap (λ end. Mapped (IntegerLabel (with_sign type (bytes_number bs)) type) (begin + shift) end NoMembers) e
-number-renewed (Offset w g u) begin at shift bs h =
+    ap (λ m. Mapped (IntegerLabel (with_sign type (bytes_number (take (bytes_for w) (drop m row)))) type) (begin + shift) ((begin + w) + shift) NoMembers) (small-place g at few)
+    ∙ ap (λ end. Mapped (IntegerLabel (with_sign type (bytes_number (take (bytes_for w) (drop at row)))) type) (begin + shift) end NoMembers) e
+number-instance (Offset w g u) begin at shift row h few =
     let type : IntegerType = record { width = w; signed = g } in
     let e : (begin + w) + shift ≡ (begin + shift) + w = omega arith in
-    ap (λ end. Mapped (OffsetLabel (with_sign type (bytes_number bs)) type u) (begin + shift) end NoMembers) e
-number-renewed Text begin at shift bs h = absurd h
-number-renewed (Integers w g) begin at shift bs h = absurd h
-number-renewed (Offsets w g u) begin at shift bs h = absurd h
-number-renewed (Records stride size) begin at shift bs h = absurd h
-number-renewed Array begin at shift bs h = absurd h
-number-renewed (Struct t) begin at shift bs h = absurd h
-number-renewed (Union t i) begin at shift bs h = absurd h
+    ap (λ m. Mapped (OffsetLabel (with_sign type (bytes_number (take (bytes_for w) (drop m row)))) type u) (begin + shift) ((begin + w) + shift) NoMembers) (small-place g at few)
+    ∙ ap (λ end. Mapped (OffsetLabel (with_sign type (bytes_number (take (bytes_for w) (drop at row)))) type u) (begin + shift) end NoMembers) e
+number-instance Text begin at shift row h few = absurd h
+number-instance (Integers w g) begin at shift row h few = absurd h
+number-instance (Offsets w g u) begin at shift row h few = absurd h
+number-instance (Records stride size) begin at shift row h few = absurd h
+number-instance Array begin at shift row h few = absurd h
+number-instance (Struct t) begin at shift row h few = absurd h
+number-instance (Union t i) begin at shift row h few = absurd h
 
 -- a number is read back from its bytes
 digits-read : (w d : ℕ) → d < 2 ^ w → bytes_number (number_bytes (bytes_for w) d) ≡ d
 digits-read w d h = bytes_number-bytes (bytes_for w) d (bits-below w (bytes_for w) d (bytes_for-enough w) h)
 
--- the numbers of a struct are read back from its bytes
-members-read : (cs : List Shape) (begin at shift : ℕ) (ds : List ℕ) → AreNumberShapes cs → AreDigits cs ds →
-    record_members (gathered (drafted cs begin at)) shift (struct_row cs ds) ≡ gathered (fields cs (begin + shift) ds)
-members-read [] begin at shift [] shapes h = refl
-members-read [] begin at shift (d ∷ ds) shapes h = absurd h
-members-read (c ∷ cs) begin at shift [] shapes h = absurd h
-members-read (c ∷ cs) begin at shift (d ∷ ds) shapes h =
+-- the numbers of a struct are read back from its bytes, those after some others
+members-read : (cs : List Shape) (begin at shift : ℕ) (ds before : List ℕ) → AreNumberShapes cs → AreDigits cs ds → length before ≡ at → at + struct_bytes cs ≤ 2 ^ 16 →
+    instances (gathered (drafted cs begin at)) shift (before ++ struct_row cs ds) ≡ gathered (fields cs (begin + shift) ds)
+members-read [] begin at shift [] before shapes h placed few = refl
+members-read [] begin at shift (d ∷ ds) before shapes h placed few = absurd h
+members-read (c ∷ cs) begin at shift [] before shapes h placed few = absurd h
+members-read (c ∷ cs) begin at shift (d ∷ ds) before shapes h placed few =
     let w = number_bits c in
     let k = bytes_for w in
-    let v = number_value c begin at in
-    let rest = gathered (drafted cs (begin + w) (at + k)) in
     let own = number_bytes k d in
     let after = struct_row cs ds in
-    let taken : bytes_taken v ≡ k = ap (λ n. bytes_for n) (number-label c begin at shapes.0) in
+    let row = before ++ (own ++ after) in
+    let rest = gathered (drafted cs (begin + w) (at + k)) in
     let next : (begin + w) + shift ≡ (begin + shift) + w = omega arith in
-    ap (λ n. MemberThen (renewed v shift (take n (own ++ after))) (record_members rest shift (drop n (own ++ after)))) taken
-    ∙ ap (λ bs. MemberThen (renewed v shift bs) (record_members rest shift (drop k (own ++ after)))) (take_at own after k (length-number_bytes k d))
-    ∙ ap (λ bs. MemberThen (renewed v shift own) (record_members rest shift bs)) (drop_at own after k (length-number_bytes k d))
-    ∙ ap (λ x. MemberThen x (record_members rest shift after)) (number-renewed c begin at shift own shapes.0 ∙ ap (numbered c (begin + shift)) (digits-read w d h.0))
-    ∙ ap (MemberThen (numbered c (begin + shift) d)) (members-read cs (begin + w) (at + k) shift ds shapes.1 h.1 ∙ ap (λ b. gathered (fields cs b ds)) next)
+    let here : take k (drop at row) ≡ own = ap (take k) (drop_at before (own ++ after) at placed) ∙ take_at own after k (length-number_bytes k d) in
+    let longer : length (before ++ own) ≡ at + k = omega (arith, length-append before own, length-number_bytes k d, placed) in
+    let first : instance (number_value c begin at) shift row ≡ numbered c (begin + shift) d =
+    number-instance c begin at shift row shapes.0 (omega (arith, few))
+    ∙ ap (λ bs. numbered c (begin + shift) (bytes_number bs)) here
+    ∙ ap (numbered c (begin + shift)) (digits-read w d h.0) in
+    let others = members-read cs (begin + w) (at + k) shift ds (before ++ own) shapes.1 h.1 longer (omega (arith, few)) in
+    ap (λ v. MemberThen v (instances rest shift row)) first
+    ∙ ap (λ bs. MemberThen (numbered c (begin + shift) d) (instances rest shift bs)) (sym (append_assoc before own after))
+    ∙ ap (MemberThen (numbered c (begin + shift) d)) (others ∙ ap (λ b. gathered (fields cs b ds)) next)
 
 pub length-row : (cs : List Shape) (ds : List ℕ) → AreDigits cs ds → length (struct_row cs ds) ≡ struct_bytes cs
 length-row [] [] h = refl
@@ -98,7 +122,7 @@ count-rows : (cs : List Shape) (rows : List (List ℕ)) → 1 ≤ struct_bytes c
 count-rows cs rows some h = ap (λ (n : ℕ). n / struct_bytes cs) (length-rows cs rows h) ∙ mul-div_cancel_left (length rows) (omega (arith, some))
 
 -- the structs are read back from their bytes
-module _ (names : Names) (of : ℕ) (cs : List Shape) (start : ℕ) (shapes : AreNumberShapes cs) where
+module _ (names : Names) (of : ℕ) (cs : List Shape) (start : ℕ) (shapes : AreNumberShapes cs) (few : struct_bytes cs ≤ 2 ^ 16) where
   abbrev first : Value
   first = Mapped (struct_label names of) start (start + struct_bits cs) (gathered (drafted cs start 0))
 
@@ -113,10 +137,10 @@ module _ (names : Names) (of : ℕ) (cs : List Shape) (start : ℕ) (shapes : Ar
       let rest = structs_of names of cs (start + (shift + size)) rows in
       let end : (start + size) + shift ≡ (start + shift) + size = omega arith in
       let next : start + (shift + size) ≡ (start + shift) + size = omega arith in
-      ap (λ bs. Some (record_value first shift bs) ∷ records first size stride (shift + size) (length rows) (drop stride (own ++ after))) (take_at own after stride (length-row cs ds h.0))
-      ∙ ap (λ bs. Some (record_value first shift own) ∷ records first size stride (shift + size) (length rows) bs) (drop_at own after stride (length-row cs ds h.0))
-      ∙ ap (λ os. Some (record_value first shift own) ∷ os) (structs-read (shift + size) rows h.1)
-      ∙ ap (λ ms. Some (Mapped (struct_label names of) (start + shift) ((start + size) + shift) ms) ∷ rest) (members-read cs start 0 shift ds shapes h.0)
+      ap (λ bs. Some (instance first shift bs) ∷ records first size stride (shift + size) (length rows) (drop stride (own ++ after))) (take_at own after stride (length-row cs ds h.0))
+      ∙ ap (λ bs. Some (instance first shift own) ∷ records first size stride (shift + size) (length rows) bs) (drop_at own after stride (length-row cs ds h.0))
+      ∙ ap (λ os. Some (instance first shift own) ∷ os) (structs-read (shift + size) rows h.1)
+      ∙ ap (λ ms. Some (Mapped (struct_label names of) (start + shift) ((start + size) + shift) ms) ∷ rest) (members-read cs start 0 shift ds [] shapes h.0 refl (omega (arith, few)))
       ∙ ap (λ e. Some (Mapped (struct_label names of) (start + shift) e (gathered (fields cs (start + shift) ds))) ∷ rest) end
       ∙ ap (λ b. Some (struct_of names of cs (start + shift) ds) ∷ structs_of names of cs b rows) next
 
@@ -127,16 +151,65 @@ module _ (names : Names) (of : ℕ) (cs : List Shape) (start : ℕ) (shapes : Ar
       ap (λ n. Mapped ArrayLabel start (start + struct_bits cs * n) (gathered (records first (struct_bits cs) (struct_bytes cs) 0 n (struct_rows cs rows)))) (count-rows cs rows some h)
       ∙ ap (λ os. Mapped ArrayLabel start (start + struct_bits cs * length rows) (gathered os)) (structs-read 0 rows h ∙ ap (λ b. structs_of names of cs b rows) none)
 
--- the template takes the bytes of any numbers of its shapes
-module _ (names : Names) (s : Slots) (sound : IsSound s) (size stride start : ℕ) (bytes more : List ℕ) (some : 1 ≤ stride) (whole : length more ≡ stride) where
+-- where the bytes of a number are, from the value of its node
+
+number-place : (names : Names) (s : Slots) (shape : Shape) (c : ℕ) → IsNumber shape → c ≤ 2 ^ 16 → unsigned_abs (number_of (label_in names s shape c)) ≡ c
+number-place names s (Integer w g) c h few = small-place g c few
+number-place names s (Offset w g u) c h few = small-place g c few
+number-place names s Text c h few = absurd h
+number-place names s (Integers w g) c h few = absurd h
+number-place names s (Offsets w g u) c h few = absurd h
+number-place names s (Records stride size) c h few = absurd h
+number-place names s Array c h few = absurd h
+number-place names s (Struct t) c h few = absurd h
+number-place names s (Union t i) c h few = absurd h
+
+draft-place : (c : Shape) (begin at : ℕ) → IsNumber c → at ≤ 2 ^ 16 → unsigned_abs (number_of (label_of (number_value c begin at))) ≡ at
+draft-place (Integer w g) begin at h few = small-place g at few
+draft-place (Offset w g u) begin at h few = small-place g at few
+draft-place Text begin at h few = absurd h
+draft-place (Integers w g) begin at h few = absurd h
+draft-place (Offsets w g u) begin at h few = absurd h
+draft-place (Records stride size) begin at h few = absurd h
+draft-place Array begin at h few = absurd h
+draft-place (Struct t) begin at h few = absurd h
+draft-place (Union t i) begin at h few = absurd h
+
+-- a number has a width, and an array, a struct or a union has none
+
+number-some : (c : Shape) → IsNumber c → 1 ≤ number_bits c
+number-some (Integer w g) h = h.0
+number-some (Offset w g u) h = h.0
+number-some Text h = absurd h
+number-some (Integers w g) h = absurd h
+number-some (Offsets w g u) h = absurd h
+number-some (Records stride size) h = absurd h
+number-some Array h = absurd h
+number-some (Struct t) h = absurd h
+number-some (Union t i) h = absurd h
+
+branch-width : (names : Names) (s : Slots) (shape : Shape) (c : ℕ) → IsComposite shape → width_of (label_in names s shape c) ≡ 0
+branch-width names s (Integer w g) c h = absurd h
+branch-width names s (Offset w g u) c h = absurd h
+branch-width names s Text c h = absurd h
+branch-width names s (Integers w g) c h = absurd h
+branch-width names s (Offsets w g u) c h = absurd h
+branch-width names s (Records stride size) c h = absurd h
+branch-width names s Array c h = refl
+branch-width names s (Struct t) c h = refl
+branch-width names s (Union t i) c h = refl
+
+-- a template whose parts are numbers takes the bytes of any numbers of their shapes
+module _ (names : Names) (s : Slots) (sound : IsSound s) (size stride start : ℕ) (bytes more : List ℕ) (some : 1 ≤ stride) (few : stride ≤ 2 ^ 16) (whole : length more ≡ stride) where
   just-one : length more / stride ≡ 1
   just-one =
       let all : length more ≡ stride * 1 = omega (arith, whole) in
       ap (λ n. n / stride) all ∙ mul-div_cancel_left 1 (omega (arith, some))
 
-  column-refit : (at j w d : ℕ) (before after : List ℕ) (c : IsColumn s size stride at start bytes j) → number_bits c.node.shape ≡ w → length before ≡ at →
-      more ≡ before ++ (number_bytes (bytes_for w) d ++ after) → d < 2 ^ w → IsColumn s size stride at start more j
-  column-refit at j w d before after c wide placed is small =
+  column-refit : (j w d : ℕ) (before after : List ℕ) (c : IsColumn s size stride start bytes j) → number_bits c.node.shape ≡ w → length before ≡ c.node.content →
+      more ≡ before ++ (number_bytes (bytes_for w) d ++ after) → d < 2 ^ w → IsColumn s size stride start more j
+  column-refit j w d before after c wide placed is small =
+      let at = c.node.content in
       let k = bytes_for w in
       let own = number_bytes k d in
       let here : take k (drop at more) ≡ own =
@@ -148,7 +221,7 @@ module _ (names : Names) (s : Slots) (sound : IsSound s) (size stride start : �
         node = c.node;
         found = c.found;
         number = c.number;
-        place = c.place;
+        fits = c.fits;
         within = c.within;
         below = λ i p.
             let none : i ≡ 0 = omega (arith, p, just-one) in
@@ -156,41 +229,79 @@ module _ (names : Names) (s : Slots) (sound : IsSound s) (size stride start : �
             subst (λ m. bytes_number (part m (bytes_for (number_bits c.node.shape)) more) < 2 ^ number_bits c.node.shape) first sized;
       }
 
-  columns-refit : (at begin : ℕ) (ls : List (Option ℕ)) (cs : List Shape) (ds before : List ℕ) → AreColumns s size stride at start bytes ls →
-      gathered (map (opened (trees names s)) ls) ≡ gathered (drafted cs begin at) → AreNumberShapes cs → AreDigits cs ds → length before ≡ at → more ≡ before ++ struct_row cs ds →
-      AreColumns s size stride at start more ls
-  unfolding column-refit
-  columns-refit at begin [] cs ds before h e shapes digits placed is = h
-  columns-refit at begin (None ∷ ls) cs ds before h e shapes digits placed is = absurd h
-  columns-refit at begin (Some j ∷ ls) [] ds before h e shapes digits placed is =
-      let rest = map (opened (trees names s)) ls in
-      let m : MemberThen (value_at names s j) (gathered rest) ≡ NoMembers = sym (ap (λ o. gathered (o ∷ rest)) (link-value s sound names j h.0.node h.0.found)) ∙ e in
-      absurd (let f : MemberThen (value_at names s j) (gathered rest) ≡ NoMembers → ⊥ = λ x. cc in f m)
-  columns-refit at begin (Some j ∷ ls) (c ∷ cs) [] before h e shapes digits placed is = absurd digits
-  columns-refit at begin (Some j ∷ ls) (c ∷ cs) (d ∷ ds) before h e shapes digits placed is =
-      let n = h.0.node in
-      let w = number_bits c in
-      let k = bytes_for w in
+  part-refit : {j : ℕ} (c : Shape) (begin at d : ℕ) (before after : List ℕ) → IsTemplatePart s size stride start bytes j → value_at names s j ≡ number_value c begin at → IsNumber c →
+      d < 2 ^ number_bits c → length before ≡ at → at ≤ 2 ^ 16 → more ≡ before ++ (number_bytes (bytes_for (number_bits c)) d ++ after) → IsTemplatePart s size stride start more j
+  part-refit c begin at d before after (NumberPart {j} column) is number small placed low all =
+      let n = column.node in
+      let label : label_in names s n.shape n.content ≡ label_of (number_value c begin at) = sym ((read-node s j n sound column.found).label names) ∙ ap label_of is in
+      let wide : number_bits n.shape ≡ number_bits c = sym (number-width names s n.shape n.content column.number) ∙ ap width_of label ∙ number-label c begin at number in
+      let place : n.content ≡ at =
+      sym (number-place names s n.shape n.content column.number (omega (arith, column.fits, few))) ∙ ap (λ l. unsigned_abs (number_of l)) label ∙ draft-place c begin at number low in
+      NumberPart (column-refit j (number_bits c) d before after column wide (placed ∙ sym place) all small)
+  part-refit c begin at d before after (BranchPart {j} branch parts) is number small placed low all =
+      let n = branch.node in
+      let none : 0 ≡ number_bits c =
+      sym (branch-width names s n.shape n.content branch.composite)
+      ∙ sym (ap width_of ((read-node s j n sound branch.found).label names))
+      ∙ ap (λ v. width_of (label_of v)) is
+      ∙ number-label c begin at number in
+      absurd (omega (arith, none, number-some c number))
+
+  parts-refit : {ls : List (Option ℕ)} (at begin : ℕ) (cs : List Shape) (ds before : List ℕ) → AreTemplateParts s size stride start bytes ls →
+      gathered (map (opened (trees names s)) ls) ≡ gathered (drafted cs begin at) → AreNumberShapes cs → AreDigits cs ds → length before ≡ at → at + struct_bytes cs ≤ 2 ^ 16 →
+      more ≡ before ++ struct_row cs ds → AreTemplateParts s size stride start more ls
+  parts-refit at begin cs ds before NoParts e shapes digits placed low is = NoParts
+  parts-refit at begin [] ds before (AbsentPartThen {ls} rest) e shapes digits placed low is =
+      absurd (let f : AbsentThen (gathered (map (opened (trees names s)) ls)) ≡ NoMembers → ⊥ = λ x. cc in f e)
+  parts-refit at begin (c ∷ cs) ds before (AbsentPartThen {ls} rest) e shapes digits placed low is =
+      let f : AbsentThen (gathered (map (opened (trees names s)) ls)) ≡ MemberThen (number_value c begin at) (gathered (drafted cs (begin + number_bits c) (at + bytes_for (number_bits c)))) → ⊥ = λ x. cc in
+      absurd (f e)
+  parts-refit at begin [] ds before (PartThen {j} {ls} part rest) e shapes digits placed low is =
+      let others = map (opened (trees names s)) ls in
+      let m : MemberThen (value_at names s j) (gathered others) ≡ NoMembers = sym (ap (λ o. gathered (o ∷ others)) (link-value s names j (node_there part))) ∙ e in
+      absurd (let f : MemberThen (value_at names s j) (gathered others) ≡ NoMembers → ⊥ = λ x. cc in f m)
+  parts-refit at begin (c ∷ cs) [] before (PartThen part rest) e shapes digits placed low is = absurd digits
+  parts-refit at begin (c ∷ cs) (d ∷ ds) before (PartThen {j} {ls} part rest) e shapes digits placed low is =
+      let k = bytes_for (number_bits c) in
       let own = number_bytes k d in
-      let rest = map (opened (trees names s)) ls in
-      let m : MemberThen (value_at names s j) (gathered rest) ≡ MemberThen (number_value c begin at) (gathered (drafted cs (begin + w) (at + k))) =
-      sym (ap (λ o. gathered (o ∷ rest)) (link-value s sound names j n h.0.found)) ∙ e in
+      let others = map (opened (trees names s)) ls in
+      let m : MemberThen (value_at names s j) (gathered others) ≡ MemberThen (number_value c begin at) (gathered (drafted cs (begin + number_bits c) (at + k))) =
+      sym (ap (λ o. gathered (o ∷ others)) (link-value s names j (node_there part))) ∙ e in
       let first : value_at names s j ≡ number_value c begin at = cc in
-      let others : gathered rest ≡ gathered (drafted cs (begin + w) (at + k)) = cc in
-      let wide : number_bits n.shape ≡ w =
-      sym (ap width_of ((read-node s j n sound h.0.found).label names) ∙ number-width names s n.shape n.content h.0.number)
-      ∙ ap (λ v. width_of (label_of v)) first ∙ number-label c begin at shapes.0 in
-      let column = column-refit at j w d before (struct_row cs ds) h.0 wide placed is digits.0 in
-      let here : AreColumns s size stride (at + k) start bytes ls = subst (λ b. AreColumns s size stride (at + bytes_for b) start bytes ls) wide h.1 in
+      let next : gathered others ≡ gathered (drafted cs (begin + number_bits c) (at + k)) = cc in
       let longer : length (before ++ own) ≡ at + k = omega (arith, length-append before own, length-number_bytes k d, placed) in
       let same : more ≡ (before ++ own) ++ struct_row cs ds = is ∙ sym (append_assoc before own (struct_row cs ds)) in
-      let next = columns-refit (at + k) (begin + w) ls cs ds (before ++ own) here others shapes.1 digits.1 longer same in
-      (column, subst (λ b. AreColumns s size stride (at + bytes_for b) start more ls) (sym wide) next)
+      PartThen
+      (part-refit c begin at d before (struct_row cs ds) part first shapes.0 digits.0 placed (omega (arith, low)) is)
+      (parts-refit (at + k) (begin + number_bits c) cs ds (before ++ own) rest next shapes.1 digits.1 longer (omega (arith, low)) same)
 
-  template-refit : (i : ℕ) (cs : List Shape) (ds : List ℕ) (t : IsTemplate s i size stride start bytes) → members_of (value_at names s (i - 1)) ≡ gathered (drafted cs start 0) →
-      AreNumberShapes cs → AreDigits cs ds → more ≡ struct_row cs ds → IsTemplate s i size stride start more
-  template-refit i cs ds t members shapes digits is =
+  -- the members of a template are the values of its links
+  template-read : (t : EndsWithTemplate s size stride start bytes) → members_of (last_value names s) ≡ gathered (map (opened (trees names s)) (family_links s.families s.links t.node.content))
+  template-read t =
+      let i = length s.nodes - 1 in
       let c = t.node.content in
+      let ls = family_links s.families s.links c in
+      let below : LinksBelow i ls = subst (λ x. LinksBelow i (links_of s x c)) t.shape (node_sound s i t.node sound t.found).below in
+      (read-node s i t.node sound t.found).members names
+      ∙ ap (λ x. gathered (parts_in s (take i (trees names s)) x t.node.start c)) t.shape
+      ∙ ap gathered (opened-take i (trees names s) ls (omega (arith, length-trees names s)) below)
+
+  root-refit : {j : ℕ} (n : Node) (type : ℕ) → slice_get s.nodes j ≡ Some n → n.shape ≡ Struct type →
+      (AreTemplateParts s size stride start bytes (family_links s.families s.links n.content) → AreTemplateParts s size stride start more (family_links s.families s.links n.content)) →
+      IsTemplatePart s size stride start bytes j → IsTemplatePart s size stride start more j
+  root-refit n type found is refit (NumberPart column) =
+      let same : column.node ≡ n = let e : Some column.node ≡ Some n = sym column.found ∙ found in cc in
+      absurd (subst IsNumber (ap (λ (m : Node). m.shape) same ∙ is) column.number)
+  root-refit n type found is refit (BranchPart branch parts) =
+      let same : branch.node ≡ n = let e : Some branch.node ≡ Some n = sym branch.found ∙ found in cc in
+      let links : Node → List (Option ℕ) = λ m. family_links s.families s.links m.content in
+      let own : AreTemplateParts s size stride start bytes (links n) = subst (λ m. AreTemplateParts s size stride start bytes (links m)) same parts in
+      BranchPart branch (subst (λ m. AreTemplateParts s size stride start more (links m)) (sym same) (refit own))
+
+  template-refit : (cs : List Shape) (ds : List ℕ) (t : EndsWithTemplate s size stride start bytes) → members_of (last_value names s) ≡ gathered (drafted cs start 0) →
+      AreNumberShapes cs → AreDigits cs ds → struct_bytes cs ≤ 2 ^ 16 → more ≡ struct_row cs ds → EndsWithTemplate s size stride start more
+  template-refit cs ds t members shapes digits low is =
+      let none : 0 + struct_bytes cs ≤ 2 ^ 16 = omega (arith, low) in
       record {
         some = t.some;
         node = t.node;
@@ -198,9 +309,9 @@ module _ (names : Names) (s : Slots) (sound : IsSound s) (size stride start : �
         type = t.type;
         shape = t.shape;
         begins = t.begins;
-        family = t.family;
         sized = t.sized;
-        columns = columns-refit 0 start (family_links s.families s.links c) cs ds [] t.columns (sym (template-read s i size stride start bytes sound t names) ∙ members) shapes digits refl is;
+        few = t.few;
+        part = root-refit t.node t.type t.found t.shape (λ parts. parts-refit 0 start cs ds [] parts (sym (template-read t) ∙ members) shapes digits refl none is) t.part;
       }
 
 struct_rows-push : (cs : List Shape) (rows : List (List ℕ)) (ds : List ℕ) → struct_rows cs (rows ++ ds ∷ []) ≡ struct_rows cs rows ++ struct_row cs ds
@@ -284,15 +395,15 @@ module _ (names : Names) (h : Held) (of : ℕ) (cs : List Shape) (start : ℕ) (
       own
       ∙ ap (gathering_levels names w.before (struct_bits cs) (struct_bytes cs) start bytes) around
       ∙ ap (λ v. (Some (records_array v (struct_bits cs) (struct_bytes cs) start bytes) ∷ []) ∷ outer) w.template
-      ∙ ap (λ v. (Some v ∷ []) ∷ outer) (array-read names of cs start w.shapes rows w.gathering.are.some w.digits)
+      ∙ ap (λ v. (Some v ∷ []) ∷ outer) (array-read names of cs start w.shapes w.gathering.template.few rows w.gathering.are.some w.digits)
 
   -- one more struct
   module _ (ds : List ℕ) (digits : AreDigits cs ds) (short : start + struct_bits cs * (length rows + 1) < 2 ^ 64) where
     row-fits : EndsWithTemplate w.before (struct_bits cs) (struct_bytes cs) start (struct_row cs ds)
     row-fits =
         let g = w.gathering in
-        template-refit names w.before (levels-sound h.room h.frames w.before g.own) (struct_bits cs) (struct_bytes cs) start (struct_rows cs rows) (struct_row cs ds) g.are.some (length-row cs ds digits)
-        (length w.before.nodes) cs ds g.template (ap members_of w.template) w.shapes digits refl
+        template-refit names w.before (levels-sound h.room h.frames w.before g.own) (struct_bits cs) (struct_bytes cs) start (struct_rows cs rows) (struct_row cs ds) g.are.some g.template.few (length-row cs ds digits)
+        cs ds g.template (ap members_of w.template) w.shapes digits g.template.few refl
 
     row-short : start + struct_bits cs * (length (struct_rows cs rows) / struct_bytes cs + 1) < 2 ^ 64
     row-short = subst (λ n. start + struct_bits cs * (n + 1) < 2 ^ 64) (sym (count-rows cs rows w.gathering.are.some w.digits)) short
@@ -328,7 +439,7 @@ module _ (names : Names) (h : Held) (of : ℕ) (cs : List Shape) (start : ℕ) (
       closes names w.before (struct_bits cs) (struct_bytes cs) start (struct_rows cs rows) w.gathering
       ∙ ap (λ ls. pushed ls (Some (records_array (last_value names w.before) (struct_bits cs) (struct_bytes cs) start (struct_rows cs rows)))) w.inside
       ∙ ap (λ v. pushed outer (Some (records_array v (struct_bits cs) (struct_bytes cs) start (struct_rows cs rows)))) w.template
-      ∙ ap (λ v. pushed outer (Some v)) (array-read names of cs start w.shapes rows w.gathering.are.some w.digits)
+      ∙ ap (λ v. pushed outer (Some v)) (array-read names of cs start w.shapes w.gathering.template.few rows w.gathering.are.some w.digits)
 
 -- the clauses of the calls
 

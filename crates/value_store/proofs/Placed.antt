@@ -175,7 +175,7 @@ family-content s Array start c h f = f
 family-content s (Struct t) start c h f = f
 family-content s (Union i t) start c h f = f
 
-family-links : (s : Slots) (shape : Shape) (c : ℕ) → IsComposite shape → links_of s shape c ≡ family_links s.families s.links c
+pub family-links : (s : Slots) (shape : Shape) (c : ℕ) → IsComposite shape → links_of s shape c ≡ family_links s.families s.links c
 family-links s (Integer w g) c h = absurd h
 family-links s (Offset w g u) c h = absurd h
 family-links s Text c h = absurd h

@@ -1,5 +1,5 @@
 -- Open arrays of packed structs.
-use Rattle.std.specs.Prelude.{◌≡◌, ℕ, ◌+◌, ◌-◌, ◌*◌, ◌/◌, ◌^◌, ◌<◌, ◌≤◌, true, List, [], ◌∷◌, ◌++◌, Some, length, take, drop}
+use Rattle.std.specs.Prelude.{◌≡◌, ℕ, ◌+◌, ◌-◌, ◌*◌, ◌/◌, ◌^◌, ◌<◌, ◌≤◌, true, List, [], ◌∷◌, ◌++◌, Option, Some, None, length, take, drop}
 use Rattle.value_store.specs.declared.store.slots.Shape.TheVariants.{Records}
 use Rattle.value_store.specs.declared.store.slots.Shape.{Shape}
 use Rattle.pickle_meaning.specs.Means.{value_of}
@@ -8,7 +8,7 @@ use Rattle.value_store.specs.Closed.{struct_label}
 use Rattle.value_store.specs.Names.{Names}
 use Rattle.value_store.specs.Packed.{bytes_for}
 use Rattle.value_store.specs.Records.{records}
-use Rattle.value_store.specs.Slots.{Slots, Held, packs, value_at, AreRecords, AreColumns, IsTemplate, number_bits, innermost, AreLevels, levels}
+use Rattle.value_store.specs.Slots.{Slots, Held, packs, value_at, number_bits, innermost, AreRecords, IsColumn, IsTemplate, AreLevels, levels}
 
 -- an array of the structs that these bytes are
 abbrev pub records_array : Value → (size stride start : ℕ) → List ℕ → Value
@@ -34,6 +34,13 @@ last_value names s = value_at names s (length s.nodes - 1)
 -- the last node is the template of structs of these bytes
 abbrev pub EndsWithTemplate : Slots → (size stride start : ℕ) → List ℕ → Type 0
 EndsWithTemplate s size stride start bytes = IsTemplate s (length s.nodes) size stride start bytes
+
+-- the numbers of packed structs, whose bytes are side by side from `at` on
+abbrev pub AreColumns : Slots → (size stride at start : ℕ) → (bytes : List ℕ) → (links : List (Option ℕ)) → Type 0
+AreColumns s size stride at start bytes [] = at ≡ stride
+AreColumns s size stride at start bytes (None ∷ ls) = ⊥
+AreColumns s size stride at start bytes (Some j ∷ ls) =
+    (column : IsColumn s size stride start bytes j) × (column.node.content ≡ at) × AreColumns s size stride (at + bytes_for (number_bits column.node.shape)) start bytes ls
 
 -- the innermost open value has just numbers, those of the template of structs of `size` bits and so far `at` bytes
 abbrev pub IsDraft : Held → (size start at : ℕ) → Type 0

@@ -1,6 +1,6 @@
 -- The values borrowed from a store: those of its nodes, the elements of its arrays of packed numbers, and the packed
--- structs of its arrays with their numbers.
-use Rattle.std.specs.Prelude.{◌≡◌, ℕ, suc, ◌+◌, ◌-◌, ◌*◌, ◌<◌, ◌≤◌, ℤ, Bool, true, false, nat_lt, length, List, [], Option, Some, None, slice_get, slice_index, unwrap_or}
+-- structs of its arrays with their parts.
+use Rattle.std.specs.Prelude.{◌≡◌, ℕ, suc, ◌+◌, ◌-◌, ◌*◌, ◌<◌, ◌≤◌, ℤ, length, List, [], Option, Some, None, slice_get, slice_index}
 use Rattle.value_store.specs.declared.store.slots.Node.{Node}
 use Rattle.value_store.specs.declared.store.slots.Place.{Place}
 use Rattle.value_store.specs.declared.store.slots.Place.TheVariants as place
@@ -11,8 +11,8 @@ use Rattle.pickle_meaning.specs.Arithmetic.{with_sign}
 use Rattle.pickle_meaning.specs.Values.{Value, Mapped, NoMembers, Label, IntegerLabel, OffsetLabel, TextLabel, ArrayLabel, StructLabel, UnionLabel, label_of}
 use Rattle.value_store.specs.Names.{Names, title_at, names_at, name_at}
 use Rattle.value_store.specs.Packed.{bytes_for, bytes_number}
-use Rattle.value_store.specs.Records.{record_value}
-use Rattle.value_store.specs.Slots.{Slots, no_value, value_at, part, text_bytes, row_numbers, record_count, element_width, element_value, number_bits}
+use Rattle.value_store.specs.Records.{instance}
+use Rattle.value_store.specs.Slots.{Slots, no_value, value_at, part, text_bytes, row_numbers, record_count, element_width, element_value, number_bits, IsTemplatePart}
 use Rattle.value_store.specs.Linked.{links_from}
 
 -- the numbers of an array of packed numbers
@@ -33,23 +33,23 @@ abbrev pub record_stride : Shape → ℕ
 record_stride (shape.Records stride size) = stride
 record_stride shape = 0
 
--- the packed struct at a place of an array
-abbrev pub record_in : Names → Slots → (array : ℕ) → Option Node → ℕ → Value
-record_in names s array None i = no_value
-record_in names s array (Some n) i =
-    record_value (value_at names s (array - 1)) (record_size n.shape * i) (part (record_stride n.shape * i) (record_stride n.shape) (text_bytes s.texts s.bytes n.content))
+-- the bytes of the packed struct at a place of the array that a node is
+abbrev pub row_in : Slots → (array : Node) → ℕ → List ℕ
+row_in s n i = part (record_stride n.shape * i) (record_stride n.shape) (text_bytes s.texts s.bytes n.content)
 
--- the links from the template of an array to its numbers
-abbrev pub columns_of : Slots → (array : ℕ) → List (Option ℕ)
-columns_of s array = links_from s (array - 1)
+-- a part of the template of an array, as it is in the packed struct at a place
+abbrev pub part_in : Names → Slots → (array : Option Node) → (index node : ℕ) → Value
+part_in names s None i j = no_value
+part_in names s (Some n) i j = instance (value_at names s j) (record_size n.shape * i) (row_in s n i)
 
-abbrev pub node_of : Slots → Option ℕ → Option Node
-node_of s None = None
-node_of s (Some j) = slice_get s.nodes j
+-- the binary digits of a number of the packed struct at a place
+abbrev pub part_digits : Slots → (array number : Node) → ℕ → ℕ
+part_digits s n number i =
+    bytes_number (part (record_stride n.shape * i + number.content) (bytes_for (number_bits number.shape)) (text_bytes s.texts s.bytes n.content))
 
--- the node of a number of the template
-abbrev pub column_at : Slots → (array field : ℕ) → Option Node
-column_at s array field = node_of s (unwrap_or (slice_get (columns_of s array) field) None)
+-- digits of a number of the packed struct at a place of the array that a node is
+abbrev pub IsDigits : Slots → (array : ℕ) → (number : Node) → (index digits : ℕ) → Type 0
+IsDigits s array number index digits = (n : Node) → slice_get s.nodes array ≡ Some n → digits ≡ part_digits s n number index
 
 -- a number of these binary digits
 abbrev pub numbered : Shape → (start digits : ℕ) → Value
@@ -57,36 +57,10 @@ numbered (shape.Integer w g) start n = let type : IntegerType = record { width =
 numbered (shape.Offset w g u) start n = let type : IntegerType = record { width = w; signed = g } in Mapped (OffsetLabel (with_sign type n) type u) start (start + w) NoMembers
 numbered shape start n = no_value
 
--- the binary digits of a number of the packed struct at a place
-abbrev pub field_digits : Slots → (array column : Node) → ℕ → ℕ
-field_digits s n column i =
-    bytes_number (part (record_stride n.shape * i + column.content) (bytes_for (number_bits column.shape)) (text_bytes s.texts s.bytes n.content))
-
--- digits of a number of the packed struct at a place of the array that a node is
-abbrev pub IsDigits : Slots → (array : ℕ) → (column : Node) → (index digits : ℕ) → Type 0
-IsDigits s array column index digits = (n : Node) → slice_get s.nodes array ≡ Some n → digits ≡ field_digits s n column index
-
-abbrev pub field_of : Slots → (array column : Option Node) → ℕ → Value
-field_of s None column i = no_value
-field_of s (Some n) None i = no_value
-field_of s (Some n) (Some column) i = numbered column.shape (column.start + record_size n.shape * i) (field_digits s n column i)
-
--- a number of the packed struct at a place of an array
-abbrev pub field_in : Slots → (array index field : ℕ) → Value
-field_in s array index field = field_of s (slice_get s.nodes array) (column_at s array field) index
-
 -- how many packed structs an array of this shape has
 abbrev pub struct_count : Slots → Shape → (content : ℕ) → ℕ
 struct_count s (shape.Records stride size) c = record_count s stride c
 struct_count s shape c = 0
-
-abbrev pub structs_at : Slots → Option Node → ℕ
-structs_at s None = 0
-structs_at s (Some n) = struct_count s n.shape n.content
-
--- an array has packed structs
-abbrev pub HasRecords : Slots → (array : ℕ) → Type 0
-HasRecords s array = 0 < structs_at s (slice_get s.nodes array)
 
 -- how many packed numbers an array of this shape has
 abbrev pub packed_count : Slots → Shape → (content : ℕ) → ℕ
@@ -120,43 +94,31 @@ abbrev pub parts_at : Slots → Option Node → ℕ
 parts_at s None = 0
 parts_at s (Some n) = part_count s n.shape n.content
 
--- the index of a node, that of an element in its array, or that of a number in its struct
-abbrev pub place_index : Place → ℕ
-place_index (place.Node at) = at
-place_index (place.Element array index) = index
-place_index (place.Record array index) = index
-place_index (place.Field array index field) = field
-
--- so many, where there is a struct
-abbrev pub where_struct : Bool → ℕ → ℕ
-where_struct true count = count
-where_struct false count = 0
-
-abbrev pub place_count : Slots → Place → ℕ
-place_count s (place.Node at) = length s.nodes
-place_count s (place.Element array index) = element_count s (slice_get s.nodes array)
-place_count s (place.Record array index) = structs_at s (slice_get s.nodes array)
-place_count s (place.Field array index field) = where_struct (nat_lt index (structs_at s (slice_get s.nodes array))) (length (columns_of s array))
+-- a node is a part of the template of an array, which has a packed struct at a place
+abbrev pub IsPartIn : Slots → (array : Option Node) → (index node : ℕ) → Type 0
+IsPartIn s None i j = ⊥
+IsPartIn s (Some n) i j =
+    (i < struct_count s n.shape n.content) × ∥ IsTemplatePart s (record_size n.shape) (record_stride n.shape) n.start (text_bytes s.texts s.bytes n.content) j ∥₁
 
 abbrev pub IsPlace : Slots → Place → Type 0
-IsPlace s p = place_index p < place_count s p
+IsPlace s (place.Node at) = at < length s.nodes
+IsPlace s (place.Element array index) = index < element_count s (slice_get s.nodes array)
+IsPlace s (place.Part array index node) = (node < array) × IsPartIn s (slice_get s.nodes array) index node
 
 abbrev pub place_value : Names → Slots → Place → Value
 place_value names s (place.Node at) = value_at names s at
 place_value names s (place.Element array index) = element_in s (slice_get s.nodes array) index
-place_value names s (place.Record array index) = record_in names s array (slice_get s.nodes array) index
-place_value names s (place.Field array index field) = field_in s array index field
+place_value names s (place.Part array index node) = part_in names s (slice_get s.nodes array) index node
 
 -- how many packed numbers or structs are parts of the value at a place
 abbrev pub place_packed : Slots → Place → ℕ
 place_packed s (place.Node at) = parts_at s (slice_get s.nodes at)
 place_packed s (place.Element array index) = 0
-place_packed s (place.Record array index) = length (columns_of s array)
-place_packed s (place.Field array index field) = 0
+place_packed s (place.Part array index node) = 0
 
 -- the place of a packed part of an array
 abbrev pub part_place : Shape → (array index : ℕ) → Place
-part_place (shape.Records stride size) array index = place.Record array index
+part_place (shape.Records stride size) array index = place.Part array index (array - 1)
 part_place shape array index = place.Element array index
 
 abbrev pub place_of_part : Option Node → (array index : ℕ) → Place
@@ -167,22 +129,25 @@ place_of_part (Some n) array index = part_place n.shape array index
 abbrev pub packed_place : Slots → Place → ℕ → Place
 packed_place s (place.Node at) i = place_of_part (slice_get s.nodes at) at i
 packed_place s (place.Element array index) i = place.Element array index
-packed_place s (place.Record array index) i = place.Field array index i
-packed_place s (place.Field array index field) i = place.Field array index field
+packed_place s (place.Part array index node) i = place.Part array index node
 
 -- the links to the parts of the value at a place
 abbrev pub place_links : Slots → Place → List (Option ℕ)
 place_links s (place.Node at) = links_from s at
 place_links s (place.Element array index) = []
-place_links s (place.Record array index) = []
-place_links s (place.Field array index field) = []
+place_links s (place.Part array index node) = links_from s node
+
+-- the place of the part that a link of the value at a place leads to
+abbrev pub linked_place : Place → (node : ℕ) → Place
+linked_place (place.Node at) node = place.Node node
+linked_place (place.Element array index) node = place.Element array index
+linked_place (place.Part array index at) node = place.Part array index node
 
 -- a number that is smaller for each part of a value than for the value
 abbrev pub place_rank : Place → ℕ
 place_rank (place.Node at) = suc at
 place_rank (place.Element array index) = 0
-place_rank (place.Record array index) = 1
-place_rank (place.Field array index field) = 0
+place_rank (place.Part array index node) = suc node
 
 -- the label of a shape, with this number, or these bytes
 abbrev pub shape_label : Names → Shape → ℤ → List ℕ → Label

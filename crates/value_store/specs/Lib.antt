@@ -21,3 +21,4 @@ pub mod Gathering
 pub mod PackedStructs
 pub mod Closed
 pub mod Integers
+pub mod Props

@@ -360,22 +360,39 @@ number_bits (Union t i) = 0
 
 -- The node of a number that each of some packed structs has: its content is the place of the number's bytes among those
 -- of a struct, and its start is that of the first struct's number.
-pub record IsColumn (s : Slots) (size stride at start : ℕ) (bytes : List ℕ) (j : ℕ) : Type 0 where
+pub record IsColumn (s : Slots) (size stride start : ℕ) (bytes : List ℕ) (j : ℕ) : Type 0 where
   pub node : Node
   pub found : slice_get s.nodes j ≡ Some node
   pub number : IsNumber node.shape
-  pub place : node.content ≡ at
+  pub fits : node.content + bytes_for (number_bits node.shape) ≤ stride
   pub within : node.start + number_bits node.shape ≤ start + size
-  pub below : (i : ℕ) → i < length bytes / stride → bytes_number (part (stride * i + at) (bytes_for (number_bits node.shape)) bytes) < 2 ^ number_bits node.shape
+  pub below : (i : ℕ) → i < length bytes / stride → bytes_number (part (stride * i + node.content) (bytes_for (number_bits node.shape)) bytes) < 2 ^ number_bits node.shape
 
--- the numbers of packed structs, whose bytes are side by side from `at` on
-abbrev pub AreColumns : Slots → (size stride at start : ℕ) → (bytes : List ℕ) → (links : List (Option ℕ)) → Type 0
-AreColumns s size stride at start bytes [] = at ≡ stride
-AreColumns s size stride at start bytes (None ∷ ls) = ⊥
-AreColumns s size stride at start bytes (Some j ∷ ls) =
-    (column : IsColumn s size stride at start bytes j) × AreColumns s size stride (at + bytes_for (number_bits column.node.shape)) start bytes ls
+-- the node of an array, a struct or a union that each of some packed structs has, or is; its start is that in the first
+-- struct
+pub record IsBranch (s : Slots) (size start : ℕ) (j : ℕ) : Type 0 where
+  pub node : Node
+  pub found : slice_get s.nodes j ≡ Some node
+  pub composite : IsComposite node.shape
+  pub family : IsFamily s node.content
+  pub within : node.start + (family_at s.families node.content).size ≤ start + size
 
--- the node right before an array of packed structs is the first of them, but for its numbers
+mutual
+  -- the node at a place is a part of a template of packed structs, which are these bytes: a number, or an array, a struct
+  -- or a union of such parts
+  pub data IsTemplatePart (s : Slots) (size stride start : ℕ) (bytes : List ℕ) : ℕ → Type 0 where
+    NumberPart : {j : ℕ} → IsColumn s size stride start bytes j → IsTemplatePart s size stride start bytes j
+    BranchPart : {j : ℕ} (branch : IsBranch s size start j) → AreTemplateParts s size stride start bytes (family_links s.families s.links branch.node.content) →
+        IsTemplatePart s size stride start bytes j
+
+  -- so are the nodes that these links refer to
+  pub data AreTemplateParts (s : Slots) (size stride start : ℕ) (bytes : List ℕ) : List (Option ℕ) → Type 0 where
+    NoParts : AreTemplateParts s size stride start bytes []
+    PartThen : {j : ℕ} {ls : List (Option ℕ)} → IsTemplatePart s size stride start bytes j → AreTemplateParts s size stride start bytes ls → AreTemplateParts s size stride start bytes (Some j ∷ ls)
+    AbsentPartThen : {ls : List (Option ℕ)} → AreTemplateParts s size stride start bytes ls → AreTemplateParts s size stride start bytes (None ∷ ls)
+
+-- The node right before an array of packed structs is the first of them, but for its numbers: a tree of any depth. The
+-- place of a number's bytes is small, so that as a number it has no sign.
 pub record IsTemplate (s : Slots) (i size stride start : ℕ) (bytes : List ℕ) : Type 0 where
   pub some : 1 ≤ i
   pub node : Node
@@ -383,9 +400,9 @@ pub record IsTemplate (s : Slots) (i size stride start : ℕ) (bytes : List ℕ)
   pub type : ℕ
   pub shape : node.shape ≡ Struct type
   pub begins : node.start ≡ start
-  pub family : IsFamily s node.content
   pub sized : (family_at s.families node.content).size ≡ size
-  pub columns : AreColumns s size stride 0 start bytes (family_links s.families s.links node.content)
+  pub few : stride ≤ 2 ^ 16
+  pub part : IsTemplatePart s size stride start bytes (i - 1)
 
 -- an array of packed structs has a template
 abbrev pub HasTemplate : Slots → (i : ℕ) → Shape → (start content : ℕ) → Type 0

@@ -7,9 +7,10 @@ ghost use Rattle.pickle_meaning.specs.Values.{label_of, start_of, end_of, member
 ghost use Rattle.value_store.specs.Integers.{AreIntegersOf, AreBytesOf};
 ghost use Rattle.value_store.specs.Labels.{kind_of, number_of, signed_of, width_of, unit_of, bytes_of, taken_of, name_of};
 ghost use Rattle.value_store.specs.Names.{Names, NamesMembers, title_found};
-ghost use Rattle.value_store.specs.Lent.{place_value, place_links, place_packed, packed_place, place_rank, IsPlace, IsShapeOf};
+ghost use Rattle.value_store.specs.Lent.{place_value, place_links, place_packed, packed_place, linked_place, place_rank, IsPlace, IsShapeOf};
+ghost use Rattle.value_store.specs.Props.{IsPlace-prop};
 ghost use Rattle.value_store.specs.Scalars.{scalar_label, scalar_in, IsScalar};
-ghost use Rattle.value_store.specs.Slots.{number_in};
+ghost use Rattle.value_store.specs.Slots.{number_in, value_at};
 
 use crate::scalar::Scalar;
 use crate::store::Store;
@@ -34,7 +35,7 @@ fn number_from(signed: bool, content: u64) -> i128
 pub struct StoredValue<'a> {
     store: &'a Store,
     place: Place,
-    ghost in_range: { IsPlace store.now.slots place },
+    ghost in_range: { IsPlace store.now.slots place } by { IsPlace-prop store.now.slots place },
 }
 
 impl<'a> StoredValue<'a> {
@@ -47,21 +48,15 @@ impl<'a> StoredValue<'a> {
         StoredValue { store, place }
     }
 
-    // The shape of the value: that of its node, of its array's template, or an integer or offset where it is a packed
-    // number. No number is read for it.
+    // The shape of the value: that of its node, of the part of its array's template, or an integer or offset where it is
+    // a packed number. No number is read for it.
     #[inline(always)]
     fn shape(&self) -> Shape
         ensures { IsShapeOf result (λ names. value_of names self.now) }
     {
         match self.place {
-            Place::Node(at) => self.store.node_at(at).shape,
+            Place::Node(at) | Place::Part { node: at, .. } => self.store.node_at(at).shape,
             Place::Element { array, index } => self.store.element_shape(array, index),
-            Place::Record { array, index } => self.store.record_shape(array, index),
-            Place::Field {
-                array,
-                index,
-                field,
-            } => self.store.field_shape(array, index, field),
         }
     }
 
@@ -89,41 +84,18 @@ impl<'a> StoredValue<'a> {
                 let node = self.store.node_at(array);
                 node.start + u64::from(node.shape.element_width()) * index as u64
             }
-            Place::Record { array, index } => {
-                let node = self.store.node_at(array);
-                node.start + u64::from(node.shape.record_size()) * index as u64
-            }
-            Place::Field {
-                array,
-                index,
-                field,
-            } => {
+            Place::Part { array, index, node } => {
                 let size = self.store.node_at(array).shape.record_size();
-                self.store.column(array, index, field).start + u64::from(size) * index as u64
+                self.store.node_at(node).start + u64::from(size) * index as u64
             }
         }
     }
 
-    /// The size of the value in bits.
-    pub fn size(&self) -> u64
-        ensures { (names : Names) → start_of (value_of names self.now) + result ≡ end_of (value_of names self.now) }
+    // The size of a node's value in bits.
+    fn node_size(&self, at: usize) -> u64
+        requires { at < length self.now.store.now.slots.nodes }
+        ensures { (names : Names) → let v = value_at names self.now.store.now.slots at in start_of v + result ≡ end_of v }
     {
-        let at = match self.place {
-            Place::Node(at) => at,
-            Place::Element { array, .. } => {
-                return u64::from(self.store.node_at(array).shape.element_width());
-            }
-            Place::Record { array, .. } => {
-                return u64::from(self.store.node_at(array).shape.record_size());
-            }
-            Place::Field {
-                array,
-                index,
-                field,
-            } => {
-                return u64::from(self.store.column(array, index, field).shape.number_bits());
-            }
-        };
         let node = self.store.node_at(at);
         let row = node.content as usize;
         match node.shape {
@@ -141,6 +113,18 @@ impl<'a> StoredValue<'a> {
         }
     }
 
+    /// The size of the value in bits.
+    pub fn size(&self) -> u64
+        ensures { (names : Names) → start_of (value_of names self.now) + result ≡ end_of (value_of names self.now) }
+    {
+        match self.place {
+            Place::Node(at) | Place::Part { node: at, .. } => self.node_size(at),
+            Place::Element { array, .. } => {
+                u64::from(self.store.node_at(array).shape.element_width())
+            }
+        }
+    }
+
     // The number of an integer or an offset, whose type is signed or not.
     #[inline(always)]
     fn number_as(&self, signed: bool) -> i128
@@ -152,16 +136,7 @@ impl<'a> StoredValue<'a> {
         match self.place {
             Place::Node(at) => number_from(signed, self.store.node_at(at).content),
             Place::Element { array, index } => self.store.element_number(array, index),
-            Place::Field {
-                array,
-                index,
-                field,
-            } => self.store.field_number(array, index, field),
-            // A struct has no number. The call only proves it.
-            Place::Record { array, .. } => {
-                let _array = self.store.node_at(array);
-                0
-            }
+            Place::Part { array, index, node } => self.store.part_number(array, index, node),
         }
     }
 
@@ -260,11 +235,11 @@ impl<'a> StoredValue<'a> {
         self.linked(self.links(), self.packed(), i)
     }
 
-    /// The links to the parts, to walk over them.
+    /// The links to the parts, to walk over them. Those of a packed struct are those of its template.
     pub(crate) fn links(&self) -> &'a [Link]
         ensures { result.now ≡ place_links self.now.store.now.slots self.now.place }
     {
-        let Place::Node(at) = self.place else {
+        let (Place::Node(at) | Place::Part { node: at, .. }) = self.place else {
             return &[];
         };
         let node = self.store.node_at(at);
@@ -310,10 +285,8 @@ impl<'a> StoredValue<'a> {
     pub(crate) fn packed(&self) -> usize
         ensures { result ≡ place_packed self.now.store.now.slots self.now.place }
     {
-        let at = match self.place {
-            Place::Node(at) => at,
-            Place::Record { array, .. } => return self.store.columns(array).len(),
-            Place::Element { .. } | Place::Field { .. } => return 0,
+        let Place::Node(at) = self.place else {
+            return 0;
         };
         let node = self.store.node_at(at);
         match node.shape {
@@ -327,28 +300,36 @@ impl<'a> StoredValue<'a> {
         }
     }
 
-    // The place of a part that is packed.
+    // The place of a part that is packed. A packed struct is the root of its array's template.
     #[inline(always)]
     fn packed_place(&self, i: usize) -> Place
         ensures { result ≡ packed_place self.now.store.now.slots self.now.place i }
     {
         match self.place {
             Place::Node(at) => match self.store.node_at(at).shape {
-                Shape::Records { .. } => Place::Record {
+                Shape::Records { .. } => Place::Part {
                     array: at,
                     index: i,
+                    node: at - 1,
                 },
                 _ => Place::Element {
                     array: at,
                     index: i,
                 },
             },
-            Place::Record { array, index } => Place::Field {
-                array,
-                index,
-                field: i,
-            },
-            Place::Element { .. } | Place::Field { .. } => self.place,
+            Place::Element { .. } | Place::Part { .. } => self.place,
+        }
+    }
+
+    // The place of the part that a link leads to.
+    #[inline(always)]
+    fn linked_place(&self, node: usize) -> Place
+        ensures { result ≡ linked_place self.now.place node }
+    {
+        match self.place {
+            Place::Node(_) => Place::Node(node),
+            Place::Part { array, index, .. } => Place::Part { array, index, node },
+            Place::Element { .. } => self.place,
         }
     }
 
@@ -359,9 +340,7 @@ impl<'a> StoredValue<'a> {
     {
         match self.place {
             Place::Node(at) => at,
-            Place::Element { array, .. }
-            | Place::Record { array, .. }
-            | Place::Field { array, .. } => array,
+            Place::Element { array, .. } | Place::Part { array, .. } => array,
         }
     }
 
@@ -396,7 +375,7 @@ impl<'a> StoredValue<'a> {
             Some(link) => match link.target() {
                 Some(node) => Some(StoredValue {
                     store: self.store,
-                    place: Place::Node(node),
+                    place: self.linked_place(node),
                 }),
                 None => None,
             },

@@ -17,9 +17,9 @@ pub enum Shape {
     Integers { width: u8, signed: bool },
     /// An array of offsets, packed in the same way.
     Offsets { width: u8, signed: bool, unit: u32 },
-    /// An array of structs of numbers, packed in the same way: an element has `size` bits and takes `stride` bytes. The
-    /// node right before it is a struct, the template: the first element, whose numbers have as content the place of
-    /// their bytes in an element.
+    /// An array of structs, packed in the same way: an element has `size` bits and takes `stride` bytes. The node right
+    /// before it is a struct, the template: the first element, whose numbers have as content the place of their bytes in
+    /// an element.
     Records { stride: u16, size: u32 },
     /// An array of other elements. The content of an array, a struct or a union is the place of its family.
     Array,
@@ -50,16 +50,12 @@ pub(crate) enum Place {
         array: usize,
         index: usize,
     },
-    /// Packed: the struct at a place of the array that a node is.
-    Record {
+    /// Packed: a part of the struct at a place of the array that a node is, or the struct itself. `node` is the same
+    /// part of the template.
+    Part {
         array: usize,
         index: usize,
-    },
-    /// Packed: a number of such a struct.
-    Field {
-        array: usize,
-        index: usize,
-        field: usize,
+        node: usize,
     },
 }
 

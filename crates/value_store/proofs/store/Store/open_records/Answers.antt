@@ -1,4 +1,4 @@
-use Rattle.std.proofs.Common.{◌<◌, ◌^◌, subst, arith}
+use Rattle.std.proofs.Common.{◌<◌, ◌≤◌, ◌^◌, subst, arith}
 use Rattle.value_store.specs.declared.store.slots.Shape.TheVariants.{Struct}
 use Rattle.value_store.specs.Slots.{Held, AreLevels, Regrown, innermost, with_family}
 use Rattle.value_store.proofs.Gathering.{begins, closed-template}
@@ -12,7 +12,8 @@ place_records-requires-clause-template c =
     let all = subst (λ (h : Held). AreLevels h.room h.frames h.slots) c.self.view_is c.self.invariant.levels in
     let r = c.reserve_records.new.self in
     let closed = subst (λ n. Regrown (record r { slots = with_family (Struct c.args.of) c.args.start n (innermost r.frames).pending r.slots }) c.place_family.new.self) c.from.ensures c.in_ok-place_family.ensures.slots in
-    closed-template c.args.self.now r c.place_family.new.self c.args.of c.args.size c.args.stride c.args.start all c.requires.draft c.reserve_records.ensures.same closed
+    let few : c.args.stride ≤ 2 ^ 16 = omega (arith, c.ranges.stride) in
+    closed-template c.args.self.now r c.place_family.new.self c.args.of c.args.size c.args.stride c.args.start all c.requires.draft few c.reserve_records.ensures.same closed
 
 pub returns-clause-ok : goal.returns-clause-ok
 returns-clause-ok c =
@@ -20,7 +21,8 @@ returns-clause-ok c =
     let r = c.reserve_records.new.self in
     let closed = subst (λ n. Regrown (record r { slots = with_family (Struct c.args.of) c.args.start n (innermost r.frames).pending r.slots }) c.place_family.new.self) c.from.ensures c.in_ok-place_family.ensures.slots in
     let short : c.args.start < 2 ^ 64 = omega (arith, c.ranges.start) in
-    begins-structs c.args.self.now c.place_records.new.self c.args.of c.args.size c.args.stride c.args.start (begins c.args.self.now r c.place_family.new.self c.place_records.new.self c.args.of c.args.size c.args.stride c.args.start all c.requires.draft c.requires.stride short c.requires.packs c.reserve_records.ensures.same closed c.place_records.ensures.slots)
+    let few : c.args.stride ≤ 2 ^ 16 = omega (arith, c.ranges.stride) in
+    begins-structs c.args.self.now c.place_records.new.self c.args.of c.args.size c.args.stride c.args.start (begins c.args.self.now r c.place_family.new.self c.place_records.new.self c.args.of c.args.size c.args.stride c.args.start all c.requires.draft c.requires.stride few short c.requires.packs c.reserve_records.ensures.same closed c.place_records.ensures.slots)
 
 pub returns-clause-moves : goal.returns-clause-moves
 returns-clause-moves c =
