@@ -6,8 +6,8 @@ use Rattle.jobs.specs.declared.ending.Ending.TheVariants.{Silent}
 use Rattle.run_parts.specs.Outcomes.{outcome_status}
 use Rattle.run_parts.specs.declared.outcome.Outcome.{Outcome}
 use Rattle.run_parts.specs.declared.status.Status.{Status}
-use Rattle.text_forms.specs.Written.{AppendsPart}
-use Rattle.text_forms.specs.declared.write.WriteFault.{WriteFault}
+use Rattle.text_output.specs.Written.{AppendsPart}
+use Rattle.text_output.specs.declared.write.WriteFault.{WriteFault}
 
 -- an answer that was written, or whose output failed
 pub ends_in_json : {Whole : Status → (out out' : Option (List ℕ)) → Type 0} {Part : (out out' : Option (List ℕ)) → Type 0} (r : Result Status WriteFault) (out out' : Option (List ℕ))

@@ -5,8 +5,8 @@ use Rattle.std.specs.declared.io.buffered.BufReader.{BufReader}
 use Rattle.std.proofs.KnownBytes.{Appends-nil, Appends-trans}
 use Rattle.std.specs.declared.alloc.Global.{Global}
 use Rattle.std.specs.Io.KnownBytes.{Keeps, prepend_known}
-use Rattle.command_words.specs.Requests.{faults_in}
-use Rattle.command_words.specs.declared.request.Request.{Request}
+use Rattle.command_line.specs.Requests.{faults_in}
+use Rattle.command_line.specs.declared.request.Request.{Request}
 use Rattle.jobs.specs.Aims.{Aim, form_mode, requested_aim}
 use Rattle.jobs.specs.Jobs.{every_for}
 use Rattle.jobs.specs.declared.file_run.FileForm.{FileForm}
@@ -16,7 +16,7 @@ use Rattle.jobs.specs.Gives.{Gives}
 use Rattle.jobs.specs.Names.{AreNamed}
 use Rattle.run_parts.specs.declared.status.Status.{Status}
 use Rattle.run_parts.specs.declared.status.Status.TheVariants.{Done}
-use Rattle.text_forms.proofs.Parts.{Appends-keeps}
+use Rattle.text_output.proofs.Parts.{Appends-keeps}
 
 -- before the first file
 pub none_written : (gives : Gives) (every : Every) (AreNames : List (List ℕ) → Type 0) (out : Option (List ℕ)) → AreNames [] → AppendsNamed gives every AreNames out out Done

@@ -2,8 +2,8 @@
 use Rattle.std.proofs.Common.{◌≡◌, ◌∙◌, ℕ, List, [], Bool, false, Option, Result, Ok, Err, IfOk, OnOk, refl, sym, ap, subst}
 use Rattle.std.specs.Io.KnownBytes.{Appends, Keeps}
 use Rattle.bit_space.specs.SpaceView.{SpaceView}
-use Rattle.command_words.specs.declared.ask.Ask.{Ask}
-use Rattle.command_words.specs.declared.fault_form.FaultForm.{FaultForm}
+use Rattle.command_line.specs.declared.ask.Ask.{Ask}
+use Rattle.command_line.specs.declared.fault_form.FaultForm.{FaultForm}
 use Rattle.jobs.specs.Aims.{IsAskOf}
 use Rattle.jobs.specs.Every.{AppendsFile, unmapped_text}
 use Rattle.jobs.specs.FaultNames.{failure_of}
@@ -21,7 +21,7 @@ use Rattle.run_parts.specs.Outcomes.{outcome_status}
 use Rattle.run_parts.specs.declared.outcome.Outcome.{Outcome}
 use Rattle.run_parts.specs.declared.outcome.Outcome.TheVariants as outcome
 use Rattle.run_parts.specs.declared.status.Status.{Status}
-use Rattle.text_forms.proofs.Parts.{Appends-keeps}
+use Rattle.text_output.proofs.Parts.{Appends-keeps}
 
 -- what is written of a file that wasn't mapped
 unmapped_formed : (form : FileForm) (why : Bool) (name : List ℕ) (ended : Outcome) (lines : List ℕ) → (why ≡ false → lines ≡ []) → IsFormed form why name ended [] (unmapped_text form name ended lines)

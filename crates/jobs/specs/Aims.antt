@@ -1,16 +1,16 @@
 -- What is mapped, whatever the file.
 use Rattle.std.specs.Prelude.{◌≡◌, ℕ, List, Some, string_bytes}
 use Rattle.bit_space.specs.declared.order.Order.{Order}
-use Rattle.command_words.specs.Starts.{start_bit}
-use Rattle.command_words.specs.declared.ask.Ask.{Ask}
-use Rattle.command_words.specs.declared.request.Form.{Form}
-use Rattle.command_words.specs.declared.request.Form.TheVariants.{Printed, Shown}
-use Rattle.command_words.specs.declared.request.Request.{Request}
-use Rattle.command_words.specs.declared.start.Start.{Start}
-use Rattle.command_words.specs.declared.start.Start.TheVariants.{Bit}
-use Rattle.jobs.specs.declared.mapping.Mapping.{Mapping}
-use Rattle.text_forms.specs.declared.mode.Mode.{Mode}
-use Rattle.text_forms.specs.declared.mode.Mode.TheVariants.{Flat}
+use Rattle.command_line.specs.Starts.{start_bit}
+use Rattle.command_line.specs.declared.ask.Ask.{Ask}
+use Rattle.command_line.specs.declared.request.Form.{Form}
+use Rattle.command_line.specs.declared.request.Form.TheVariants.{Printed, Shown}
+use Rattle.command_line.specs.declared.request.Request.{Request}
+use Rattle.command_line.specs.declared.start.Start.{Start}
+use Rattle.command_line.specs.declared.start.Start.TheVariants.{Bit}
+use Rattle.jobs.specs.declared.settings.Mapping.{Mapping}
+use Rattle.text_output.specs.declared.mode.Mode.{Mode}
+use Rattle.text_output.specs.declared.mode.Mode.TheVariants.{Flat}
 
 -- a type's name, a start, a byte order, a limit of steps, and a mode
 pub record Aim : Type 0 where

@@ -2,10 +2,10 @@
 use Rattle.std.specs.Prelude.{◌≡◌, ℕ, Bool, false, List, [], ◌∷◌, ◌++◌, Option, Some, None, nat_lt, if◌then◌else◌, IsUtf8}
 use Rattle.std.specs.Io.KnownBytes.{Appends}
 use Rattle.bit_space.specs.SpaceView.{SpaceView}
-use Rattle.command_words.specs.Starts.{start_bit}
-use Rattle.command_words.specs.declared.ask.Ask.{Ask}
-use Rattle.command_words.specs.declared.fault_form.FaultForm.{FaultForm}
-use Rattle.command_words.specs.declared.terms.Terms.{Terms}
+use Rattle.command_line.specs.Starts.{start_bit}
+use Rattle.command_line.specs.declared.ask.Ask.{Ask}
+use Rattle.command_line.specs.declared.fault_form.FaultForm.{FaultForm}
+use Rattle.command_line.specs.declared.terms.Terms.{Terms}
 use Rattle.jobs.specs.FaultNames.{failure_of}
 use Rattle.jobs.specs.Gives.{Gives}
 use Rattle.jobs.specs.Aims.{Aim, IsAskOf}
@@ -19,8 +19,8 @@ use Rattle.run_parts.specs.Outcomes.{EndsAs, outcome_status}
 use Rattle.run_parts.specs.declared.outcome.Failure.TheVariants as failure
 use Rattle.run_parts.specs.declared.outcome.Outcome.{Outcome}
 use Rattle.run_parts.specs.declared.outcome.Outcome.TheVariants as outcome
-use Rattle.text_forms.specs.declared.mode.Mode.{Mode}
-use Rattle.text_forms.specs.declared.mode.Mode.TheVariants.{Flat, Tree, Json, Lines}
+use Rattle.text_output.specs.declared.mode.Mode.{Mode}
+use Rattle.text_output.specs.declared.mode.Mode.TheVariants.{Flat, Tree, Json, Lines}
 use Rattle.run_parts.specs.declared.status.Status.{Status}
 use Rattle.run_parts.specs.declared.status.Status.TheVariants.{Done, Fault, Refused, Outside}
 

@@ -7,7 +7,7 @@ use Rattle.jobs.specs.Aims.{aim_of}
 use Rattle.jobs.specs.declared.each.Many.{Many}
 use Rattle.jobs.specs.declared.fault.FileFault.{FileFault}
 use Rattle.jobs.specs.declared.ending.Ending.{Ending}
-use Rattle.jobs.specs.declared.mappings.Target.{Target}
+use Rattle.jobs.specs.declared.one_file.Target.{Target}
 use Rattle.run_parts.specs.declared.outcome.Outcome.{Outcome}
 use Rattle.jobs.specs.declared.dumps.Range.{Range}
 use Rattle.jobs.specs.declared.pickles.Bounded.{Bounded}

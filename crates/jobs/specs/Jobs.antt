@@ -1,23 +1,23 @@
 -- What jobs write, of the bytes that an opener gives for their arguments.
 use Rattle.std.specs.Prelude.{◌≡◌, ◌≢◌, ◌⊎◌, ℕ, Bool, true, false, List, [], ◌∷◌, ◌++◌, Option, Some, None, Result, Ok, Err, codes, string_bytes}
 use Rattle.std.specs.Io.KnownBytes.{Appends, Keeps}
-use Rattle.text_forms.specs.Written.{AppendsPart}
-use Rattle.text_forms.specs.declared.write.WriteFault.{WriteFault}
+use Rattle.text_output.specs.Written.{AppendsPart}
+use Rattle.text_output.specs.declared.write.WriteFault.{WriteFault}
 use Rattle.bit_space.specs.SpaceView.{SpaceView}
-use Rattle.command_words.specs.Found.{no_terms}
-use Rattle.command_words.specs.Starts.{start_bit}
-use Rattle.command_words.specs.declared.answer_form.AnswerForm.{AnswerForm}
-use Rattle.command_words.specs.declared.answer_form.AnswerForm.TheVariants as answer
-use Rattle.command_words.specs.declared.ask.Ask.{Ask}
-use Rattle.command_words.specs.Requests.{faults_in}
-use Rattle.command_words.specs.declared.request.FileNames.{FileNames}
-use Rattle.command_words.specs.declared.request.Over.{Over}
-use Rattle.command_words.specs.declared.request.Over.TheVariants.{File, Files}
-use Rattle.command_words.specs.declared.request.Request.{Request}
-use Rattle.command_words.specs.declared.terms.Terms.{Terms}
-use Rattle.command_words.specs.declared.words.Asked.{Asked}
-use Rattle.command_words.specs.declared.words.Job.{Job}
-use Rattle.command_words.specs.declared.words.Job.TheVariants as job
+use Rattle.command_line.specs.Found.{no_terms}
+use Rattle.command_line.specs.Starts.{start_bit}
+use Rattle.command_line.specs.declared.answer_form.AnswerForm.{AnswerForm}
+use Rattle.command_line.specs.declared.answer_form.AnswerForm.TheVariants as answer
+use Rattle.command_line.specs.declared.ask.Ask.{Ask}
+use Rattle.command_line.specs.Requests.{faults_in}
+use Rattle.command_line.specs.declared.request.FileNames.{FileNames}
+use Rattle.command_line.specs.declared.request.Over.{Over}
+use Rattle.command_line.specs.declared.request.Over.TheVariants.{File, Files}
+use Rattle.command_line.specs.declared.request.Request.{Request}
+use Rattle.command_line.specs.declared.terms.Terms.{Terms}
+use Rattle.command_line.specs.declared.words.Asked.{Asked}
+use Rattle.command_line.specs.declared.words.Job.{Job}
+use Rattle.command_line.specs.declared.words.Job.TheVariants as job
 use Rattle.jobs.specs.Aims.{Aim, IsAskOf, form_mode, plain_aim, requested_aim}
 use Rattle.jobs.specs.Files.{Every, AppendsFiles, WritesRuns, file_form}
 use Rattle.jobs.specs.Gives.{Gives}

@@ -2,8 +2,8 @@
 use Rattle.std.specs.Prelude.{◌≡◌, ◌<◌, ℕ, List, [], ◌∷◌, ◌++◌, Option, IfSome, length, String, string_bytes}
 use Rattle.std.specs.declared.alloc.Global.{Global}
 use Rattle.std.specs.Io.KnownBytes.{IsAtEnd}
-use Rattle.command_words.specs.declared.request.FileNames.{FileNames}
-use Rattle.command_words.specs.declared.request.FileNames.TheVariants.{Words, EndedByZero}
+use Rattle.command_line.specs.declared.request.FileNames.{FileNames}
+use Rattle.command_line.specs.declared.request.FileNames.TheVariants.{Words, EndedByZero}
 use Rattle.jobs.specs.Gives.{Gives}
 use Rattle.std.specs.Io.BufRead.{first_piece, DropsThrough}
 

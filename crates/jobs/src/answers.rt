@@ -1,7 +1,7 @@
 //! Answers about a pickle in JSON. They go to standard output, refusals and faults too.
 ghost use Rattle.std.specs.Prelude.{◌≡◌, IfOk, IfErr, OnErr, OnOk};
 ghost use Rattle.std.specs.Io.KnownBytes.{Appends, Keeps};
-ghost use Rattle.text_forms.specs.Written.{AppendsPart};
+ghost use Rattle.text_output.specs.Written.{AppendsPart};
 ghost use Rattle.run_parts.specs.Outcomes.{outcome_status};
 ghost use Rattle.jobs.specs.Jobs.{ChecksOver, Reports, TypesOver, ending_of, notes_member, report_text, some_notes};
 
@@ -80,7 +80,7 @@ fn report_failure<O: Write>(why: Failure, lines: &[u8], out: &mut O) -> Ending
     }
 }
 
-#[tactic(auto, using(text_forms::proofs::Parts::written))]
+#[tactic(auto, using(text_output::proofs::Parts::written))]
 fn put_report<O: Write>(outcome: Outcome, lines: &[u8], out: &mut O) -> Result<Status, WriteFault>
     ensures status { IfOk result (λ status. status ≡ outcome_status outcome) }
     ensures ok { OnOk result (Appends (O.contents out.old) (O.contents out.new) (report_text outcome lines.now)) }
@@ -94,7 +94,7 @@ fn put_report<O: Write>(outcome: Outcome, lines: &[u8], out: &mut O) -> Result<S
 }
 
 // Writes lines as the member `notes`, if there are any.
-#[tactic(auto, using(text_forms::proofs::Parts::written))]
+#[tactic(auto, using(text_output::proofs::Parts::written))]
 fn put_notes<O: Write>(lines: &[u8], out: &mut O) -> Result<(), WriteFault>
     ensures ok { OnOk result (Appends (O.contents out.old) (O.contents out.new) (notes_member lines.now)) }
     ensures err { OnErr result (AppendsPart (O.contents out.old) (O.contents out.new) (notes_member lines.now)) }
@@ -105,7 +105,7 @@ fn put_notes<O: Write>(lines: &[u8], out: &mut O) -> Result<(), WriteFault>
     }
 }
 
-#[tactic(auto, using(text_forms::proofs::Parts::written))]
+#[tactic(auto, using(text_output::proofs::Parts::written))]
 fn put_some_notes<O: Write>(lines: &[u8], out: &mut O) -> Result<(), WriteFault>
     ensures ok { OnOk result (Appends (O.contents out.old) (O.contents out.new) (some_notes lines.now)) }
     ensures err { OnErr result (AppendsPart (O.contents out.old) (O.contents out.new) (some_notes lines.now)) }

@@ -10,12 +10,12 @@ ghost use Rattle.jobs.specs.Aims.{IsAskOf, aim_of};
 
 use crate::aside::Aside;
 use crate::fault::FileFault;
-use crate::mapping::Mapping;
-use crate::mappings::is_mapped;
+use crate::one_file::is_mapped;
 use crate::opener::{Lengthless, NamedPickle, Opener};
+use crate::settings::Mapping;
 use bit_space::{OpenFault, Paged, Space};
-use mapping_reasons::mapping::{Pickle, TypeMapping};
-use mapping_reasons::reasons_in;
+use fault_report::mapping::{Pickle, TypeMapping};
+use fault_report::reasons_in;
 use pickle_types::table::{Table, TypeId};
 use poke_batch::ask::Ask;
 use poke_batch::each::{Kept, map_file, run_file};

@@ -12,12 +12,12 @@ pub mod ending;
 pub mod fault;
 pub mod file_run;
 pub mod head;
-pub mod mapping;
-pub mod mappings;
 pub mod names;
+pub mod one_file;
 pub mod opener;
 mod pickles;
 pub mod run;
+pub mod settings;
 pub mod why;
 
 pub use answers::report_in_json;

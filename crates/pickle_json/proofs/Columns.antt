@@ -2,8 +2,8 @@
 use Rattle.std.proofs.Common.{◌≡◌, ℕ, ◌+◌, ◌≤◌, Bool, true, false, if◌then◌else◌, Option, List, [], ◌∷◌, length, fold, arith, subst}
 use Rattle.std.specs.Prelude.{◌==◌}
 use Rattle.std.specs.Io.KnownBytes.{Appends}
-use Rattle.text_forms.specs.Written.{AppendsPart}
-use Rattle.pickle_script.specs.Places.{next_column, column_behind}
+use Rattle.text_output.specs.Written.{AppendsPart}
+use Rattle.pickle_source.specs.Places.{next_column, column_behind}
 use Rattle.pickle_json.specs.Members.{number_member}
 
 next_few : (is_feed : Bool) (column : ℕ) → (if is_feed then 1 else (column + 1)) ≤ column + 1

@@ -6,15 +6,15 @@ use Rattle.std.specs.Io.KnownBytes.{Appends}
 use Rattle.std.proofs.KnownBytes.{Appends-trans, Appends-nil}
 use Rattle.std.proofs.Math.Seq.{take-suc}
 use Rattle.std.proofs.lemmas.List.{append_assoc, append-nil, drop_all, drop_more, map-append, take-append-drop, take_all}
-use Rattle.text_forms.specs.Written.{AppendsPart}
-use Rattle.text_forms.specs.declared.write.WriteFault.{WriteFault}
-use Rattle.text_forms.proofs.Parts.{part_first, part_next}
+use Rattle.text_output.specs.Written.{AppendsPart}
+use Rattle.text_output.specs.declared.write.WriteFault.{WriteFault}
+use Rattle.text_output.proofs.Parts.{part_first, part_next}
 use Rattle.value_text.specs.ValueText.{comma}
 use Rattle.pickle_tree.specs.Tree.{DeclarationTree}
 use Rattle.pickle_types.specs.DeclaredTypes.{Told, told_of, told_as, declared_in}
 use Rattle.pickle_types.specs.Names.{Names}
 use Rattle.pickle_types.specs.declared.declared_types.DeclaredType.{DeclaredType}
-use Rattle.pickle_script.specs.declared.note.Note.{Note}
+use Rattle.pickle_source.specs.declared.note.Note.{Note}
 use Rattle.run_parts.specs.Accepted.{IsAccepted}
 use Rattle.run_parts.specs.Outcomes.{EndsAs, writes, cuts}
 use Rattle.run_parts.specs.declared.outcome.Failure.TheVariants.{Write}

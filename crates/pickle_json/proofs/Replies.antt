@@ -1,8 +1,8 @@
 -- Laws of the answers of a check.
 use Rattle.std.proofs.Common.{◌≡◌, ℕ, Bool, false, Option, None, List, []}
 use Rattle.std.specs.Io.KnownBytes.{Appends}
-use Rattle.text_forms.specs.Written.{AppendsPart}
-use Rattle.pickle_script.specs.declared.note.Note.{Note}
+use Rattle.text_output.specs.Written.{AppendsPart}
+use Rattle.pickle_source.specs.declared.note.Note.{Note}
 use Rattle.pickle_types.specs.declared.table.Table.{Table}
 use Rattle.run_parts.specs.Accepted.{IsTableOf, Refuses}
 use Rattle.run_parts.specs.Outcomes.{outcome_status}

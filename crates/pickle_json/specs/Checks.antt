@@ -3,14 +3,14 @@ use Rattle.std.specs.Prelude.{◌≡◌, ℕ, Bool, true, false, List, [], ◌�
 use Rattle.std.specs.Io.KnownBytes.{Appends}
 use Rattle.pickle_tree.specs.Tree.{DeclarationTree}
 use Rattle.pickle_types.specs.Names.{Names}
-use Rattle.pickle_script.specs.declared.note.Note.{Note}
+use Rattle.pickle_source.specs.declared.note.Note.{Note}
 use Rattle.run_parts.specs.Accepted.{IsAccepted, Refuses}
 use Rattle.run_parts.specs.Outcomes.{outcome_members, outcome_status}
 use Rattle.run_parts.specs.declared.accept.Refusal.{Refusal}
 use Rattle.run_parts.specs.declared.outcome.Outcome.TheVariants as outcome
 use Rattle.run_parts.specs.declared.status.Status.{Status}
 use Rattle.run_parts.specs.declared.status.Status.TheVariants.{Done}
-use Rattle.text_forms.specs.Written.{AppendsPart}
+use Rattle.text_output.specs.Written.{AppendsPart}
 use Rattle.pickle_json.specs.Notes.{note_members}
 
 -- what begins the object of a note among others

@@ -1,7 +1,7 @@
 -- A field of a struct or a union as a JSON object.
 use Rattle.std.specs.Prelude.{ℕ, ◌+◌, nat_eq, List, [], ◌∷◌, ◌++◌, Option, codes}
 use Rattle.std.specs.Io.KnownBytes.{Appends}
-use Rattle.text_forms.specs.Written.{AppendsPart}
+use Rattle.text_output.specs.Written.{AppendsPart}
 use Rattle.value_text.specs.JsonText.{json_string}
 use Rattle.value_text.specs.ValueText.{comma}
 use Rattle.pickle_json.specs.declared.field.FieldTexts.{FieldTexts}

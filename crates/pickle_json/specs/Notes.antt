@@ -2,8 +2,8 @@
 use Rattle.std.specs.Prelude.{ℕ, ◌+◌, List, [], ◌++◌, Option, None, Some, unwrap_or, ◌==◌, ◌||◌, not, if◌then◌else◌, min, length, take, drop, codes, decimal}
 use Rattle.std.specs.List.{prefix_len}
 use Rattle.std.specs.Option.{option_map}
-use Rattle.pickle_script.specs.declared.note.Note.{Note}
-use Rattle.pickle_script.specs.Places.{line_behind, column_behind}
+use Rattle.pickle_source.specs.declared.note.Note.{Note}
+use Rattle.pickle_source.specs.Places.{line_behind, column_behind}
 use Rattle.value_text.specs.JsonText.{json_string}
 use Rattle.pickle_json.specs.Members.{text_member, number_member}
 

@@ -9,7 +9,7 @@ use Rattle.pickle_types.specs.declared.declared_types.TypeKind.TheVariants as ki
 use Rattle.run_parts.specs.Accepted.{IsAccepted, Refuses, refusal_saying}
 use Rattle.run_parts.specs.Told.{Saying, Text}
 use Rattle.run_parts.specs.declared.accept.Refusal.{Refusal}
-use Rattle.text_forms.specs.Written.{AppendsPart}
+use Rattle.text_output.specs.Written.{AppendsPart}
 use Rattle.value_text.specs.JsonText.{json_string}
 use Rattle.pickle_json.specs.Members.{number_member}
 use Rattle.pickle_json.specs.Fields.{IsFieldsMember}

@@ -3,13 +3,13 @@
 ghost use Rattle.std.specs.Prelude.{◌≡◌, ◌++◌, [], codes, true, false, None, IfOk, OnOk, OnErr};
 ghost use Rattle.std.specs.Io.KnownBytes.{Appends};
 ghost use Rattle.run_parts.specs.Accepted.{IsTableOf, Refuses};
-ghost use Rattle.text_forms.specs.Written.{AppendsPart};
+ghost use Rattle.text_output.specs.Written.{AppendsPart};
 ghost use Rattle.pickle_json.specs.Notes.{note_members};
 ghost use Rattle.pickle_json.specs.Checks.{Answers, AnswersPart, accepted_json, lead, more_members, notes_json, refused_json, warnings_json};
 
 use crate::note::put_note;
 use pickle_reasons::refusal_note;
-use pickle_script::note::Note;
+use pickle_source::note::Note;
 use pickle_types::table::Table;
 use pickle_warnings::accepted_notes;
 use run_parts::accept::{Refusal, accept};
@@ -17,7 +17,7 @@ use run_parts::outcome::Outcome;
 use run_parts::status::Status;
 use std::alloc::Global;
 use std::io::Write;
-use text_forms::write::{WriteFault, put};
+use text_output::write::{WriteFault, put};
 
 /// Checks a pickle, and writes the answer as a JSON object on a line: `{"accepted":true}`, or
 /// `{"refused":"Syntax","byte":25}`. Returns the exit status of the check.
@@ -106,7 +106,7 @@ fn put_accepted<W: Write>(w: &mut W, pickle: &[u8], notes: &[Note]) -> Result<()
     }
 }
 
-#[tactic(auto, using(text_forms::proofs::Parts::written))]
+#[tactic(auto, using(text_output::proofs::Parts::written))]
 fn put_warnings<W: Write>(w: &mut W, pickle: &[u8], notes: &[Note]) -> Result<(), WriteFault>
     ensures ok { OnOk result (Appends (W.contents w.old) (W.contents w.new) (warnings_json pickle.now notes.now)) }
     ensures err { OnErr result (AppendsPart (W.contents w.old) (W.contents w.new) (warnings_json pickle.now notes.now)) }
@@ -131,7 +131,7 @@ fn put_notes<W: Write>(w: &mut W, pickle: &[u8], notes: &[Note]) -> Result<(), W
 }
 
 // Writes the object of a note, after a comma unless it is the first.
-#[tactic(auto, using(text_forms::proofs::Parts::written))]
+#[tactic(auto, using(text_output::proofs::Parts::written))]
 fn put_one<W: Write>(w: &mut W, pickle: &[u8], first: bool, note: &Note) -> Result<(), WriteFault>
     ensures ok { OnOk result (Appends (W.contents w.old) (W.contents w.new) (lead first ++ (note_members pickle.now note.now ++ codes "}"))) }
     ensures err { OnErr result (AppendsPart (W.contents w.old) (W.contents w.new) (lead first ++ (note_members pickle.now note.now ++ codes "}"))) }
@@ -148,7 +148,7 @@ fn lead(first: bool) -> &'static [u8]
     if first { b"{" } else { b",{" }
 }
 
-#[tactic(auto, using(text_forms::proofs::Parts::written))]
+#[tactic(auto, using(text_output::proofs::Parts::written))]
 fn put_refused<W: Write>(
     w: &mut W,
     pickle: &[u8],
@@ -176,7 +176,7 @@ fn put_more<W: Write>(w: &mut W, pickle: &[u8], note: &Option<Note>) -> Result<(
     }
 }
 
-#[tactic(auto, using(text_forms::proofs::Parts::written))]
+#[tactic(auto, using(text_output::proofs::Parts::written))]
 fn put_after_comma<W: Write>(w: &mut W, pickle: &[u8], note: &Note) -> Result<(), WriteFault>
     ensures ok { OnOk result (Appends (W.contents w.old) (W.contents w.new) (codes "," ++ note_members pickle.now note.now)) }
     ensures err { OnErr result (AppendsPart (W.contents w.old) (W.contents w.new) (codes "," ++ note_members pickle.now note.now)) }

@@ -2,14 +2,14 @@
 
 ghost use Rattle.std.specs.Prelude.{OnOk, OnErr};
 ghost use Rattle.std.specs.Io.KnownBytes.{Appends};
-ghost use Rattle.text_forms.specs.Written.{AppendsPart};
+ghost use Rattle.text_output.specs.Written.{AppendsPart};
 ghost use Rattle.pickle_json.specs.Fields.{name_start, field_json};
 
 use crate::member::{put_number, put_string, put_text};
-use pickle_script::anatomy::{bound, field_parts};
-use pickle_script::script::{Part, Script};
+use pickle_source::anatomy::{bound, field_parts};
+use pickle_source::script::{Part, Script};
 use std::io::Write;
-use text_forms::write::{WriteFault, put};
+use text_output::write::{WriteFault, put};
 
 /// The texts of a field as the pickle has them. What the field doesn't have is empty.
 #[derive(Clone, Copy)]
@@ -46,7 +46,7 @@ impl<'t> FieldTexts<'t> {
 
     /// Writes the field as a JSON object: `{"name":"a","type":"byte","width":8,"constraint":"a < 3"}`. A field without a
     /// name has the name `null`. Of the other members there are those that the field has.
-    #[tactic(auto, using(text_forms::proofs::Parts::written))]
+    #[tactic(auto, using(text_output::proofs::Parts::written))]
     pub fn put<W: Write>(&self, w: &mut W) -> Result<(), WriteFault>
         ensures ok { OnOk result (Appends (W.contents w.old) (W.contents w.new) (field_json self.now)) }
         ensures err { OnErr result (AppendsPart (W.contents w.old) (W.contents w.new) (field_json self.now)) }

@@ -2,13 +2,13 @@
 
 ghost use Rattle.std.specs.Prelude.{◌++◌, decimal, OnOk, OnErr};
 ghost use Rattle.std.specs.Io.KnownBytes.{Appends};
-ghost use Rattle.text_forms.specs.Written.{AppendsPart};
+ghost use Rattle.text_output.specs.Written.{AppendsPart};
 ghost use Rattle.value_text.specs.JsonText.{json_string};
 ghost use Rattle.pickle_json.specs.Members.{text_member, number_member};
 
 use run_parts::lines::put_digits;
 use std::io::Write;
-use text_forms::write::{WriteFault, put};
+use text_output::write::{WriteFault, put};
 use value_text::print::print_json_string;
 
 /// Writes a member whose value is a string. Without a text there is no member. `key` has the comma, the quotes and the
@@ -24,7 +24,7 @@ pub fn put_text<W: Write>(w: &mut W, key: &[u8], text: &[u8]) -> Result<(), Writ
 }
 
 /// Writes a member whose value is a string, after `key`.
-#[tactic(auto, using(text_forms::proofs::Parts::written))]
+#[tactic(auto, using(text_output::proofs::Parts::written))]
 pub fn put_string<W: Write>(w: &mut W, key: &[u8], text: &[u8]) -> Result<(), WriteFault>
     ensures ok { OnOk result (Appends (W.contents w.old) (W.contents w.new) (key.now ++ json_string text.now)) }
     ensures err { OnErr result (AppendsPart (W.contents w.old) (W.contents w.new) (key.now ++ json_string text.now)) }
@@ -46,7 +46,7 @@ pub fn put_number<W: Write>(w: &mut W, key: &[u8], number: Option<u64>) -> Resul
 }
 
 /// Writes a member whose value is a number, after `key`.
-#[tactic(auto, using(text_forms::proofs::Parts::written))]
+#[tactic(auto, using(text_output::proofs::Parts::written))]
 pub fn put_count<W: Write>(w: &mut W, key: &[u8], number: u64) -> Result<(), WriteFault>
     ensures ok { OnOk result (Appends (W.contents w.old) (W.contents w.new) (key.now ++ decimal number)) }
     ensures err { OnErr result (AppendsPart (W.contents w.old) (W.contents w.new) (key.now ++ decimal number)) }

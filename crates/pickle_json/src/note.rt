@@ -2,14 +2,14 @@
 
 ghost use Rattle.std.specs.Prelude.{◌≡◌, ◌≤◌, ◌<◌, ◌^◌, length, OnOk, OnErr};
 ghost use Rattle.std.specs.Io.KnownBytes.{Appends};
-ghost use Rattle.text_forms.specs.Written.{AppendsPart};
+ghost use Rattle.text_output.specs.Written.{AppendsPart};
 ghost use Rattle.pickle_json.specs.Notes.{left_in_line, end_column, help_of, note_members, place_members};
 
 use crate::member::{put_count, put_number, put_string, put_text};
-use pickle_script::note::Note;
-use pickle_script::place::{Place, place_behind};
+use pickle_source::note::Note;
+use pickle_source::place::{Place, place_behind};
 use std::io::Write;
-use text_forms::write::WriteFault;
+use text_output::write::WriteFault;
 
 /// Writes the members of a note: `"line":3,"column":5,"end":9,"says":"..","write":".."`. Line and column are those of the
 /// first byte that is meant, counted from 1, and `end` is the column after the last one in that line. A note that means no
@@ -25,7 +25,7 @@ pub fn put_note<W: Write>(w: &mut W, pickle: &[u8], note: &Note) -> Result<(), W
 }
 
 // Writes the members of a sentence about so many bytes from a place on.
-#[tactic(auto, using(text_forms::proofs::Parts::written))]
+#[tactic(auto, using(text_output::proofs::Parts::written))]
 fn put_placed<W: Write>(
     w: &mut W,
     place: Place,

@@ -4,15 +4,15 @@ ghost use Rattle.std.specs.Prelude.{◌≡◌, ◌++◌, ℕ, map, OnOk, OnErr};
 ghost use Rattle.std.specs.Io.KnownBytes.{Appends};
 ghost use Rattle.pickle_types.specs.DeclaredTypes.{told_of};
 ghost use Rattle.run_parts.specs.Outcomes.{EndsAs};
-ghost use Rattle.text_forms.specs.Written.{AppendsPart};
+ghost use Rattle.text_output.specs.Written.{AppendsPart};
 ghost use Rattle.value_text.specs.ValueText.{comma};
 ghost use Rattle.pickle_json.specs.Fields.{WritesFields, WritesFieldsPart, WritesMember, WritesMemberPart, field_json};
 ghost use Rattle.pickle_json.specs.TypeObjects.{TypesInJson, WritesObject, WritesObjectPart, WritesObjects, WritesObjectsPart, kind_member, type_start};
 
 use crate::field::FieldTexts;
 use crate::member::{put_number, put_string};
-use pickle_script::anatomy::{braces, statement};
-use pickle_script::script::{Part, Script};
+use pickle_source::anatomy::{braces, statement};
+use pickle_source::script::{Part, Script};
 use pickle_types::declared_types::{DeclaredType, TypeKind};
 use pickle_types::table::Table;
 use pickle_types::view::{Node, Shape, part_node};
@@ -21,7 +21,7 @@ use run_parts::outcome::{Failure, Outcome};
 use run_parts::tell::answer;
 use std::alloc::Global;
 use std::io::Write;
-use text_forms::write::{WriteFault, put};
+use text_output::write::{WriteFault, put};
 
 /// Checks a pickle, and writes a JSON object for each type that it declares, on a line, in the order of the declarations.
 ///
@@ -83,7 +83,7 @@ fn put_type<W: Write>(
 }
 
 // Writes the members of a type before its fields.
-#[tactic(auto, using(text_forms::proofs::Parts::written))]
+#[tactic(auto, using(text_output::proofs::Parts::written))]
 fn put_start<W: Write>(w: &mut W, told: &DeclaredType<'_>, text: &[u8]) -> Result<(), WriteFault>
     ensures ok { OnOk result (Appends (W.contents w.old) (W.contents w.new) (type_start (told_of told.now) text.now)) }
     ensures err { OnErr result (AppendsPart (W.contents w.old) (W.contents w.new) (type_start (told_of told.now) text.now)) }
@@ -188,7 +188,7 @@ fn put_each<W: Write>(
     Ok(())
 }
 
-#[tactic(auto, using(text_forms::proofs::Parts::written))]
+#[tactic(auto, using(text_output::proofs::Parts::written))]
 fn put_field<W: Write>(w: &mut W, first: bool, field: &FieldTexts<'_>) -> Result<(), WriteFault>
     ensures ok { OnOk result (Appends (W.contents w.old) (W.contents w.new) (comma first ++ field_json field.now)) }
     ensures err { OnErr result (AppendsPart (W.contents w.old) (W.contents w.new) (comma first ++ field_json field.now)) }

@@ -19,8 +19,8 @@ use Rattle.value_store.specs.PackedStructs.{struct_bytes}
 use Rattle.pickle_types.specs.declared.node.Field.{Field}
 use Rattle.pickle_types.specs.Table.{type_of, open_fields, FieldsBelow, IsSoundField}
 use Rattle.pickle_map.specs.Columns.{shapes_of}
-use Rattle.pickle_map.specs.declared.mapper.row.Packing.{Packing}
-use Rattle.pickle_map.specs.declared.mapper.row.Packing.TheVariants as packing
+use Rattle.pickle_map.specs.declared.mapper.packed_numbers.Packing.{Packing}
+use Rattle.pickle_map.specs.declared.mapper.packed_numbers.Packing.TheVariants as packing
 use Rattle.value_store.specs.Slots.{Held, IsPacked, IsPacking, elements, element_width, packs}
 use Rattle.pickle_meaning.specs.Values.{Levels}
 

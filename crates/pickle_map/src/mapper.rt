@@ -7,19 +7,19 @@ ghost use Rattle.pickle_types.specs.TypeTable.{nodes_of, type_named, IsInTable};
 ghost use Rattle.pickle_map.specs.Mapped.{MeansValue, MeansFault, FitsType, CountsParts, ReachesLimit, LacksBound, RunsNamed, KeptInRoom, WantedMore, EndsRun, HoldsAtMost, MapsNamed, told};
 ghost use Rattle.value_store.specs.Slots.{emptied, HoldsInRoom, KeepsRoom};
 
-pub(crate) mod blame;
 pub mod clauses;
-pub(crate) mod columns;
 pub(crate) mod level;
 pub mod number;
+pub(crate) mod packed_fields;
+pub(crate) mod packed_numbers;
+pub(crate) mod packed_structs;
 pub mod read;
-pub(crate) mod records;
-pub(crate) mod row;
 pub mod state;
 pub mod stop;
 pub(crate) mod text;
-pub mod types;
+pub mod walk;
 pub mod watch;
+pub(crate) mod watched_clauses;
 
 use bit_space::{Meter, Order, Space};
 use pickle_meaning::faults::{MapFault, MapFaultKind};

@@ -4,7 +4,7 @@ use Rattle.pickle_tree.specs.Tree.{DeclarationTree}
 use Rattle.pickle_types.specs.Names.{Names}
 use Rattle.run_parts.specs.Accepted.{IsAccepted}
 use Rattle.pickle_reasons.specs.Places.{Explains, placed, unplaced}
-use Rattle.pickle_script.specs.Places.{TellsPlace, called_by, shown_behind}
+use Rattle.pickle_source.specs.Places.{TellsPlace, called_by, shown_behind}
 
 pub called_is : (path : List ℕ) {start shown called : List ℕ} → called ≡ shown → shown ≡ fold shown_behind start path → start ≡ [] → called ≡ called_by path
 called_is path same shown_is empty = cc

@@ -2,7 +2,7 @@
 use Rattle.std.specs.Prelude.{ℕ, List}
 use Rattle.pickle_tree.specs.Tree.{DeclarationTree}
 use Rattle.pickle_types.specs.Names.{Names}
-use Rattle.pickle_script.specs.Places.{TellsPlace, called_by}
+use Rattle.pickle_source.specs.Places.{TellsPlace, called_by}
 use Rattle.run_parts.specs.Accepted.{IsAccepted}
 
 -- why a pickle, or the requested name of a type, is refused: a place in the pickle. Nothing is promised for an accepted

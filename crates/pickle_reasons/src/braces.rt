@@ -1,6 +1,6 @@
 //! The braces around a token.
 
-use pickle_script::script::Script;
+use pickle_source::script::Script;
 
 /// Whether a `{` is that of an integral struct.
 pub fn is_integral(script: &Script<'_>, brace: usize) -> bool {

@@ -1,6 +1,6 @@
 //! Numbers that are written as in other languages.
 
-use pickle_script::text::Text;
+use pickle_source::text::Text;
 use std::alloc::{AllocError, Global};
 
 /// The help for a word that begins with a digit and is no number, if it is hexadecimal or has an exponent.

@@ -1,7 +1,7 @@
 //! What may be at a place in a pickle, which the parser decides.
 
 use crate::front::Front;
-use pickle_script::text::Text;
+use pickle_source::text::Text;
 use std::alloc::AllocError;
 
 /// What may be at a place.

@@ -1,6 +1,6 @@
 //! Types of GNU poke, C or other languages, and what to write instead.
 
-use pickle_script::script::cut;
+use pickle_source::script::cut;
 
 /// Names of types, with a blank between each two, and what to write instead of any of them.
 #[derive(Clone, Copy)]

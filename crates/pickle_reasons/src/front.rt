@@ -1,8 +1,8 @@
 //! The start of a pickle up to a token, and what may follow it, which the parser decides.
 
-use pickle_script::budget::Budget;
-use pickle_script::script::{Part, Script};
-use pickle_script::text::Text;
+use pickle_source::budget::Budget;
+use pickle_source::script::{Part, Script};
+use pickle_source::text::Text;
 use run_parts::accept::{Refusal, read_syntax};
 use std::alloc::{AllocError, Global};
 

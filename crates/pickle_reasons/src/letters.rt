@@ -2,8 +2,8 @@
 
 use crate::clause::{Operands, Place};
 use crate::lexical::say_hexadecimal;
-use pickle_script::script::{Part, Script, cut};
-use pickle_script::text::Text;
+use pickle_source::script::{Part, Script, cut};
+use pickle_source::text::Text;
 use pickle_types::refused::{OperandType, OperandTypes};
 use std::alloc::AllocError;
 

@@ -1,13 +1,13 @@
 //! Sentences about bytes that aren't tokens.
 
 use crate::digits::digits_help;
-use pickle_script::note::Note;
-use pickle_script::script::cut;
-use pickle_script::text::{Text, is_shown};
+use pickle_source::note::Note;
+use pickle_source::script::cut;
+use pickle_source::text::{Text, is_shown};
 use pickle_syntax::lexer::fault::LexFaultKind;
 use pickle_syntax::lexer::lex;
 use std::alloc::{AllocError, Global};
-use text_forms::hex::hex_digit;
+use text_output::hex::hex_digit;
 
 /// How many bytes a pickle is looked through for bytes that no text has.
 const FRONT: usize = 64;

@@ -2,7 +2,7 @@
 #![tactic(auto)]
 
 ghost use Rattle.std.specs.Prelude.{IfOk};
-ghost use Rattle.pickle_script.specs.Places.{TellsPlace, called_by};
+ghost use Rattle.pickle_source.specs.Places.{TellsPlace, called_by};
 ghost use Rattle.pickle_reasons.specs.Places.{Explains};
 
 mod advice;
@@ -32,9 +32,9 @@ use crate::limits::{Limit, limit_note};
 use crate::syntax::syntax_note;
 use crate::type_names::no_such_type;
 use crate::types::types_note;
-use pickle_script::note::{Note, note_text};
-use pickle_script::script::Script;
-use pickle_script::text::Text;
+use pickle_source::note::{Note, note_text};
+use pickle_source::script::Script;
+use pickle_source::text::Text;
 use run_parts::accept::{Refusal, accept};
 use std::alloc::{AllocError, Global};
 

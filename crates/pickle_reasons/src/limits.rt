@@ -1,9 +1,9 @@
 //! Sentences about limits of the syntax.
 
-use pickle_script::budget::Budget;
-use pickle_script::note::Note;
-use pickle_script::script::{Part, Script};
-use pickle_script::text::Text;
+use pickle_source::budget::Budget;
+use pickle_source::note::Note;
+use pickle_source::script::{Part, Script};
+use pickle_source::text::Text;
 use run_parts::accept::{Refusal, read_syntax};
 use std::alloc::{AllocError, Global};
 

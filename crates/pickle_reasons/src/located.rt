@@ -1,7 +1,7 @@
 //! The tokens of a declaration that the type checker refuses.
 
-use pickle_script::anatomy::{FieldParts, base, bound, field_at, field_parts, opening_brace};
-use pickle_script::script::{Part, Script};
+use pickle_source::anatomy::{FieldParts, base, bound, field_at, field_parts, opening_brace};
+use pickle_source::script::{Part, Script};
 use pickle_syntax::tree::{Clauses, Expression, Field, Form};
 use pickle_types::refused::{RefusedPart, Site, Step};
 

@@ -3,9 +3,9 @@
 use crate::clause::Place;
 use crate::names::is_field;
 use crate::types::is_predeclared;
-use pickle_script::anatomy::{opening_brace, statement};
-use pickle_script::script::{Part, Script};
-use pickle_script::text::Text;
+use pickle_source::anatomy::{opening_brace, statement};
+use pickle_source::script::{Part, Script};
+use pickle_source::text::Text;
 use std::alloc::AllocError;
 
 /// The most types that are looked at.

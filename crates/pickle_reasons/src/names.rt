@@ -5,9 +5,9 @@ use crate::expected::say_list;
 use crate::sorts::say_type;
 use crate::syntax::opening;
 use crate::types::is_declared_as;
-use pickle_script::near::nearest;
-use pickle_script::script::{Part, Script};
-use pickle_script::text::Text;
+use pickle_source::near::nearest;
+use pickle_source::script::{Part, Script};
+use pickle_source::text::Text;
 use pickle_types::refused::OperandType;
 use std::alloc::{AllocError, Global};
 

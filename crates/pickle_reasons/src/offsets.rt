@@ -1,8 +1,8 @@
 //! An operator between an offset and an integer, where it wants two offsets or two integers.
 
 use crate::clause::{Place, grouped, with_unit};
-use pickle_script::script::{Part, Script};
-use pickle_script::text::Text;
+use pickle_source::script::{Part, Script};
+use pickle_source::text::Text;
 use pickle_syntax::tree::{Expression, Infix};
 use std::alloc::AllocError;
 

@@ -1,8 +1,8 @@
 //! Tokens in a row at which no pickle can go on, and sentences that have these tokens in them.
 
 use crate::types::is_predeclared;
-use pickle_script::script::{Part, Script, cut};
-use pickle_script::text::Text;
+use pickle_source::script::{Part, Script, cut};
+use pickle_source::text::Text;
 use std::alloc::AllocError;
 
 /// The most bytes of a part of a pickle that a sentence has.

@@ -1,6 +1,6 @@
 //! The types of operands, in words.
 
-use pickle_script::text::Text;
+use pickle_source::text::Text;
 use pickle_types::integer::IntegerType;
 use pickle_types::refused::OperandType;
 use std::alloc::AllocError;

@@ -1,8 +1,8 @@
 //! Strings that are used as arrays.
 
 use crate::clause::Place;
-use pickle_script::script::Part;
-use pickle_script::text::Text;
+use pickle_source::script::Part;
+use pickle_source::text::Text;
 use pickle_types::refused::OperandType;
 use std::alloc::AllocError;
 

@@ -4,11 +4,11 @@ use crate::advice::advice;
 use crate::expected::{Expected, say_expected};
 use crate::front::Front;
 use crate::pattern::Around;
-use pickle_script::budget::Budget;
-use pickle_script::near::nearest;
-use pickle_script::note::Note;
-use pickle_script::script::{Part, Script, cut};
-use pickle_script::text::Text;
+use pickle_source::budget::Budget;
+use pickle_source::near::nearest;
+use pickle_source::note::Note;
+use pickle_source::script::{Part, Script, cut};
+use pickle_source::text::Text;
 use std::alloc::{AllocError, Global};
 
 /// Reserved words that may be meant where a near word is written.

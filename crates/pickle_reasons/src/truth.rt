@@ -1,7 +1,7 @@
 //! Names of truth values, which are numbers here.
 
 use crate::clause::Place;
-use pickle_script::text::Text;
+use pickle_source::text::Text;
 use std::alloc::AllocError;
 
 impl<'a, 't> Place<'a, 't> {

@@ -2,9 +2,9 @@
 
 use crate::expected::say_list;
 use crate::types::declared_before;
-use pickle_script::near::nearest;
-use pickle_script::script::{Part, Script};
-use pickle_script::text::Text;
+use pickle_source::near::nearest;
+use pickle_source::script::{Part, Script};
+use pickle_source::text::Text;
 use run_parts::accept::{Refusal, accept};
 use std::alloc::{AllocError, Global};
 

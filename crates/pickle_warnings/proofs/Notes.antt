@@ -3,7 +3,7 @@ use Rattle.std.proofs.Common.{◌≡◌, ℕ, List, [], ◌++◌, fold, Result, 
 use Rattle.pickle_tree.specs.Tree.{DeclarationTree}
 use Rattle.pickle_types.specs.Names.{Names}
 use Rattle.run_parts.specs.Accepted.{IsAccepted}
-use Rattle.pickle_script.specs.Places.{TellsPlace, called_by, shown_behind}
+use Rattle.pickle_source.specs.Places.{TellsPlace, called_by, shown_behind}
 use Rattle.pickle_warnings.specs.Warnings.{AreNotes, WarnsOf, none, more, silent, warns}
 
 pub called_is : (path : List ℕ) {start shown called : List ℕ} → called ≡ shown → shown ≡ fold shown_behind start path → start ≡ [] → called ≡ called_by path

@@ -2,12 +2,12 @@
 
 use crate::fields::{Seen, integer_of};
 use crate::warning::note_about;
-use pickle_script::anatomy::{FieldParts, base, bound};
-use pickle_script::nodes::Node;
-use pickle_script::note::Note;
-use pickle_script::script::Part;
-use pickle_script::site::Purpose;
-use pickle_script::text::Text;
+use pickle_source::anatomy::{FieldParts, base, bound};
+use pickle_source::nodes::Node;
+use pickle_source::note::Note;
+use pickle_source::script::Part;
+use pickle_source::site::Purpose;
+use pickle_source::text::Text;
 use pickle_syntax::tree::{Expression, Prefix, Suffix};
 use std::alloc::AllocError;
 

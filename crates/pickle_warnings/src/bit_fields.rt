@@ -2,10 +2,10 @@
 
 use crate::fields::{Seen, integer_of};
 use crate::warning::note_about;
-use pickle_script::anatomy::FieldParts;
-use pickle_script::nodes::Node;
-use pickle_script::note::Note;
-use pickle_script::text::Text;
+use pickle_source::anatomy::FieldParts;
+use pickle_source::nodes::Node;
+use pickle_source::note::Note;
+use pickle_source::text::Text;
 use pickle_syntax::tree::{Expression, Number};
 use pickle_types::integer::IntegerType;
 use std::alloc::AllocError;

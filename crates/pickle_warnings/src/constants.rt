@@ -3,11 +3,11 @@
 use crate::fields::Seen;
 use crate::operators::is_comparing;
 use crate::warning::note_about;
-use pickle_script::anatomy::FieldParts;
-use pickle_script::nodes::Node;
-use pickle_script::note::Note;
-use pickle_script::site::Purpose;
-use pickle_script::text::Text;
+use pickle_source::anatomy::FieldParts;
+use pickle_source::nodes::Node;
+use pickle_source::note::Note;
+use pickle_source::site::Purpose;
+use pickle_source::text::Text;
 use pickle_syntax::tree::{Expression, Infix, Number, Operation, Prefix};
 use pickle_types::integer::IntegerType;
 use std::alloc::AllocError;

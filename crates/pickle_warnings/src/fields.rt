@@ -1,9 +1,9 @@
 //! The fields that an expression sees, and the numbers that they can have.
 
 use crate::outline::{Outline, Piece};
-use pickle_script::anatomy::{FieldParts, field_parts};
-use pickle_script::budget::Budget;
-use pickle_script::script::{Part, Script};
+use pickle_source::anatomy::{FieldParts, field_parts};
+use pickle_source::budget::Budget;
+use pickle_source::script::{Part, Script};
 use pickle_types::integer::IntegerType;
 use pickle_types::predeclared::PREDECLARED;
 use std::alloc::{AllocError, Global};

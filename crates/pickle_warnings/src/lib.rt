@@ -2,7 +2,7 @@
 #![tactic(auto)]
 
 ghost use Rattle.std.specs.Prelude.{IfOk};
-ghost use Rattle.pickle_script.specs.Places.{called_by};
+ghost use Rattle.pickle_source.specs.Places.{called_by};
 ghost use Rattle.pickle_warnings.specs.Warnings.{WarnsOf, AreNotes};
 
 mod arrays;
@@ -18,9 +18,9 @@ mod walk;
 mod warning;
 
 use crate::walk::warnings_of;
-use pickle_script::note::{Note, note_text};
-use pickle_script::script::Script;
-use pickle_script::text::Text;
+use pickle_source::note::{Note, note_text};
+use pickle_source::script::Script;
+use pickle_source::text::Text;
 use run_parts::accept::accept;
 use std::alloc::{AllocError, Global};
 

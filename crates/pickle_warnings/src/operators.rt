@@ -3,11 +3,11 @@
 use crate::fields::Seen;
 use crate::shifts::shift_note;
 use crate::warning::note_about;
-use pickle_script::anatomy::FieldParts;
-use pickle_script::nodes::Node;
-use pickle_script::note::Note;
-use pickle_script::script::Part;
-use pickle_script::text::Text;
+use pickle_source::anatomy::FieldParts;
+use pickle_source::nodes::Node;
+use pickle_source::note::Note;
+use pickle_source::script::Part;
+use pickle_source::text::Text;
 use pickle_syntax::tree::{Expression, Infix, Operation, Prefix};
 use std::alloc::AllocError;
 

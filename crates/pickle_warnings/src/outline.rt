@@ -1,7 +1,7 @@
 //! The fields of a declaration, and the heads of the structs and unions that they are in.
 
-use pickle_script::anatomy::{FieldParts, field_parts};
-use pickle_script::script::{Part, Script};
+use pickle_source::anatomy::{FieldParts, field_parts};
+use pickle_source::script::{Part, Script};
 use std::alloc::{AllocError, Global};
 
 /// A field with its `;`, or the head of a struct or union with its `{`.

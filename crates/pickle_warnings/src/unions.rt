@@ -3,9 +3,9 @@
 use crate::fields::{Seen, integer_of};
 use crate::outline::Piece;
 use crate::warning::note_about;
-use pickle_script::anatomy::{FieldParts, base};
-use pickle_script::note::Note;
-use pickle_script::text::Text;
+use pickle_source::anatomy::{FieldParts, base};
+use pickle_source::note::Note;
+use pickle_source::text::Text;
 use std::alloc::AllocError;
 
 /// The note about the first alternative of a union that is never taken. The piece at `place` is the head of the union.

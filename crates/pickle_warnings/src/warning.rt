@@ -1,8 +1,8 @@
 //! A sentence about some tokens.
 
-use pickle_script::note::Note;
-use pickle_script::script::{Part, Script};
-use pickle_script::text::Text;
+use pickle_source::note::Note;
+use pickle_source::script::{Part, Script};
+use pickle_source::text::Text;
 
 /// A note about some tokens. `help` says what to write instead.
 pub fn note_about(script: &Script<'_>, part: Part, sentence: Text, help: Text) -> Note {

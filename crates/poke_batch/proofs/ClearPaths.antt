@@ -8,10 +8,10 @@ use Rattle.value_text.specs.LineParts.{LeadsBy, here, further}
 use Rattle.value_text.specs.PathText.{field_step}
 use Rattle.value_text.specs.PathText as line
 use Rattle.value_text.specs.SmallParts.{HasFewMembers}
-use Rattle.command_words.specs.declared.path.Step.{Step}
-use Rattle.command_words.specs.declared.path.Step.TheVariants.{Field, Place, Element}
-use Rattle.command_words.specs.Paths.{PathStep, ToField, ToNameless, ToElement, step_of, steps_of, IsName, IsStep, AreSteps, step_text, steps_text, path_text, IsPath}
-use Rattle.command_words.proofs.PatternTexts.{one_path}
+use Rattle.command_line.specs.declared.path.Step.{Step}
+use Rattle.command_line.specs.declared.path.Step.TheVariants.{Field, Place, Element}
+use Rattle.command_line.specs.Paths.{PathStep, ToField, ToNameless, ToElement, step_of, steps_of, IsName, IsStep, AreSteps, step_text, steps_text, path_text, IsPath}
+use Rattle.command_line.proofs.PatternTexts.{one_path}
 use Rattle.poke_batch.specs.PathParts.{is_array, is_named, place_named, member_there, step_to, part_from, part_of}
 use Rattle.poke_batch.specs.PathLaws.{HasClearNames, HasClearPaths, PathsLeadToParts}
 use Rattle.poke_batch.proofs.AllMembers.{clear_each, few_each, member_has}

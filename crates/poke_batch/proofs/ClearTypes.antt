@@ -14,7 +14,7 @@ use Rattle.pickle_types.specs.WellTyped.{Refers, IsFresh, Means, FieldsMean, Dec
 use Rattle.pickle_meaning.specs.Values.{Naming}
 use Rattle.pickle_meaning.specs.Means.{field_names, part_names}
 use Rattle.run_parts.specs.Accepted.{IsAccepted}
-use Rattle.command_words.specs.Paths.{IsName}
+use Rattle.command_line.specs.Paths.{IsName}
 use Rattle.poke_batch.proofs.NamedTypes.{OfEach, found_is, one_more_is}
 use Rattle.poke_batch.proofs.SmallTypes.{IsWord, HasNames, HaveNames, DeclareNames, accepted_names}
 

@@ -5,9 +5,9 @@ use Rattle.std.specs.Io.KnownBytes.{Appends}
 use Rattle.std.proofs.KnownBytes.{Appends-trans}
 use Rattle.std.proofs.lemmas.List.{append_assoc, append-nil, take-append-drop, drop_more}
 use Rattle.std.proofs.Math.Seq.{take-suc}
-use Rattle.text_forms.specs.Written.{AppendsPart}
+use Rattle.text_output.specs.Written.{AppendsPart}
 use Rattle.poke_batch.specs.FileLine.{name_byte, shown_name}
-use Rattle.text_forms.proofs.Parts.{part_first, part_next}
+use Rattle.text_output.proofs.Parts.{part_first, part_next}
 
 one_more : (n : ℕ) → n + 1 ≡ suc n
 one_more n = omega arith

@@ -5,9 +5,9 @@ use Rattle.std.specs.Io.KnownBytes.{Appends}
 use Rattle.std.proofs.KnownBytes.{Appends-trans, Appends-nil}
 use Rattle.std.proofs.lemmas.Bool.{cases_Bool}
 use Rattle.std.proofs.lemmas.List.{append_assoc, append-nil, drop-drop, drop_all, length-drop}
-use Rattle.text_forms.specs.Written.{AppendsPart}
-use Rattle.text_forms.proofs.Parts.{part_first, part_next}
-use Rattle.text_forms.specs.HexDigits.{hex_digit}
+use Rattle.text_output.specs.Written.{AppendsPart}
+use Rattle.text_output.proofs.Parts.{part_first, part_next}
+use Rattle.text_output.specs.HexDigits.{hex_digit}
 use Rattle.value_text.specs.ValueText.{is_plain, spelled}
 use Rattle.value_text.specs.JsonText.{json_escape}
 use Rattle.value_text.proofs.StringTexts.{bytes_append}

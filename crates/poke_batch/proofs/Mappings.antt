@@ -22,7 +22,7 @@ use Rattle.pickle_meaning.specs.declared.faults.MapFaultKind.TheVariants as faul
 use Rattle.run_parts.specs.Accepted.{IsAccepted}
 use Rattle.pickle_meaning.specs.FaultNames.{fault_kind}
 use Rattle.run_parts.specs.FaultLines.{fault_saying}
-use Rattle.command_words.specs.declared.ask.Ask.{Ask}
+use Rattle.command_line.specs.declared.ask.Ask.{Ask}
 use Rattle.run_parts.specs.declared.status.Status.TheVariants.{Fault}
 use Rattle.run_parts.specs.Lines.{fault_at_line}
 use Rattle.poke_batch.specs.Runs.{HasAnswer, IsAsked, MapsAs, stops, device, no_memory}

@@ -15,8 +15,8 @@ use Rattle.pickle_types.specs.NodeParts.{char_node_of}
 use Rattle.pickle_types.specs.TypeTable.{nodes_of, type_named}
 use Rattle.pickle_meaning.specs.Fits.{Fits}
 use Rattle.pickle_meaning.specs.Values.{Value, no_values}
-use Rattle.command_words.specs.declared.ask.Ask.{Ask}
-use Rattle.command_words.specs.declared.terms.Terms.{Terms}
+use Rattle.command_line.specs.declared.ask.Ask.{Ask}
+use Rattle.command_line.specs.declared.terms.Terms.{Terms}
 use Rattle.run_parts.specs.declared.outcome.Failure.TheVariants as failure
 use Rattle.run_parts.specs.declared.outcome.Outcome.{Outcome}
 use Rattle.run_parts.specs.declared.outcome.Outcome.TheVariants as outcome
@@ -24,8 +24,8 @@ use Rattle.run_parts.specs.declared.status.Status.TheVariants.{Done}
 use Rattle.run_parts.specs.Outcomes.{EndsAs}
 use Rattle.run_parts.specs.Told.{Saying, Says}
 use Rattle.run_parts.proofs.Sayings.{ends_says}
-use Rattle.text_forms.specs.HexDigits.{hex_digit}
-use Rattle.text_forms.specs.declared.mode.Mode.TheVariants.{Json}
+use Rattle.text_output.specs.HexDigits.{hex_digit}
+use Rattle.text_output.specs.declared.mode.Mode.TheVariants.{Json}
 use Rattle.value_text.specs.Json.{no_blank, one_blank, line_feed, ReadsValue, ReadsEntry, ReadsEntries, last_entry, number_value, string_value, object, Reads, json}
 use Rattle.value_text.specs.JsonText.{json_string}
 use Rattle.value_text.specs.JsonValue as value

@@ -5,10 +5,10 @@ use Rattle.pickle_types.specs.declared.table.TypeId.{TypeId}
 use Rattle.pickle_types.specs.NodeParts.{char_node_of}
 use Rattle.pickle_types.specs.TypeTable.{nodes_of}
 use Rattle.pickle_meaning.specs.Values.{Value}
-use Rattle.command_words.specs.declared.ask.Ask.{Ask}
-use Rattle.command_words.specs.declared.terms.Terms.{Terms}
-use Rattle.text_forms.specs.declared.mode.Mode.TheVariants.{Json}
-use Rattle.text_forms.specs.Styles.{plain}
+use Rattle.command_line.specs.declared.ask.Ask.{Ask}
+use Rattle.command_line.specs.declared.terms.Terms.{Terms}
+use Rattle.text_output.specs.declared.mode.Mode.TheVariants.{Json}
+use Rattle.text_output.specs.Styles.{plain}
 use Rattle.value_text.specs.Printed.{printed}
 use Rattle.value_text.proofs.PlainTexts.{prints_plain}
 use Rattle.poke_batch.specs.PathParts.{node_at}

@@ -2,10 +2,10 @@
 use Rattle.std.proofs.Common.{◌≡◌, ◌∙◌, ℕ, suc, Bool, ◌+◌, ◌-◌, ◌<◌, true, false, List, [], ◌∷◌, Option, Some, None, drop, refl, sym, ap, subst, arith}
 use Rattle.value_store.specs.Labels.{member_name}
 use Rattle.pickle_meaning.specs.Values.{Label, Value, label_of, members_of, member_at}
-use Rattle.command_words.specs.declared.path.Step.{Step}
-use Rattle.command_words.specs.declared.path.Step.TheVariants.{Field, Place, Element}
-use Rattle.command_words.specs.declared.ask.Ask.{Ask}
-use Rattle.command_words.specs.declared.terms.Terms.{Terms}
+use Rattle.command_line.specs.declared.path.Step.{Step}
+use Rattle.command_line.specs.declared.path.Step.TheVariants.{Field, Place, Element}
+use Rattle.command_line.specs.declared.ask.Ask.{Ask}
+use Rattle.command_line.specs.declared.terms.Terms.{Terms}
 use Rattle.pickle_types.specs.declared.node.Node.{Node}
 use Rattle.pickle_types.specs.declared.table.Table.{Table}
 use Rattle.pickle_types.specs.declared.table.TypeId.{TypeId}

@@ -1,9 +1,9 @@
 -- What each member has of its value, each part has.
 use Rattle.std.proofs.Common.{◌≡◌, ℕ, Bool, true, false, List, [], ◌∷◌, Option, Some, None, refl, subst}
 use Rattle.pickle_meaning.specs.Values.{Value, member_at, members_of}
-use Rattle.command_words.specs.declared.path.Path.{Path}
-use Rattle.command_words.specs.declared.path.Step.{Step}
-use Rattle.command_words.specs.declared.path.Step.TheVariants.{Field, Place, Element}
+use Rattle.command_line.specs.declared.path.Path.{Path}
+use Rattle.command_line.specs.declared.path.Step.{Step}
+use Rattle.command_line.specs.declared.path.Step.TheVariants.{Field, Place, Element}
 use Rattle.poke_batch.specs.PathParts.{member_if, member_there, step_to, part_from, part_at}
 
 pub same_value : (value part : Value) → Some value ≡ Some part → value ≡ part

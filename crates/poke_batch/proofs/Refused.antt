@@ -2,14 +2,14 @@
 use Rattle.std.proofs.Common.{◌≡◌, ◌<◌, ◌++◌, ℕ, List, [], ◌∷◌, length, Some, refl, sym, ap, subst, inl, inr, arith}
 use Rattle.std.specs.Prelude.{codes}
 use Rattle.bit_space.specs.SpaceView.{SpaceView, HasRisen, honest}
-use Rattle.command_words.specs.declared.ask.Ask.{Ask}
+use Rattle.command_line.specs.declared.ask.Ask.{Ask}
 use Rattle.run_parts.specs.declared.accept.Refusal.{Refusal}
 use Rattle.run_parts.specs.declared.accept.Refusal.TheVariants as refusal
 use Rattle.run_parts.specs.declared.status.Status.{Status}
 use Rattle.run_parts.specs.declared.status.Status.TheVariants.{Done, Fault, Refused, Outside}
 use Rattle.run_parts.specs.Accepted.{refusal_saying}
 use Rattle.run_parts.specs.Lines.{fault_line}
-use Rattle.command_words.specs.OffsetWord.{IsOffsetWord}
+use Rattle.command_line.specs.OffsetWord.{IsOffsetWord}
 use Rattle.poke_batch.specs.Runs.{MapsAs, value, stops, device, unknown, refused_map, no_memory}
 use Rattle.run_parts.specs.Told.{Saying, Text, Line, IsWritten, IsSaid, Says}
 

@@ -12,12 +12,12 @@ use Rattle.run_parts.specs.declared.outcome.Outcome.TheVariants as outcome
 use Rattle.run_parts.specs.Accepted.{refusal_saying}
 use Rattle.run_parts.specs.Outcomes.{status_said}
 use Rattle.run_parts.proofs.Sayings.{outcome_lines}
-use Rattle.command_words.specs.declared.ask.Ask.{Ask}
-use Rattle.text_forms.specs.declared.mode.Mode.TheVariants.{Json}
-use Rattle.command_words.specs.declared.path.Path.{Path}
+use Rattle.command_line.specs.declared.ask.Ask.{Ask}
+use Rattle.text_output.specs.declared.mode.Mode.TheVariants.{Json}
+use Rattle.command_line.specs.declared.path.Path.{Path}
 use Rattle.run_parts.specs.declared.status.Status.{Status}
 use Rattle.run_parts.specs.declared.status.Status.TheVariants.{Done, Fault, Refused, Outside}
-use Rattle.command_words.specs.declared.terms.Terms.{Terms}
+use Rattle.command_line.specs.declared.terms.Terms.{Terms}
 use Rattle.value_text.specs.Json.{Reads}
 use Rattle.value_text.specs.JsonValue.{json_of}
 use Rattle.run_parts.specs.Lines.{fault_line, fault_at_line}
@@ -30,7 +30,7 @@ use Rattle.value_text.specs.SmallParts.{HasSmallParts, HasFewMembers}
 use Rattle.run_parts.specs.Told.{Saying, Text, Line, IsSaid, IsTold, IsWritten}
 use Rattle.value_text.proofs.JsonValues.{json_reads_back}
 use Rattle.value_text.proofs.StyledJsonValues.{styled_json_reads_back}
-use Rattle.text_forms.specs.Styles.{plain}
+use Rattle.text_output.specs.Styles.{plain}
 use Rattle.pickle_types.specs.declared.table.Table.{Table}
 use Rattle.pickle_types.specs.declared.table.TypeId.{TypeId}
 use Rattle.pickle_types.specs.NodeParts.{char_node_of}

@@ -5,11 +5,11 @@ use Rattle.pickle_types.specs.declared.node.Node.{Node}
 use Rattle.pickle_types.specs.NodeParts.{char_node_of}
 use Rattle.pickle_types.specs.TypeTable.{nodes_of}
 use Rattle.pickle_meaning.specs.Values.{Value}
-use Rattle.text_forms.specs.declared.mode.Mode.{Mode}
-use Rattle.text_forms.specs.declared.mode.Mode.TheVariants.{Flat, Json}
-use Rattle.text_forms.specs.declared.style.Style.{Style}
-use Rattle.command_words.specs.declared.path.Step.{Step}
-use Rattle.command_words.specs.declared.pattern.PatternStep.TheVariants.{Exact}
+use Rattle.text_output.specs.declared.mode.Mode.{Mode}
+use Rattle.text_output.specs.declared.mode.Mode.TheVariants.{Flat, Json}
+use Rattle.text_output.specs.declared.style.Style.{Style}
+use Rattle.command_line.specs.declared.path.Step.{Step}
+use Rattle.command_line.specs.declared.pattern.PatternStep.TheVariants.{Exact}
 use Rattle.poke_batch.specs.PathParts.{step_to, part_from, place_of, node_there, node_from, node_at}
 use Rattle.poke_batch.proofs.PartsFound.{nowhere}
 use Rattle.poke_batch.specs.RunLaws.{PathsLeadToOnePart, CellsAreParts}

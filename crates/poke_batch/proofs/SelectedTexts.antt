@@ -3,11 +3,11 @@ use Rattle.std.proofs.Common.{◌≡◌, ◌∙◌, ℕ, suc, ◌+◌, ◌-◌, 
 use Rattle.std.specs.Prelude.{◌&&◌}
 use Rattle.pickle_types.specs.declared.node.Node.{Node}
 use Rattle.pickle_meaning.specs.Values.{members_of, member_at}
-use Rattle.text_forms.specs.declared.mode.Mode.{Mode}
-use Rattle.text_forms.specs.declared.style.Style.{Style}
-use Rattle.text_forms.specs.declared.style.Look.{Look}
-use Rattle.command_words.specs.declared.pattern.PatternStep.{PatternStep}
-use Rattle.command_words.specs.declared.selection.Column.{Column}
+use Rattle.text_output.specs.declared.mode.Mode.{Mode}
+use Rattle.text_output.specs.declared.style.Style.{Style}
+use Rattle.text_output.specs.declared.style.Look.{Look}
+use Rattle.command_line.specs.declared.pattern.PatternStep.{PatternStep}
+use Rattle.command_line.specs.declared.selection.Column.{Column}
 use Rattle.value_text.specs.declared.typed.Typed.{Typed}
 use Rattle.value_text.specs.TypedValue.{nodes_in, char_node_in, types_in, node_in, mapped_in, part_node_in}
 use Rattle.poke_batch.specs.Selected.{Part, LineOf, OfRow, part_in, at_member, at_places, parts_through, each_text, lines_of, pattern_lines, row_text, all_of, is_there, has_pattern}

@@ -22,7 +22,7 @@ use Rattle.pickle_types.specs.Names.{Names, find_type, predeclared}
 use Rattle.pickle_types.specs.Meaning.{parts_of}
 use Rattle.pickle_types.specs.WellTyped.{Refers, HasBits, Means, FieldsMean, Declares}
 use Rattle.pickle_meaning.specs.Means.{field_names, part_names}
-use Rattle.command_words.specs.Paths.{is_name_byte, AreNameBytes, IsName}
+use Rattle.command_line.specs.Paths.{is_name_byte, AreNameBytes, IsName}
 use Rattle.run_parts.specs.Accepted.{IsAccepted}
 use Rattle.value_text.specs.SmallParts.{AreBytes, IsNameOfBytes, AreNamesOfBytes}
 use Rattle.poke_batch.proofs.NamedTypes.{OfEach, found_is, one_more_is}

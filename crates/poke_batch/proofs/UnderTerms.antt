@@ -24,10 +24,10 @@ use Rattle.run_parts.specs.declared.outcome.Outcome.{Outcome}
 use Rattle.run_parts.specs.declared.outcome.Outcome.TheVariants as outcome
 use Rattle.run_parts.specs.Outcomes.{outcome_saying}
 use Rattle.run_parts.proofs.Sayings.{outcome_lines}
-use Rattle.command_words.specs.declared.ask.Ask.{Ask}
+use Rattle.command_line.specs.declared.ask.Ask.{Ask}
 use Rattle.run_parts.specs.declared.status.Status.{Status}
 use Rattle.run_parts.specs.declared.status.Status.TheVariants.{Fault}
-use Rattle.command_words.specs.declared.terms.Terms.{Terms}
+use Rattle.command_line.specs.declared.terms.Terms.{Terms}
 use Rattle.run_parts.specs.Lines.{fault_line, fault_at_line}
 use Rattle.run_parts.specs.Accepted.{Refuses, refusal_saying}
 use Rattle.run_parts.specs.FaultLines.{fault_saying}
@@ -38,7 +38,7 @@ use Rattle.pickle_types.specs.declared.table.Table.{Table}
 use Rattle.pickle_types.specs.declared.table.TypeId.{TypeId}
 use Rattle.pickle_types.specs.NodeParts.{char_node_of}
 use Rattle.pickle_types.specs.TypeTable.{nodes_of}
-use Rattle.text_forms.specs.Styles.{plain}
+use Rattle.text_output.specs.Styles.{plain}
 use Rattle.value_text.proofs.PlainTexts.{prints_plain}
 
 -- a value that fits starts where it was to start

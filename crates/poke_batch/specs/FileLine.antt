@@ -6,8 +6,8 @@ use Rattle.run_parts.specs.declared.outcome.Failure.{Failure}
 use Rattle.run_parts.specs.declared.outcome.Failure.TheVariants as failure
 use Rattle.run_parts.specs.declared.outcome.Outcome.{Outcome}
 use Rattle.run_parts.specs.declared.outcome.Outcome.TheVariants as outcome
-use Rattle.command_words.specs.declared.fault_form.FaultForm.{FaultForm}
-use Rattle.command_words.specs.declared.fault_form.FaultForm.TheVariants as form
+use Rattle.command_line.specs.declared.fault_form.FaultForm.{FaultForm}
+use Rattle.command_line.specs.declared.fault_form.FaultForm.TheVariants as form
 use Rattle.run_parts.specs.Outcomes.{EndsAs, outcome_json, outcome_line, outcome_status}
 use Rattle.run_parts.specs.Told.{Saying}
 use Rattle.value_text.specs.ValueText.{is_plain, escape_text}

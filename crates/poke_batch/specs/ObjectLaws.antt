@@ -7,10 +7,10 @@ use Rattle.pickle_types.specs.TypeTable.{type_named}
 use Rattle.pickle_types.specs.Types.{PokeType}
 use Rattle.pickle_meaning.specs.Fits.{Fits}
 use Rattle.pickle_meaning.specs.Values.{Value, no_values}
-use Rattle.command_words.specs.declared.ask.Ask.{Ask}
-use Rattle.command_words.specs.declared.terms.Terms.{Terms}
+use Rattle.command_line.specs.declared.ask.Ask.{Ask}
+use Rattle.command_line.specs.declared.terms.Terms.{Terms}
 use Rattle.run_parts.specs.declared.outcome.Outcome.TheVariants.{Done}
-use Rattle.text_forms.specs.declared.mode.Mode.TheVariants as mode
+use Rattle.text_output.specs.declared.mode.Mode.TheVariants as mode
 use Rattle.value_text.specs.Json.{Reads, ReadsValue}
 use Rattle.value_text.specs.JsonValue.{Json, JsonString, JsonList, JsonObject, Elements, NoElements, ElementThen, Entries, NoEntries, EntryThen, whole_number}
 use Rattle.value_text.specs.SmallParts.{AreBytes}

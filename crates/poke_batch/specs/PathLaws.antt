@@ -7,8 +7,8 @@ use Rattle.value_store.specs.Labels.{member_name}
 use Rattle.value_text.specs.LineParts.{Line, IsLineOf}
 use Rattle.value_text.specs.PathText.{path_text}
 use Rattle.value_text.specs.SmallParts.{HasFewMembers}
-use Rattle.command_words.specs.declared.path.Step.{Step}
-use Rattle.command_words.specs.Paths.{PathStep, steps_of, IsName, IsPath}
+use Rattle.command_line.specs.declared.path.Step.{Step}
+use Rattle.command_line.specs.Paths.{PathStep, steps_of, IsName, IsPath}
 use Rattle.poke_batch.specs.PathParts.{part_of}
 use Rattle.poke_batch.specs.Runs.{IsAsked}
 

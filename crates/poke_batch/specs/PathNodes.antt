@@ -1,7 +1,7 @@
 -- The nodes of the types of parts to which paths lead.
 use Rattle.std.specs.Prelude.{ℕ, List, Option, Some}
-use Rattle.command_words.specs.declared.path.Path.{Path}
-use Rattle.command_words.specs.declared.path.Step.{Step}
+use Rattle.command_line.specs.declared.path.Path.{Path}
+use Rattle.command_line.specs.declared.path.Step.{Step}
 use Rattle.value_text.specs.declared.typed.Typed.{Typed}
 use Rattle.value_text.specs.TypedValue.{nodes_in, types_in, node_in, mapped_in}
 use Rattle.poke_batch.specs.PathParts.{place_of, node_there, node_from, node_at}

@@ -5,9 +5,9 @@ use Rattle.pickle_meaning.specs.Values.{Naming, Label, IntegerLabel, OffsetLabel
 use Rattle.pickle_types.specs.declared.node.Node.{Node}
 use Rattle.value_store.specs.Labels.{member_name}
 use Rattle.value_text.specs.PartTypes.{part_node}
-use Rattle.command_words.specs.declared.path.Path.{Path}
-use Rattle.command_words.specs.declared.path.Step.{Step}
-use Rattle.command_words.specs.declared.path.Step.TheVariants.{Field, Place, Element}
+use Rattle.command_line.specs.declared.path.Path.{Path}
+use Rattle.command_line.specs.declared.path.Step.{Step}
+use Rattle.command_line.specs.declared.path.Step.TheVariants.{Field, Place, Element}
 
 abbrev pub is_array : Label → Bool
 is_array (IntegerLabel number type) = false

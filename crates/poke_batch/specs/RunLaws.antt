@@ -10,14 +10,14 @@ use Rattle.pickle_types.specs.TypeTable.{nodes_of, type_named}
 use Rattle.pickle_types.specs.Types.{PokeType}
 use Rattle.pickle_meaning.specs.Fits.{Fits}
 use Rattle.pickle_meaning.specs.Values.{Value, Levels, no_values}
-use Rattle.command_words.specs.declared.ask.Ask.{Ask}
-use Rattle.text_forms.specs.declared.mode.Mode.TheVariants as mode
-use Rattle.text_forms.specs.Styles.{plain}
-use Rattle.command_words.specs.declared.path.Path.{Path}
-use Rattle.command_words.specs.declared.pattern.PatternStep.TheVariants.{Exact}
+use Rattle.command_line.specs.declared.ask.Ask.{Ask}
+use Rattle.text_output.specs.declared.mode.Mode.TheVariants as mode
+use Rattle.text_output.specs.Styles.{plain}
+use Rattle.command_line.specs.declared.path.Path.{Path}
+use Rattle.command_line.specs.declared.pattern.PatternStep.TheVariants.{Exact}
 use Rattle.run_parts.specs.declared.status.Status.{Status}
 use Rattle.run_parts.specs.declared.status.Status.TheVariants.{Done}
-use Rattle.command_words.specs.declared.terms.Terms.{Terms}
+use Rattle.command_line.specs.declared.terms.Terms.{Terms}
 use Rattle.value_text.specs.Json.{Reads}
 use Rattle.value_text.specs.JsonValue.{Json, json_of}
 use Rattle.value_text.specs.Styled.{with_chars}

@@ -14,7 +14,7 @@ use Rattle.bit_space.specs.declared.order.Order.{Order}
 use Rattle.bit_space.specs.Bits.{bits_of}
 use Rattle.bit_space.specs.SpaceView.{SpaceView, HasRisen}
 use Rattle.run_parts.specs.declared.accept.Refusal.{Refusal}
-use Rattle.command_words.specs.declared.ask.Ask.{Ask}
+use Rattle.command_line.specs.declared.ask.Ask.{Ask}
 use Rattle.run_parts.specs.declared.status.Status.TheVariants.{Fault, Refused, Outside}
 use Rattle.run_parts.specs.Accepted.{IsAccepted, Refuses, refusal_saying}
 use Rattle.run_parts.specs.BoundText.{bound_line, bound_text}

@@ -18,10 +18,10 @@ use Rattle.pickle_meaning.specs.declared.faults.MapFaultKind.TheVariants as faul
 use Rattle.value_store.specs.declared.store.room.Growth.TheVariants.{Free}
 use Rattle.run_parts.specs.FaultLines.{fault_saying}
 use Rattle.pickle_meaning.specs.Values.{Value, end_of, no_values}
-use Rattle.command_words.specs.declared.ask.Ask.{Ask}
+use Rattle.command_line.specs.declared.ask.Ask.{Ask}
 use Rattle.run_parts.specs.declared.status.Status.{Status}
 use Rattle.run_parts.specs.declared.status.Status.TheVariants.{Fault, Outside}
-use Rattle.command_words.specs.declared.terms.Terms.{Terms}
+use Rattle.command_line.specs.declared.terms.Terms.{Terms}
 use Rattle.run_parts.specs.Lines.{fault_line, fault_at_line}
 use Rattle.poke_batch.specs.PathParts.{part_at, node_at}
 use Rattle.poke_batch.specs.Selected.{Part, text_under, has_selected}

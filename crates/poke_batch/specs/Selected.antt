@@ -2,10 +2,10 @@
 use Rattle.std.specs.Prelude.{ℕ, zero, suc, ◌+◌, ◌-◌, Bool, true, false, List, [], ◌∷◌, ◌++◌, Option, Some, None, min, unwrap_or, option_map, is_some, codes, string_bytes}
 use Rattle.pickle_types.specs.declared.node.Node.{Node}
 use Rattle.pickle_meaning.specs.Values.{Label, IntegerLabel, OffsetLabel, TextLabel, ArrayLabel, StructLabel, UnionLabel, Value, label_of, members_of, member_at, member_count}
-use Rattle.text_forms.specs.declared.mode.Mode.{Mode}
-use Rattle.text_forms.specs.declared.mode.Mode.TheVariants.{Flat, Tree, Json, Lines}
-use Rattle.text_forms.specs.declared.style.Style.{Style}
-use Rattle.text_forms.specs.declared.style.Look.{Look}
+use Rattle.text_output.specs.declared.mode.Mode.{Mode}
+use Rattle.text_output.specs.declared.mode.Mode.TheVariants.{Flat, Tree, Json, Lines}
+use Rattle.text_output.specs.declared.style.Style.{Style}
+use Rattle.text_output.specs.declared.style.Look.{Look}
 use Rattle.value_text.specs.declared.typed.Typed.{Typed}
 use Rattle.value_text.specs.PartTypes.{part_node}
 use Rattle.value_text.specs.TypedValue.{nodes_in, char_node_in, types_in, node_in, mapped_in}
@@ -13,18 +13,18 @@ use Rattle.value_text.specs.JsonText.{json_string}
 use Rattle.value_text.specs.Styled.{with_chars, styled_printed}
 use Rattle.value_text.specs.Cells.{cell}
 use Rattle.value_text.specs.ShowParts.{shown_in}
-use Rattle.command_words.specs.declared.path.Path.{Path}
-use Rattle.command_words.specs.declared.path.Step.{Step}
-use Rattle.command_words.specs.declared.pattern.PatternStep.{PatternStep}
-use Rattle.command_words.specs.declared.pattern.PatternStep.TheVariants.{Exact, Elements, Fields}
-use Rattle.command_words.specs.declared.pattern.Span.{Span}
-use Rattle.command_words.specs.declared.selection.Selection.{Selection}
-use Rattle.command_words.specs.declared.selection.Shape.{Shape}
-use Rattle.command_words.specs.declared.selection.Shape.TheVariants as shape
-use Rattle.command_words.specs.declared.selection.Column.{Column}
-use Rattle.command_words.specs.declared.selection.Absent.{Absent}
-use Rattle.command_words.specs.declared.selection.Absent.TheVariants as absent
-use Rattle.command_words.specs.declared.terms.Terms.{Terms}
+use Rattle.command_line.specs.declared.path.Path.{Path}
+use Rattle.command_line.specs.declared.path.Step.{Step}
+use Rattle.command_line.specs.declared.pattern.PatternStep.{PatternStep}
+use Rattle.command_line.specs.declared.pattern.PatternStep.TheVariants.{Exact, Elements, Fields}
+use Rattle.command_line.specs.declared.pattern.Span.{Span}
+use Rattle.command_line.specs.declared.selection.Selection.{Selection}
+use Rattle.command_line.specs.declared.selection.Shape.{Shape}
+use Rattle.command_line.specs.declared.selection.Shape.TheVariants as shape
+use Rattle.command_line.specs.declared.selection.Column.{Column}
+use Rattle.command_line.specs.declared.selection.Absent.{Absent}
+use Rattle.command_line.specs.declared.selection.Absent.TheVariants as absent
+use Rattle.command_line.specs.declared.terms.Terms.{Terms}
 use Rattle.poke_batch.specs.declared.places.Places.{Places}
 use Rattle.poke_batch.specs.declared.line.Line.{Line}
 use Rattle.poke_batch.specs.declared.line.Line.TheVariants as line

@@ -6,12 +6,12 @@ use Rattle.pickle_types.specs.declared.node.Node.{Node}
 use Rattle.pickle_types.specs.declared.node.Shape.{Shape}
 use Rattle.pickle_types.specs.declared.node.Shape.TheVariants as type
 use Rattle.pickle_types.specs.Table.{name_of}
-use Rattle.command_words.specs.declared.path.Step.{Step}
-use Rattle.command_words.specs.declared.path.Step.TheVariants.{Field as ToField, Place, Element}
-use Rattle.command_words.specs.declared.pattern.PatternStep.{PatternStep}
-use Rattle.command_words.specs.declared.pattern.PatternStep.TheVariants.{Exact, Elements, Fields}
-use Rattle.command_words.specs.declared.selection.Shape.{Shape as Selected}
-use Rattle.command_words.specs.declared.selection.Shape.TheVariants.{Parts, Rows}
+use Rattle.command_line.specs.declared.path.Step.{Step}
+use Rattle.command_line.specs.declared.path.Step.TheVariants.{Field as ToField, Place, Element}
+use Rattle.command_line.specs.declared.pattern.PatternStep.{PatternStep}
+use Rattle.command_line.specs.declared.pattern.PatternStep.TheVariants.{Exact, Elements, Fields}
+use Rattle.command_line.specs.declared.selection.Shape.{Shape as Selected}
+use Rattle.command_line.specs.declared.selection.Shape.TheVariants.{Parts, Rows}
 use Rattle.poke_batch.specs.declared.type_paths.Lead.{Lead}
 use Rattle.poke_batch.specs.declared.type_paths.Lead.TheVariants.{Nowhere, Unsure, To}
 use Rattle.poke_batch.specs.PathParts.{is_named}

@@ -1,17 +1,17 @@
 -- The lines of parts beside their types.
 use Rattle.std.specs.Prelude.{ℕ, ◌-◌, ◌++◌, Bool, true, false, List, Option, Some, None}
-use Rattle.text_forms.specs.declared.mode.Mode.{Mode}
-use Rattle.text_forms.specs.declared.style.Style.{Style}
-use Rattle.text_forms.specs.declared.style.Look.{Look}
+use Rattle.text_output.specs.declared.mode.Mode.{Mode}
+use Rattle.text_output.specs.declared.style.Style.{Style}
+use Rattle.text_output.specs.declared.style.Look.{Look}
 use Rattle.value_text.specs.declared.typed.Typed.{Typed}
 use Rattle.value_text.specs.TypedValue.{nodes_in, char_node_in, types_in}
 use Rattle.value_text.specs.Cells.{typed_cell}
-use Rattle.command_words.specs.declared.path.Path.{Path}
-use Rattle.command_words.specs.declared.pattern.Pattern.{Pattern}
-use Rattle.command_words.specs.declared.pattern.PatternStep.{PatternStep}
-use Rattle.command_words.specs.declared.selection.Column.{Column}
-use Rattle.command_words.specs.declared.selection.Rows.{Rows}
-use Rattle.command_words.specs.declared.selection.Shape.{Shape}
+use Rattle.command_line.specs.declared.path.Path.{Path}
+use Rattle.command_line.specs.declared.pattern.Pattern.{Pattern}
+use Rattle.command_line.specs.declared.pattern.PatternStep.{PatternStep}
+use Rattle.command_line.specs.declared.selection.Column.{Column}
+use Rattle.command_line.specs.declared.selection.Rows.{Rows}
+use Rattle.command_line.specs.declared.selection.Shape.{Shape}
 use Rattle.poke_batch.specs.declared.line.Format.{Format}
 use Rattle.poke_batch.specs.declared.places.Places.{Places}
 use Rattle.poke_batch.specs.Selected.{LineOf, OfPart, OfRow, line_of, part_in, path_part, no_cell, cell_of, absent_lines, there_lines, lines_of, pattern_lines, each_text, at_places, parts_through, shape_text, column_text, cells_text, row_text, header_text, all_of, is_there, has_pattern}

@@ -3,16 +3,16 @@
 ghost use Rattle.std.specs.Prelude.{◌≡◌, ◌<◌, ◌≤◌, Some, length, codes, IsOk, IfOk, IfErr, OnOk, OnErr};
 ghost use Rattle.std.specs.Io.KnownBytes.{Appends};
 ghost use Rattle.poke_batch.specs.Selected.{typed_text, typed_whole};
-ghost use Rattle.text_forms.specs.Written.{AppendsPart};
+ghost use Rattle.text_output.specs.Written.{AppendsPart};
 
 use crate::selected::print_shape;
-use command_words::terms::Terms;
+use command_line::terms::Terms;
 use std::alloc::Global;
 use std::io;
 use std::io::Write;
-use text_forms::mode::Mode;
-use text_forms::style::{Look, Style};
-use text_forms::write::WriteFault;
+use text_output::mode::Mode;
+use text_output::style::{Look, Style};
+use text_output::write::WriteFault;
 use thiserror::Error;
 use value_text::print::{print_shown, print_styled};
 use value_text::typed::Typed;

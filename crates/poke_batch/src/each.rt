@@ -8,7 +8,7 @@ ghost use Rattle.poke_batch.specs.FileObject.{HoldsRun, kept_object};
 ghost use Rattle.run_parts.specs.Outcomes.{outcome_status};
 ghost use Rattle.poke_batch.specs.RunsUnder.{IsStoreOf};
 ghost use Rattle.poke_batch.specs.TypeRuns.{ForPickles};
-ghost use Rattle.text_forms.specs.Written.{AppendsPart};
+ghost use Rattle.text_output.specs.Written.{AppendsPart};
 ghost use Rattle.run_parts.specs.declared.status.Status.{Status};
 
 use crate::file_line::put_file_line;
@@ -16,13 +16,13 @@ use crate::file_object::put_file_object;
 use crate::run::{map_stored, store_of};
 use crate::type_run::TypeRun;
 use bit_space::{Memory, Space};
-use command_words::fault_form::FaultForm;
+use command_line::fault_form::FaultForm;
 use pickle_map::Store;
 use run_parts::outcome::{Failure, Outcome};
 use run_parts::status::Status;
 use std::alloc::Global;
 use std::io::Write;
-use text_forms::write::WriteFault;
+use text_output::write::WriteFault;
 
 /// What is stored from file to file: the values, and what a run wrote. The next file uses the same memory.
 #[derive(Drop)]

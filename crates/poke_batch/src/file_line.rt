@@ -2,21 +2,21 @@
 
 ghost use Rattle.std.specs.Prelude.{◌≡◌, ◌<◌, ◌≤◌, ◌++◌, take, length, IfOk, OnErr, OnOk};
 ghost use Rattle.std.specs.Io.KnownBytes.{Appends};
-ghost use Rattle.text_forms.specs.Written.{AppendsPart};
+ghost use Rattle.text_output.specs.Written.{AppendsPart};
 ghost use Rattle.poke_batch.specs.FileLine.{name_byte, shown_name, status_text, file_line, written_of};
 
 use crate::report::put_outcome;
-use command_words::fault_form::FaultForm;
+use command_line::fault_form::FaultForm;
 use run_parts::outcome::Outcome;
 use run_parts::status::Status;
 use std::io::Write;
-use text_forms::hex::hex_digit;
-use text_forms::write::{WriteFault, put};
+use text_output::hex::hex_digit;
+use text_output::write::{WriteFault, put};
 
 /// Writes the line of a file: its name, the exit status of its run, and what the run wrote, with a tab between them.
 /// That is `text` for a run that is done, and otherwise what reports its outcome. In the name, `\` and bytes outside
 /// 0x20 to 0x7e are escaped as in strings. `text` ends with a line feed.
-#[tactic(auto, using(text_forms::proofs::Parts::written))]
+#[tactic(auto, using(text_output::proofs::Parts::written))]
 pub fn put_file_line<W: Write>(
     w: &mut W,
     name: &[u8],

@@ -3,7 +3,7 @@
 ghost use Rattle.std.specs.Prelude.{◌≡◌, ◌≤◌, length, true, IfOk, OnOk, OnErr};
 ghost use Rattle.std.specs.Io.KnownBytes.{Appends};
 ghost use Rattle.run_parts.specs.Outcomes.{outcome_status};
-ghost use Rattle.text_forms.specs.Written.{AppendsPart};
+ghost use Rattle.text_output.specs.Written.{AppendsPart};
 ghost use Rattle.value_text.specs.ValueText.{comma, spelled};
 ghost use Rattle.value_text.specs.JsonText.{json_escape};
 ghost use Rattle.poke_batch.specs.FileLine.{name_byte, shown_name};
@@ -12,15 +12,15 @@ ghost use Rattle.poke_batch.specs.FileObject.{file_object, first_line_json, line
 use run_parts::outcome::Outcome;
 use run_parts::status::Status;
 use std::io::Write;
-use text_forms::hex::hex_digit;
-use text_forms::write::{WriteFault, put};
+use text_output::hex::hex_digit;
+use text_output::write::{WriteFault, put};
 use value_text::print::print_json_string;
 
 /// Writes the JSON object of a file, on a line: `{"name":"a.bin","status":0,"value":1}`. The members are its name, the
 /// exit status of its run, and the value, or what reports its refusal or fault: `"fault":"End","at":32`. `text` is the
 /// printed value in JSON, with a line feed. The name is that of its line, as a JSON string. Each line of `reasons` is a
 /// string in the member `why`, without the two blanks that indent it; without reasons there is no such member.
-#[tactic(auto, using(text_forms::proofs::Parts::written))]
+#[tactic(auto, using(text_output::proofs::Parts::written))]
 pub fn put_file_object<W: Write>(
     w: &mut W,
     name: &[u8],
@@ -73,7 +73,7 @@ fn put_result<W: Write>(w: &mut W, outcome: Outcome, text: &[u8]) -> Result<(), 
     }
 }
 
-#[tactic(auto, using(text_forms::proofs::Parts::written))]
+#[tactic(auto, using(text_output::proofs::Parts::written))]
 fn put_value<W: Write>(w: &mut W, text: &[u8]) -> Result<(), WriteFault>
     ensures ok { OnOk result (Appends (W.contents w.old) (W.contents w.new) (value_member text.now)) }
     ensures err { OnErr result (AppendsPart (W.contents w.old) (W.contents w.new) (value_member text.now)) }
@@ -110,7 +110,7 @@ fn put_why<W: Write>(w: &mut W, reasons: &[u8]) -> Result<(), WriteFault>
 }
 
 // Writes the member with the lines of a text.
-#[tactic(auto, using(text_forms::proofs::Parts::written))]
+#[tactic(auto, using(text_output::proofs::Parts::written))]
 fn put_reasons<W: Write>(w: &mut W, reasons: &[u8]) -> Result<(), WriteFault>
     ensures ok { OnOk result (Appends (W.contents w.old) (W.contents w.new) (reasons_member reasons.now)) }
     ensures err { OnErr result (AppendsPart (W.contents w.old) (W.contents w.new) (reasons_member reasons.now)) }
@@ -138,7 +138,7 @@ pub fn put_lines<W: Write>(w: &mut W, text: &[u8]) -> Result<(), WriteFault>
 
 // Writes the first line of a text, after a comma unless it is the first of all. Returns how many bytes the line has,
 // without its line feed.
-#[tactic(auto, using(text_forms::proofs::Parts::written))]
+#[tactic(auto, using(text_output::proofs::Parts::written))]
 fn put_line<W: Write>(w: &mut W, first: bool, text: &[u8]) -> Result<usize, WriteFault>
     ensures length { IfOk result (λ length. length ≡ line_length text.now) }
     ensures ok { OnOk result (Appends (W.contents w.old) (W.contents w.new) (first_line_json first text.now)) }
@@ -176,7 +176,7 @@ fn without_indent(line: &[u8]) -> &[u8]
 }
 
 // Writes the name of a file as a JSON string.
-#[tactic(auto, using(text_forms::proofs::Parts::written), unfolding(value_text::specs::JsonText::json_string))]
+#[tactic(auto, using(text_output::proofs::Parts::written), unfolding(value_text::specs::JsonText::json_string))]
 fn put_name_string<W: Write>(w: &mut W, name: &[u8]) -> Result<(), WriteFault>
     ensures ok { OnOk result (Appends (W.contents w.old) (W.contents w.new) (name_json name.now)) }
     ensures err { OnErr result (AppendsPart (W.contents w.old) (W.contents w.new) (name_json name.now)) }

@@ -20,10 +20,10 @@ mod tell_value;
 pub mod type_paths;
 pub mod type_run;
 
-pub use command_words::ask::Ask;
-pub use command_words::offset_word::offset_word;
-pub use command_words::words::{Job, WordFault, read_words};
-pub use command_words::{ask, fault_form, path, pattern, selection, terms, words};
+pub use command_line::ask::Ask;
+pub use command_line::offset_word::offset_word;
+pub use command_line::words::{Job, WordFault, read_words};
+pub use command_line::{ask, fault_form, path, pattern, selection, terms, words};
 pub use run::{run_bound, run_check, run_map};
 pub use run_parts::dump::{DumpFault, dump};
 pub use run_parts::pickle::{PickleFault, read_pickle};

@@ -1,18 +1,18 @@
 //! The lines that are printed for a part to which a pattern leads.
 
 ghost use Rattle.std.specs.Prelude.{◌≡◌, true, Some};
-ghost use Rattle.text_forms.specs.declared.mode.Mode.{Mode};
-ghost use Rattle.text_forms.specs.declared.style.Style.{Style};
+ghost use Rattle.text_output.specs.declared.mode.Mode.{Mode};
+ghost use Rattle.text_output.specs.declared.style.Style.{Style};
 ghost use Rattle.value_text.specs.Puts.{Puts};
 ghost use Rattle.poke_batch.specs.Selected.{OfPart, between, row_start, row_end, key_of, no_cell, name_text, names_text, header_text, absent_lines};
 ghost use Rattle.poke_batch.specs.TypedLines.{typed_cell_of, typed_path_cell, lines_in, part_lines_in, row_in, cells_in, column_in, cell_in};
 
 use crate::part::part_of;
-use command_words::path::Path;
-use command_words::selection::Column;
+use command_line::path::Path;
+use command_line::selection::Column;
 use std::io::Write;
-use text_forms::mode::Mode;
-use text_forms::style::{Look, Style};
+use text_output::mode::Mode;
+use text_output::style::{Look, Style};
 use value_text::print::printer::Printer;
 use value_text::typed::Typed;
 

@@ -8,7 +8,7 @@ ghost use Rattle.poke_batch.specs.PathParts.{is_array, is_named, is_nameless_at,
 ghost use Rattle.poke_batch.specs.PathNodes.{node_of, node_after, node_through};
 ghost use Rattle.value_text.specs.TypedValue.{mapped_in, types_in, node_in};
 
-use command_words::path::{Path, Step};
+use command_line::path::{Path, Step};
 use pickle_map::{Kind, ValueRef};
 use value_text::typed::Typed;
 

@@ -6,7 +6,7 @@ ghost use Rattle.pickle_meaning.specs.Values.{label_of};
 ghost use Rattle.poke_batch.specs.Selected.{end_in, places_in, places_of, has_fields};
 
 use crate::part::is_array;
-use command_words::pattern::{PatternStep, Span};
+use command_line::pattern::{PatternStep, Span};
 use pickle_map::{Kind, ValueRef};
 
 /// Places of members in a row, which are counted from 0.

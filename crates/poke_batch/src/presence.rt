@@ -9,8 +9,8 @@ use crate::line::Line;
 use crate::part::{part_of, step_beside};
 use crate::places::{Places, places_of};
 use crate::type_paths::may_have;
-use command_words::pattern::{Pattern, PatternStep};
-use command_words::selection::{Absent, Column, Selection, Shape};
+use command_line::pattern::{Pattern, PatternStep};
+use command_line::selection::{Absent, Column, Selection, Shape};
 use value_text::typed::Typed;
 
 /// Whether a value has all parts that are selected. Where the absence of one is no fault, it is enough that a value of

@@ -5,13 +5,13 @@ ghost use Rattle.std.specs.Io.KnownBytes.{Appends};
 ghost use Rattle.poke_batch.specs.FileLine.{outcome_text};
 ghost use Rattle.run_parts.specs.Outcomes.{outcome_status};
 ghost use Rattle.run_parts.specs.Told.{IsTold};
-ghost use Rattle.text_forms.specs.Written.{AppendsPart};
+ghost use Rattle.text_output.specs.Written.{AppendsPart};
 
-use command_words::fault_form::FaultForm;
+use command_line::fault_form::FaultForm;
 use run_parts::outcome::Outcome;
 use run_parts::status::Status;
 use std::io::Write;
-use text_forms::write::WriteFault;
+use text_output::write::WriteFault;
 
 /// Writes what reports an outcome: its line, or a JSON object on a line. Of a run that is done there is neither.
 pub fn put_outcome<W: Write>(

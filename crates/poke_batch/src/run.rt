@@ -10,13 +10,13 @@ ghost use Rattle.run_parts.specs.Told.{Says};
 ghost use Rattle.poke_batch.specs.Runs.{ChecksAs, BoundsAs, MapsAs, types_text};
 ghost use Rattle.poke_batch.specs.RunsUnder.{MapsUnder, IsStoreOf, end_saying, fixed_saying, SaysIt};
 ghost use Rattle.poke_batch.specs.TypeRuns.{EndsRun, run_saying};
-ghost use Rattle.text_forms.specs.Written.{AppendsPart};
+ghost use Rattle.text_output.specs.Written.{AppendsPart};
 ghost use Rattle.value_store.specs.Slots.{levels};
 
 use crate::type_run::TypeRun;
 use bit_space::{Memory, Meter, Space};
-use command_words::ask::Ask;
-use command_words::terms::Terms;
+use command_line::ask::Ask;
+use command_line::terms::Terms;
 use pickle_map::{MapFault, MapFaultKind, Store, map};
 use run_parts::accept::accept;
 use run_parts::bound::{put_bounds, put_line};
@@ -25,7 +25,7 @@ use run_parts::status::Status;
 use run_parts::tell::{answer, tell};
 use std::alloc::Global;
 use std::io::Write;
-use text_forms::write::WriteFault;
+use text_output::write::WriteFault;
 
 /// Checks a pickle, and writes how many types it declares, as `types 3`. A pickle that isn't accepted is refused with a
 /// line to `err`.

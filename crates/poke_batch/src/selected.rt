@@ -2,19 +2,19 @@
 
 ghost use Rattle.std.specs.Prelude.{OnOk, OnErr};
 ghost use Rattle.std.specs.Io.KnownBytes.{Appends};
-ghost use Rattle.text_forms.specs.Written.{AppendsPart};
+ghost use Rattle.text_output.specs.Written.{AppendsPart};
 ghost use Rattle.value_text.specs.Puts.{Puts};
 ghost use Rattle.poke_batch.specs.TypedLines.{typed_shape, shape_in, rows_in, patterns_in, pattern_in, next_in, places_in, members_in};
 
 use crate::line::{Format, Line, put_header, put_lines};
 use crate::part::step_beside;
 use crate::places::{Places, places_of};
-use command_words::pattern::{Pattern, PatternStep};
-use command_words::selection::{Rows, Shape};
+use command_line::pattern::{Pattern, PatternStep};
+use command_line::selection::{Rows, Shape};
 use std::io::Write;
-use text_forms::mode::Mode;
-use text_forms::style::{Look, Style};
-use text_forms::write::WriteFault;
+use text_output::mode::Mode;
+use text_output::style::{Look, Style};
+use text_output::write::WriteFault;
 use value_text::print::line::Line as Buffer;
 use value_text::print::printer::Printer;
 use value_text::typed::Typed;

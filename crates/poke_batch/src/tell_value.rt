@@ -15,7 +15,7 @@ use pickle_map::ValueRef;
 use run_parts::outcome::{Failure, Outcome};
 use run_parts::tell::answer;
 use std::io::Write;
-use text_forms::write::put;
+use text_output::write::put;
 use value_text::typed::{Typed, Types};
 
 impl TypeRun<'_> {

@@ -5,10 +5,10 @@ ghost use Rattle.pickle_types.specs.Table.{name_of};
 ghost use Rattle.poke_batch.specs.PathParts.{is_named};
 ghost use Rattle.poke_batch.specs.TypePaths.{all_of, is_possible, field_named, alternative_named, part_named, element_in, any_part, step_in, pattern_step_in, lead_on, path_lead, pattern_lead, lead_of, may_have};
 
-use command_words::path::Step;
-use command_words::pattern::{Pattern, PatternStep};
-use command_words::selection;
-use command_words::selection::Column;
+use command_line::path::Step;
+use command_line::pattern::{Pattern, PatternStep};
+use command_line::selection;
+use command_line::selection::Column;
 use pickle_types::view::{Field, Name, Node, Part, Shape};
 
 /// Where steps lead from a type.

@@ -2,8 +2,8 @@
 
 ghost use Rattle.pickle_types.specs.TypeTable.{IsInTable};
 
-use command_words::ask::Ask;
-use command_words::terms::Terms;
+use command_line::ask::Ask;
+use command_line::terms::Terms;
 use pickle_types::table::{Table, TypeId};
 use std::alloc::Global;
 

@@ -1,6 +1,6 @@
 //! What goes to standard error while many files are mapped.
 use crate::progress::{Counted, Progress};
-use command_words::request::{FileNames, Over};
+use command_line::request::{FileNames, Over};
 use jobs::Aside;
 use poke_batch::words::Job;
 use poke_batch::write::put;

@@ -1,5 +1,5 @@
 //! The hint that `--why` tells more.
-use command_words::request::{Form, Over};
+use command_line::request::{Form, Over};
 use jobs::Ending;
 use poke_batch::accept::Refusal;
 use poke_batch::fault_form::FaultForm;

@@ -1,6 +1,6 @@
 //! The pickles that are installed with the program. `+NAME` instead of a pickle's path names one.
 use jobs::FileFault;
-use pickle_script::near::nearest;
+use pickle_source::near::nearest;
 use poke_batch::pickle::PickleFault;
 use std::alloc::{AllocError, Global};
 use std::env::VarError;

@@ -7,8 +7,8 @@ use crate::installed::{names_installed, tell_installed, tell_missing, tell_unlis
 use crate::reason_text::{add, add_word};
 use crate::with_progress::ClearedWriter;
 use bit_space::OpenFault;
-use command_words::answer_form::AnswerForm;
-use command_words::request::{Over, Request};
+use command_line::answer_form::AnswerForm;
+use command_line::request::{Over, Request};
 use jobs::why::Why;
 use jobs::{Ending, FileFault, Lengthless, report_in_json, run_job};
 use poke_batch::outcome::{Failure, Outcome};

@@ -1,6 +1,6 @@
 //! How a job that shows a value to the eye looks.
-use command_words::color::Color;
-use command_words::request::Form;
+use command_line::color::Color;
+use command_line::request::Form;
 use poke_batch::style::Look;
 use poke_batch::words::{Asked, Job};
 use std::env;

@@ -17,7 +17,7 @@ mod usage_reasons;
 mod with_progress;
 
 use arrayvec::ArrayVec;
-use command_words::request::{FileNames, Over};
+use command_line::request::{FileNames, Over};
 use formats::tell_main;
 use given::{given_words, stands_for};
 use hints::{Explained, explained_endings, hint, lacks_why};

@@ -1,8 +1,8 @@
 //! Why an argument isn't an offset or a number of bytes.
 use crate::reason_text::{add, add_word};
-use command_words::numerals::{byte_count, decimal};
-use command_words::offset_word::{LARGEST_UNIT, offset_word};
-use command_words::start::byte_start;
+use command_line::numerals::{byte_count, decimal};
+use command_line::offset_word::{LARGEST_UNIT, offset_word};
+use command_line::start::byte_start;
 use std::alloc::AllocError;
 
 const OFFSET_FORM: &str =

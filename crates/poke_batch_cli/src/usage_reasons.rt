@@ -1,9 +1,9 @@
 //! Why arguments are a usage error, where clap's message doesn't tell what to write.
 use crate::offset_reasons::tell_signed;
 use crate::reason_text::{add, add_word};
-use command_words::path::{PathFault, read_path};
-use command_words::pattern::read_pattern;
-use pickle_script::near::nearest;
+use command_line::path::{PathFault, read_path};
+use command_line::pattern::read_pattern;
+use pickle_source::near::nearest;
 use poke_batch::write::{WriteFault, put};
 use std::alloc::{AllocError, Global};
 use std::io::Write;

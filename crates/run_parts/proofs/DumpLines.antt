@@ -1,9 +1,9 @@
 -- Laws of the lines of a dump.
 use Rattle.std.proofs.Common.{◌≡◌, ℕ, zero, suc, ◌+◌, ◌-◌, ◌*◌, ◌/◌, ◌%◌, ◌^◌, ◌<◌, ◌≤◌, List, [], ◌∷◌, ◌++◌, length, map, Some, None, refl, sym, ◌∙◌, ap, subst, arith, add-one, Option, take, drop, codes, inl, inr}
 use Rattle.std.specs.Io.KnownBytes.{Appends}
-use Rattle.text_forms.specs.Written.{AppendsPart}
+use Rattle.text_output.specs.Written.{AppendsPart}
 use Rattle.std.proofs.KnownBytes.{Appends-trans}
-use Rattle.text_forms.proofs.Parts.{part_first, part_next}
+use Rattle.text_output.proofs.Parts.{part_first, part_next}
 use Rattle.std.specs.Prelude.{min, slice_range, replicate, bit_and, slice_get}
 use Rattle.std.specs.List.{flat_map, range_with_len}
 use Rattle.std.specs.Int.Digits.{digits_of}
@@ -15,7 +15,7 @@ use Rattle.std.proofs.lemmas.Int.Digits.{digits_of_step, length-digits_of-le, nu
 use Rattle.std.proofs.lemmas.Nat.{shr-shr, and_mask, pow-add, div_below}
 use Rattle.std.proofs.Math.Nat.{pow-suc, pow-le-pow_right, one-le-pow, div-one, min-eq_left, min-eq_right}
 use Rattle.run_parts.specs.DumpText.{place_text, gap, column, columns, shown, line_text, lines_text}
-use Rattle.text_forms.specs.HexDigits.{hex_digit}
+use Rattle.text_output.specs.HexDigits.{hex_digit}
 
 -- the last `count` hexadecimal digits of n
 unfoldable pub hex_digits : ℕ → ℕ → List ℕ

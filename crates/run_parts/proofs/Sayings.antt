@@ -13,13 +13,13 @@ use Rattle.run_parts.specs.declared.outcome.Outcome.{Outcome}
 use Rattle.run_parts.specs.declared.outcome.Outcome.TheVariants as outcome
 use Rattle.run_parts.specs.declared.status.Status.{Status}
 use Rattle.run_parts.specs.declared.status.Status.TheVariants.{Done, Outside}
-use Rattle.text_forms.specs.declared.write.WriteFault.{WriteFault}
+use Rattle.text_output.specs.declared.write.WriteFault.{WriteFault}
 use Rattle.run_parts.specs.Accepted.{refusal_saying}
 use Rattle.run_parts.specs.FaultLines.{fault_saying}
 use Rattle.run_parts.specs.Lines.{fault_line}
 use Rattle.run_parts.specs.Outcomes.{outcome_saying, outcome_status, outcome_line, outcome_kind, outcome_json, outcome_members, outcome_place, status_said, line_said, EndsAs, writes, cuts, reports}
 use Rattle.run_parts.specs.Reports.{report_json, report_members}
-use Rattle.text_forms.specs.Written.{AppendsPart}
+use Rattle.text_output.specs.Written.{AppendsPart}
 use Rattle.run_parts.specs.Told.{Saying, Text, Line, IsTold, IsSaid, Says, AppendsUpTo}
 
 -- a line, with its exit status

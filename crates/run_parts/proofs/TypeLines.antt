@@ -10,9 +10,9 @@ use Rattle.std.proofs.Math.Seq.{take-suc}
 use Rattle.pickle_types.specs.Names.{Names}
 use Rattle.pickle_types.specs.DeclaredTypes.{told_of, told_as, declared_in}
 use Rattle.pickle_types.specs.declared.declared_types.DeclaredType.{DeclaredType}
-use Rattle.text_forms.specs.Written.{AppendsPart}
+use Rattle.text_output.specs.Written.{AppendsPart}
 use Rattle.run_parts.specs.TypesText.{type_line, told_lines, types_lines}
-use Rattle.text_forms.proofs.Parts.{part_first, part_next}
+use Rattle.text_output.proofs.Parts.{part_first, part_next}
 
 next_is : (n : ℕ) → n + 1 ≡ suc n
 next_is n = omega arith

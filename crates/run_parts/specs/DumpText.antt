@@ -4,8 +4,8 @@ use Rattle.std.specs.List.{flat_map, range_with_len}
 use Rattle.std.specs.Int.Digits.{digits_of}
 use Rattle.std.specs.Io.KnownBytes.{Appends}
 use Rattle.bit_space.specs.SpaceView.{SpaceView}
-use Rattle.text_forms.specs.HexDigits.{hex_digit}
-use Rattle.text_forms.specs.Written.{AppendsPart}
+use Rattle.text_output.specs.HexDigits.{hex_digit}
+use Rattle.text_output.specs.Written.{AppendsPart}
 
 -- hexadecimal digits of a place, after the zeros that make them eight, if they are fewer
 unfoldable pub place_text : ℕ → List ℕ

@@ -4,7 +4,7 @@ use Rattle.std.specs.Io.KnownBytes.{Appends, Keeps}
 use Rattle.run_parts.specs.declared.status.Status.{Status}
 use Rattle.run_parts.specs.declared.status.Status.TheVariants.{Done, Outside}
 use Rattle.run_parts.specs.Lines.{fault_line}
-use Rattle.text_forms.specs.Written.{AppendsPart}
+use Rattle.text_output.specs.Written.{AppendsPart}
 
 -- known bytes grow by the first bytes of a text, or by all of it
 pub record AppendsUpTo (old new : Option (List ℕ)) (text : List ℕ) : Type 0 where

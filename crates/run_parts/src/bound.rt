@@ -1,15 +1,15 @@
 //! The text of the bounds of a mapping.
 ghost use Rattle.std.specs.Prelude.{OnOk, OnErr};
 ghost use Rattle.std.specs.Io.KnownBytes.{Appends};
-ghost use Rattle.text_forms.specs.Written.{AppendsPart};
+ghost use Rattle.text_output.specs.Written.{AppendsPart};
 ghost use Rattle.run_parts.specs.BoundText.{bound_line, bound_number, bound_text, bound_text_and};
 
 use itoa::Buffer;
 use std::io::Write;
-use text_forms::write::{WriteFault, put};
+use text_output::write::{WriteFault, put};
 
 /// Writes the most steps and slots that a mapping takes, a line for each. `None` is a bound of 2^128 or more.
-#[tactic(auto, using(text_forms::proofs::Parts::written))]
+#[tactic(auto, using(text_output::proofs::Parts::written))]
 pub fn put_bounds<W: Write>(
     w: &mut W,
     steps: Option<u128>,
@@ -25,7 +25,7 @@ pub fn put_bounds<W: Write>(
 
 /// Writes the most steps and slots that a mapping takes, and the most bytes of its text, a line for each. `None` is a
 /// bound of 2^128 or more.
-#[tactic(auto, using(text_forms::proofs::Parts::written))]
+#[tactic(auto, using(text_output::proofs::Parts::written))]
 pub fn put_bounds_and_text<W: Write>(
     w: &mut W,
     steps: Option<u128>,
@@ -41,7 +41,7 @@ pub fn put_bounds_and_text<W: Write>(
 }
 
 /// Writes a line with a name and a bound.
-#[tactic(auto, using(text_forms::proofs::Parts::written), unfolding(crate::specs::BoundText::bound_line))]
+#[tactic(auto, using(text_output::proofs::Parts::written), unfolding(crate::specs::BoundText::bound_line))]
 pub fn put_line<W: Write>(w: &mut W, name: &[u8], bound: Option<u128>) -> Result<(), WriteFault>
     ensures ok { OnOk result (Appends (W.contents w.old) (W.contents w.new) (bound_line name.now bound)) }
     ensures err { OnErr result (AppendsPart (W.contents w.old) (W.contents w.new) (bound_line name.now bound)) }

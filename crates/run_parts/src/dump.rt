@@ -4,14 +4,14 @@ mod line;
 ghost use Rattle.std.specs.Prelude.{◌≡◌, ◌+◌, ◌-◌, ◌^◌, ◌<◌, ◌≤◌, [], if◌then◌else◌, min, codes, OnOk, OnErr, IfErr};
 ghost use Rattle.std.specs.Io.KnownBytes.{Appends};
 ghost use Rattle.bit_space.specs.SpaceView.{HasRisen, Keeps};
-ghost use Rattle.text_forms.specs.Written.{AppendsPart};
+ghost use Rattle.text_output.specs.Written.{AppendsPart};
 ghost use Rattle.run_parts.specs.DumpText.{Dumps, DumpsPart, dump_text, range_text, row_text, ruler_text};
 ghost use Rattle.run_parts.specs.declared.dump.DumpFault.TheVariants.{Device, Write as WriteFailed};
 
 use bit_space::{DeviceFault, Space};
 use line::{LINE_ROOM, lay_out};
 use std::io::Write;
-use text_forms::write::{WriteFault, put};
+use text_output::write::{WriteFault, put};
 use thiserror::Error;
 
 /// Why a dump ended early. It displays the line that reports it.

@@ -2,13 +2,13 @@
 
 ghost use Rattle.std.specs.Prelude.{◌≡◌, ◌++◌, decimal, OnOk, OnErr};
 ghost use Rattle.std.specs.Io.KnownBytes.{Appends};
-ghost use Rattle.text_forms.specs.Written.{AppendsPart};
+ghost use Rattle.text_output.specs.Written.{AppendsPart};
 ghost use Rattle.run_parts.specs.Reports.{lead, member_lead, report_json, report_line, report_members};
 
 use crate::status::Status;
 use itoa::Buffer;
 use std::io::Write;
-use text_forms::write::{WriteFault, put};
+use text_output::write::{WriteFault, put};
 
 /// Where a run ended.
 #[derive(Clone, Copy, Debug, Drop, PartialEq, Eq)]
@@ -46,7 +46,7 @@ pub fn put_report<W: Write>(
 
 /// Writes the JSON object of a run that ended with a status other than `Done`, on a line. `kind` is the name of the refusal
 /// or fault, in letters.
-#[tactic(auto, using(text_forms::proofs::Parts::written))]
+#[tactic(auto, using(text_output::proofs::Parts::written))]
 pub fn put_report_json<W: Write>(
     w: &mut W,
     status: Status,
@@ -104,7 +104,7 @@ fn member_lead(status: Status) -> &'static [u8]
 }
 
 // `lead`, the kind, and `tail`
-#[tactic(auto, using(text_forms::proofs::Parts::written))]
+#[tactic(auto, using(text_output::proofs::Parts::written))]
 fn put_plain<W: Write>(w: &mut W, lead: &[u8], kind: &[u8], tail: &[u8]) -> Result<(), WriteFault>
     ensures ok { OnOk result (Appends (W.contents w.old) (W.contents w.new) (lead.now ++ (kind.now ++ tail.now))) }
     ensures err { OnErr result (AppendsPart (W.contents w.old) (W.contents w.new) (lead.now ++ (kind.now ++ tail.now))) }
@@ -116,7 +116,7 @@ fn put_plain<W: Write>(w: &mut W, lead: &[u8], kind: &[u8], tail: &[u8]) -> Resu
 }
 
 // `lead`, the kind, and a number between `link` and `tail`
-#[tactic(auto, using(text_forms::proofs::Parts::written))]
+#[tactic(auto, using(text_output::proofs::Parts::written))]
 fn put_placed<W: Write>(
     w: &mut W,
     lead: &[u8],
@@ -138,7 +138,7 @@ fn put_placed<W: Write>(
 }
 
 // `lead`, the kind, and a number after `link`
-#[tactic(auto, using(text_forms::proofs::Parts::written))]
+#[tactic(auto, using(text_output::proofs::Parts::written))]
 fn put_member<W: Write>(
     w: &mut W,
     lead: &[u8],
@@ -168,7 +168,7 @@ pub fn put_digits<W: Write>(w: &mut W, number: u128) -> Result<(), WriteFault>
 }
 
 /// Writes the decimal digits of a number, and `tail`.
-#[tactic(auto, using(text_forms::proofs::Parts::written))]
+#[tactic(auto, using(text_output::proofs::Parts::written))]
 pub fn put_number<W: Write>(w: &mut W, number: u128, tail: &[u8]) -> Result<(), WriteFault>
     ensures ok { OnOk result (Appends (W.contents w.old) (W.contents w.new) (decimal number ++ tail.now)) }
     ensures err { OnErr result (AppendsPart (W.contents w.old) (W.contents w.new) (decimal number ++ tail.now)) }

@@ -2,7 +2,7 @@
 
 ghost use Rattle.std.specs.Prelude.{◌≡◌, OnOk, OnErr};
 ghost use Rattle.std.specs.Io.KnownBytes.{Appends};
-ghost use Rattle.text_forms.specs.Written.{AppendsPart};
+ghost use Rattle.text_output.specs.Written.{AppendsPart};
 ghost use Rattle.run_parts.specs.Outcomes.{failure_kind, fault_place, fault_status, refusal_place};
 ghost use Rattle.run_parts.specs.Outcomes.{outcome_json, outcome_kind, outcome_line, outcome_members, outcome_place, outcome_status};
 
@@ -11,7 +11,7 @@ use crate::lines::{Place, put_report, put_report_json, put_report_members};
 use crate::status::Status;
 use pickle_meaning::faults::{MapFault, MapFaultKind};
 use std::io::Write;
-use text_forms::write::WriteFault;
+use text_output::write::WriteFault;
 
 /// What failed in the environment.
 #[derive(Clone, Copy, Debug, Drop, PartialEq, Eq)]

@@ -9,7 +9,7 @@ ghost use Rattle.run_parts.specs.declared.outcome.Outcome.TheVariants.{Done, Fai
 use crate::outcome::{Failure, Outcome};
 use crate::status::Status;
 use std::io::Write;
-use text_forms::write::WriteFault;
+use text_output::write::WriteFault;
 
 /// Writes the line of an outcome, and returns its exit status, or `Outside` if the writer failed.
 pub fn tell<E: Write>(outcome: Outcome, err: &mut E) -> Status

@@ -6,7 +6,7 @@ ghost use Rattle.pickle_types.specs.DeclaredTypes.{told_of};
 ghost use Rattle.run_parts.specs.Outcomes.{EndsAs};
 ghost use Rattle.run_parts.specs.Told.{Says};
 ghost use Rattle.run_parts.specs.TypesText.{kind_column, width_number, width_text, type_line, told_lines, TypesAs};
-ghost use Rattle.text_forms.specs.Written.{AppendsPart};
+ghost use Rattle.text_output.specs.Written.{AppendsPart};
 
 use crate::accept::accept;
 use crate::outcome::{Failure, Outcome};
@@ -16,7 +16,7 @@ use itoa::Buffer;
 use pickle_types::declared_types::{DeclaredType, TypeKind};
 use std::alloc::Global;
 use std::io::Write;
-use text_forms::write::{WriteFault, put};
+use text_output::write::{WriteFault, put};
 
 /// Checks a pickle, and writes a line for each type that it declares, in the order of the declarations: its name, its
 /// kind and the least width of its values, with a tab between them.
@@ -62,7 +62,7 @@ fn put_types<W: Write>(w: &mut W, types: &[DeclaredType<'_>]) -> Result<(), Writ
     Ok(())
 }
 
-#[tactic(auto, using(text_forms::proofs::Parts::written), unfolding(crate::specs::TypesText::type_line))]
+#[tactic(auto, using(text_output::proofs::Parts::written), unfolding(crate::specs::TypesText::type_line))]
 fn put_type<W: Write>(w: &mut W, told: &DeclaredType<'_>) -> Result<(), WriteFault>
     ensures ok { OnOk result (Appends (W.contents w.old) (W.contents w.new) (type_line (told_of told.now))) }
     ensures err { OnErr result (AppendsPart (W.contents w.old) (W.contents w.new) (type_line (told_of told.now))) }
@@ -86,7 +86,7 @@ fn column(kind: TypeKind) -> &'static [u8]
     }
 }
 
-#[tactic(auto, using(text_forms::proofs::Parts::written), unfolding(crate::specs::TypesText::width_text))]
+#[tactic(auto, using(text_output::proofs::Parts::written), unfolding(crate::specs::TypesText::width_text))]
 fn put_width<W: Write>(w: &mut W, width: Option<u64>) -> Result<(), WriteFault>
     ensures ok { OnOk result (Appends (W.contents w.old) (W.contents w.new) (width_text width)) }
     ensures err { OnErr result (AppendsPart (W.contents w.old) (W.contents w.new) (width_text width)) }

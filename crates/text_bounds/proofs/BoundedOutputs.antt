@@ -6,14 +6,14 @@ use Rattle.bit_space.specs.SpaceView.{SpaceView}
 use Rattle.pickle_types.specs.Types.{PokeType}
 use Rattle.pickle_meaning.specs.Fits.{Fits}
 use Rattle.pickle_meaning.specs.Values.{Value, end_of, no_values}
-use Rattle.command_words.specs.declared.ask.Ask.{Ask}
+use Rattle.command_line.specs.declared.ask.Ask.{Ask}
 use Rattle.run_parts.specs.declared.status.Status.{Status}
 use Rattle.run_parts.specs.declared.status.Status.TheVariants.{Fault}
-use Rattle.command_words.specs.declared.terms.Terms.{Terms}
+use Rattle.command_line.specs.declared.terms.Terms.{Terms}
 use Rattle.run_parts.specs.Lines.{fault_line, fault_at_line}
 use Rattle.pickle_types.specs.declared.table.Table.{Table}
 use Rattle.pickle_types.specs.declared.table.TypeId.{TypeId}
-use Rattle.text_forms.specs.declared.style.Style.{Style}
+use Rattle.text_output.specs.declared.style.Style.{Style}
 use Rattle.pickle_types.specs.NodeParts.{char_node_of}
 use Rattle.pickle_types.specs.TypeTable.{nodes_of}
 use Rattle.poke_batch.specs.PathParts.{part_at, node_at}

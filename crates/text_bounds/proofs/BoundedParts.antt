@@ -1,10 +1,10 @@
 -- The bounds on printed parts.
 use Rattle.std.proofs.Common.{◌+◌, ◌≤◌, [], None, length, codes, arith, length-append, subst}
 use Rattle.pickle_meaning.specs.Values.{Value}
-use Rattle.text_forms.specs.declared.mode.Mode.{Mode}
-use Rattle.text_forms.specs.declared.mode.Mode.TheVariants.{Flat, Tree, Json, Lines}
-use Rattle.text_forms.specs.declared.style.Style.{Style}
-use Rattle.text_forms.specs.Styles.{plain}
+use Rattle.text_output.specs.declared.mode.Mode.{Mode}
+use Rattle.text_output.specs.declared.mode.Mode.TheVariants.{Flat, Tree, Json, Lines}
+use Rattle.text_output.specs.declared.style.Style.{Style}
+use Rattle.text_output.specs.Styles.{plain}
 use Rattle.value_text.specs.Styled.{styled, with_chars}
 use Rattle.value_text.specs.StyledJson.{styled_json}
 use Rattle.value_text.specs.StyledValue.{styled_value}

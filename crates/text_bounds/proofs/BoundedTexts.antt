@@ -3,10 +3,10 @@ use Rattle.std.proofs.Common.{ℕ, ◌*◌, ◌≤◌, List, Option, None, lengt
 use Rattle.bit_space.specs.SpaceView.{SpaceView}
 use Rattle.mapping_plans.proofs.OnBits.{outcomes_fit}
 use Rattle.run_parts.specs.declared.outcome.Outcome.TheVariants.{Refused}
-use Rattle.command_words.specs.declared.ask.Ask.{Ask}
-use Rattle.text_forms.specs.declared.mode.Mode.TheVariants.{Flat, Tree, Json, Lines}
+use Rattle.command_line.specs.declared.ask.Ask.{Ask}
+use Rattle.text_output.specs.declared.mode.Mode.TheVariants.{Flat, Tree, Json, Lines}
 use Rattle.run_parts.specs.declared.status.Status.{Status}
-use Rattle.text_forms.specs.Styles.{plain}
+use Rattle.text_output.specs.Styles.{plain}
 use Rattle.text_bounds.specs.OutputRoom.{GrowsWithin, OutputIsBounded}
 use Rattle.value_text.specs.Printed.{printed}
 use Rattle.poke_batch.specs.Runs.{MapsAs, value, stops, device, unknown, refused_map, no_memory}

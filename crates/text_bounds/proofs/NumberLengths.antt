@@ -6,9 +6,9 @@ use Rattle.std.proofs.Math.Nat.{two-pow-succ}
 use Rattle.std.proofs.lemmas.Bool.{cases_Bool, leb-true, leb-false, eqb-true, eqb-false, lt-ltb}
 use Rattle.pickle_types.specs.declared.integer.IntegerType.{IntegerType}
 use Rattle.pickle_meaning.specs.Arithmetic.{with_sign}
-use Rattle.text_forms.specs.declared.style.Numbers.{Numbers}
-use Rattle.text_forms.specs.declared.style.Numbers.TheVariants.{Decimal, Hexadecimal, Digits}
-use Rattle.text_forms.specs.HexDigits.{hex_digit}
+use Rattle.text_output.specs.declared.style.Numbers.{Numbers}
+use Rattle.text_output.specs.declared.style.Numbers.TheVariants.{Decimal, Hexadecimal, Digits}
+use Rattle.text_output.specs.HexDigits.{hex_digit}
 use Rattle.poke_batch.specs.ValueText.{suffix_of, typed_text, cast_text, type_word, integer_text}
 use Rattle.value_text.specs.StyledNumbers.{hex_digits, hexadecimal, signed_hex, hex_suffix, typed_hex, hex_integer, integer_in, unit_in, offset_in, quoted_hex, json_number, json_offset_in}
 use Rattle.text_bounds.specs.TextRoom.{longest_number}

@@ -1,7 +1,7 @@
 -- The sizes of a value's parts.
 use Rattle.std.proofs.Common.{◌≡◌, ℕ, zero, suc, ◌≤◌, Option, Some, arith, subst}
 use Rattle.pickle_meaning.specs.Values.{Value, Mapped, Members, NoMembers, MemberThen, AbsentThen, member_at, members_of}
-use Rattle.command_words.specs.declared.path.Path.{Path}
+use Rattle.command_line.specs.declared.path.Path.{Path}
 use Rattle.poke_batch.specs.PathParts.{part_at}
 use Rattle.poke_batch.proofs.PartsKept.{same_value, part_keeps}
 use Rattle.text_bounds.specs.declared.form.Form.{Form}

@@ -5,10 +5,10 @@ use Rattle.std.proofs.lemmas.Bool.{cases_Bool}
 use Rattle.std.specs.Prelude.{if◌then◌else◌, ◌⊎◌}
 use Rattle.pickle_meaning.specs.Values.{Naming, Label, IntegerLabel, OffsetLabel, TextLabel, ArrayLabel, StructLabel, UnionLabel, Value, Mapped, Members, NoMembers, MemberThen, AbsentThen, member_count, start_of, end_of}
 use Rattle.value_store.specs.Labels.{kind_of, member_name}
-use Rattle.text_forms.specs.declared.mode.Mode.{Mode}
-use Rattle.text_forms.specs.declared.mode.Mode.TheVariants.{Flat, Tree, Json, Lines}
-use Rattle.text_forms.specs.declared.style.Style.{Style}
-use Rattle.text_forms.specs.Brackets.{in_brackets}
+use Rattle.text_output.specs.declared.mode.Mode.{Mode}
+use Rattle.text_output.specs.declared.mode.Mode.TheVariants.{Flat, Tree, Json, Lines}
+use Rattle.text_output.specs.declared.style.Style.{Style}
+use Rattle.text_output.specs.Brackets.{in_brackets}
 use Rattle.value_text.specs.ValueText.{string_text, title_text, name_text, comma}
 use Rattle.value_text.specs.TreeText.{indent_text, prefix_text, line_text, has_parts}
 use Rattle.value_text.specs.JsonText.{json_string, key_text, key_before, no_key}

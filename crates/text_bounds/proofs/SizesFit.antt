@@ -16,13 +16,13 @@ use Rattle.pickle_meaning.specs.Arithmetic.{with_sign}
 use Rattle.pickle_meaning.specs.Means.{field_names, part_names, array_value, struct_value, Taken, union_value}
 use Rattle.pickle_meaning.specs.Fits.{ElementsFit, no_more_fit, one_more_fits, FitsNumber, DigitsFit, Fits, FieldsFit, AlternativeFits}
 use Rattle.mapping_plans.proofs.Fitting.{fits_wide, fits_inside}
-use Rattle.text_forms.specs.declared.mode.Mode.{Mode}
-use Rattle.text_forms.specs.declared.mode.Mode.TheVariants.{Flat, Tree, Json, Lines}
-use Rattle.text_forms.specs.declared.style.Style.{Style}
+use Rattle.text_output.specs.declared.mode.Mode.{Mode}
+use Rattle.text_output.specs.declared.mode.Mode.TheVariants.{Flat, Tree, Json, Lines}
+use Rattle.text_output.specs.declared.style.Style.{Style}
 use Rattle.poke_batch.proofs.UnderTerms.{fits_start}
 use Rattle.value_text.specs.CutArrays.{is_past, more_text}
 use Rattle.value_text.specs.TreeText.{indent_text}
-use Rattle.text_forms.specs.Brackets.{in_brackets}
+use Rattle.text_output.specs.Brackets.{in_brackets}
 use Rattle.text_bounds.specs.declared.form.Form.{Form}
 use Rattle.text_bounds.specs.TextRoom.{Size, joined, integer_room, offset_room, escape_room, string_room, array_room, titled_room, line_room, element_before, element_moves, field_before, field_moves, with_parts, moved, no_size, both, repeated, more_size, elements_size, text_size, array_size, size_of, fields_size, parts_size, greatest_size}
 use Rattle.text_bounds.proofs.NumberLengths.{decimal_longer, integer_longest, json_longest, offset_longest, json_offset_longest}

@@ -3,11 +3,11 @@ use Rattle.std.proofs.Common.{◌≡◌, ℕ, refl, false, true, codes, Some, No
 use Rattle.std.specs.Fmt.{digits}
 use Rattle.pickle_types.specs.Types.{PokeType, IntegerOf, OffsetOf, StringOf, ArrayOf, StructOf, UnionOf, Unbounded, FieldThen, NoFields, PartThen, NoParts}
 use Rattle.pickle_types.specs.Bounds.{least_width}
-use Rattle.text_forms.specs.declared.mode.Mode.TheVariants.{Flat, Tree, Json, Lines}
-use Rattle.text_forms.specs.declared.style.Style.{Style}
-use Rattle.text_forms.specs.declared.style.Numbers.TheVariants.{Decimal, Hexadecimal, Digits}
-use Rattle.text_forms.specs.declared.style.Chars.TheVariants as chars
-use Rattle.text_forms.specs.Styles.{plain}
+use Rattle.text_output.specs.declared.mode.Mode.TheVariants.{Flat, Tree, Json, Lines}
+use Rattle.text_output.specs.declared.style.Style.{Style}
+use Rattle.text_output.specs.declared.style.Numbers.TheVariants.{Decimal, Hexadecimal, Digits}
+use Rattle.text_output.specs.declared.style.Chars.TheVariants as chars
+use Rattle.text_output.specs.Styles.{plain}
 use Rattle.poke_batch.specs.ValueText.{integer_text}
 use Rattle.poke_batch.specs.JsonText.{json_string}
 use Rattle.value_text.specs.StyledNumbers.{hexadecimal, hex_integer, unit_in, offset_in, quoted_hex, json_offset_in}

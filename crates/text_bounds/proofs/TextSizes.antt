@@ -5,11 +5,11 @@ use Rattle.std.proofs.lemmas.Bool.{cases_Bool}
 use Rattle.std.specs.Prelude.{if◌then◌else◌, ◌==◌}
 use Rattle.pickle_types.specs.declared.node.Node.{Node}
 use Rattle.pickle_meaning.specs.Values.{Label, IntegerLabel, OffsetLabel, TextLabel, ArrayLabel, StructLabel, UnionLabel, Value, Mapped, Members, NoMembers, MemberThen, AbsentThen, member_count}
-use Rattle.text_forms.specs.declared.mode.Mode.{Mode}
-use Rattle.text_forms.specs.declared.mode.Mode.TheVariants.{Flat, Tree, Json, Lines}
-use Rattle.text_forms.specs.declared.style.Style.{Style}
-use Rattle.text_forms.specs.declared.style.Chars.{Chars}
-use Rattle.text_forms.specs.declared.style.Chars.TheVariants.{Numbers, Text}
+use Rattle.text_output.specs.declared.mode.Mode.{Mode}
+use Rattle.text_output.specs.declared.mode.Mode.TheVariants.{Flat, Tree, Json, Lines}
+use Rattle.text_output.specs.declared.style.Style.{Style}
+use Rattle.text_output.specs.declared.style.Chars.{Chars}
+use Rattle.text_output.specs.declared.style.Chars.TheVariants.{Numbers, Text}
 use Rattle.value_text.specs.ValueText.{spelled_byte, spelled, escape_text, is_plain, string_text}
 use Rattle.value_text.specs.JsonText.{json_escape, json_string}
 use Rattle.value_text.specs.CharTexts.{has_chars, chars_in, kept_before, trimmed, with_texts, parts_with_texts}

@@ -2,10 +2,10 @@
 use Rattle.std.proofs.Common.{ℕ, ◌+◌, ◌*◌, ◌≤◌, arith}
 use Rattle.std.proofs.Math.Nat.{mul-le-mul_left}
 use Rattle.std.proofs.lemmas.Nat.{mul-le}
-use Rattle.text_forms.specs.declared.mode.Mode.{Mode}
-use Rattle.text_forms.specs.declared.mode.Mode.TheVariants.{Flat, Tree, Json, Lines}
-use Rattle.text_forms.specs.declared.style.Chars.{Chars}
-use Rattle.text_forms.specs.declared.style.Chars.TheVariants.{Numbers, Text}
+use Rattle.text_output.specs.declared.mode.Mode.{Mode}
+use Rattle.text_output.specs.declared.mode.Mode.TheVariants.{Flat, Tree, Json, Lines}
+use Rattle.text_output.specs.declared.style.Chars.{Chars}
+use Rattle.text_output.specs.declared.style.Chars.TheVariants.{Numbers, Text}
 use Rattle.text_bounds.specs.TextRoom.{Size, joined, with_parts, moved, both, greater, or_text}
 
 pub record Within (a b : Size) : Type 0 where

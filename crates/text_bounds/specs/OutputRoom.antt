@@ -2,8 +2,8 @@
 use Rattle.std.specs.Prelude.{◌≤◌, ◌*◌, ◌⊎◌, ℕ, List, Option, length}
 use Rattle.std.specs.Io.KnownBytes.{Appends, Keeps}
 use Rattle.pickle_types.specs.Types.{PokeType}
-use Rattle.command_words.specs.declared.ask.Ask.{Ask}
-use Rattle.text_forms.specs.declared.style.Style.{Style}
+use Rattle.command_line.specs.declared.ask.Ask.{Ask}
+use Rattle.text_output.specs.declared.style.Style.{Style}
 use Rattle.poke_batch.specs.Runs.{IsAsked}
 use Rattle.text_bounds.specs.TextRoom.{most_text}
 

@@ -8,13 +8,13 @@ use Rattle.pickle_types.specs.Types.{PokeType}
 use Rattle.pickle_meaning.specs.Fits.{Fits}
 use Rattle.pickle_meaning.specs.Means.{Means}
 use Rattle.pickle_meaning.specs.Values.{Value, Levels}
-use Rattle.command_words.specs.declared.ask.Ask.{Ask}
-use Rattle.text_forms.specs.declared.mode.Mode.{Mode}
-use Rattle.text_forms.specs.declared.style.Style.{Style}
-use Rattle.command_words.specs.declared.path.Path.{Path}
+use Rattle.command_line.specs.declared.ask.Ask.{Ask}
+use Rattle.text_output.specs.declared.mode.Mode.{Mode}
+use Rattle.text_output.specs.declared.style.Style.{Style}
+use Rattle.command_line.specs.declared.path.Path.{Path}
 use Rattle.run_parts.specs.declared.status.Status.{Status}
-use Rattle.command_words.specs.declared.terms.Terms.{Terms}
-use Rattle.text_forms.specs.Styles.{plain}
+use Rattle.command_line.specs.declared.terms.Terms.{Terms}
+use Rattle.text_output.specs.Styles.{plain}
 use Rattle.text_bounds.specs.OutputRoom.{OutputIsBounded}
 use Rattle.value_text.specs.Printed.{printed}
 use Rattle.value_text.specs.Styled.{styled_printed}

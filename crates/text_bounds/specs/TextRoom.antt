@@ -5,14 +5,14 @@ use Rattle.pickle_types.specs.Types.{PokeType, IntegerOf, OffsetOf, StringOf, Ar
 use Rattle.pickle_types.specs.Bounds.{least_width, count_of}
 use Rattle.pickle_meaning.specs.Values.{Naming}
 use Rattle.text_bounds.specs.declared.form.Form.{Form}
-use Rattle.text_forms.specs.declared.mode.Mode.{Mode}
-use Rattle.text_forms.specs.declared.mode.Mode.TheVariants.{Flat, Tree, Json, Lines}
-use Rattle.text_forms.specs.declared.style.Chars.{Chars}
-use Rattle.text_forms.specs.declared.style.Chars.TheVariants.{Numbers, Text}
-use Rattle.text_forms.specs.declared.style.Numbers.{Numbers as Digits}
-use Rattle.text_forms.specs.declared.style.Style.{Style}
+use Rattle.text_output.specs.declared.mode.Mode.{Mode}
+use Rattle.text_output.specs.declared.mode.Mode.TheVariants.{Flat, Tree, Json, Lines}
+use Rattle.text_output.specs.declared.style.Chars.{Chars}
+use Rattle.text_output.specs.declared.style.Chars.TheVariants.{Numbers, Text}
+use Rattle.text_output.specs.declared.style.Numbers.{Numbers as Digits}
+use Rattle.text_output.specs.declared.style.Style.{Style}
 use Rattle.poke_batch.specs.ValueText.{title_text, name_text}
-use Rattle.text_forms.specs.Brackets.{in_brackets}
+use Rattle.text_output.specs.Brackets.{in_brackets}
 use Rattle.poke_batch.specs.JsonText.{key_text}
 use Rattle.poke_batch.specs.PathText.{field_step}
 use Rattle.value_text.specs.CutArrays.{more_text, more_member, more_line, more_item}

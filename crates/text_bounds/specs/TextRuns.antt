@@ -5,8 +5,8 @@ use Rattle.pickle_types.specs.Types.{PokeType}
 use Rattle.pickle_types.specs.Names.{Names, find_type}
 use Rattle.pickle_types.specs.Bounds.{cost, room, IsBound}
 use Rattle.run_parts.specs.declared.accept.Refusal.{Refusal}
-use Rattle.text_forms.specs.declared.mode.Mode.{Mode}
-use Rattle.text_forms.specs.declared.style.Style.{Style}
+use Rattle.text_output.specs.declared.mode.Mode.{Mode}
+use Rattle.text_output.specs.declared.style.Style.{Style}
 use Rattle.run_parts.specs.declared.status.Status.TheVariants.{Refused}
 use Rattle.run_parts.specs.Accepted.{IsAccepted, Refuses, refusal_saying}
 use Rattle.run_parts.specs.BoundText.{bound_text_and}

@@ -11,7 +11,7 @@ use pickle_types::bounds::{greater_of, sum_of};
 use pickle_types::table::{Table, TypeId};
 use poke_batch::mode::Mode;
 use std::alloc::{AllocError, Global};
-use text_forms::style::Style;
+use text_output::style::Style;
 
 /// The most bytes of a printed value of a type over a file of `bits` bits in a style and a mode, the line feed at its end
 /// included. `None` for 2^128 or more; `Memory` if an allocation fails.

@@ -19,7 +19,7 @@ use pickle_types::bounds::{
 use pickle_types::integer::IntegerType;
 use pickle_types::view::{Field, Name, Part};
 use poke_batch::mode::Mode;
-use text_forms::style::Chars;
+use text_output::style::Chars;
 
 /// The least width of a type in bits, `None` for 2^64 or more, and the size of its printed values.
 #[derive(Clone, Copy, Default)]

@@ -1,7 +1,7 @@
 //! How printed values are bounded.
 
 use poke_batch::mode::Mode;
-use text_forms::style::Style;
+use text_output::style::Style;
 
 /// The mode and the style of printed values.
 #[derive(Clone, Copy)]

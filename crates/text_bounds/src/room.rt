@@ -8,8 +8,8 @@ ghost use Rattle.poke_batch.specs.PathText.{field_step};
 ghost use Rattle.poke_batch.specs.JsonText.{json_escape, key_text};
 ghost use Rattle.poke_batch.specs.ValueText.{spelled, spelled_byte, integer_text, typed_text, suffix_of, unit_text, title_text, name_text};
 ghost use Rattle.value_text.specs.StyledNumbers.{unit_in, hex_digits, hexadecimal, signed_hex, hex_suffix, typed_hex};
-ghost use Rattle.text_forms.specs.declared.style.Numbers.TheVariants.{Decimal, Hexadecimal, Digits};
-ghost use Rattle.text_forms.specs.Brackets.{in_brackets};
+ghost use Rattle.text_output.specs.declared.style.Numbers.TheVariants.{Decimal, Hexadecimal, Digits};
+ghost use Rattle.text_output.specs.Brackets.{in_brackets};
 ghost use Rattle.text_bounds.specs.TextRoom.{longest_number, integer_room, offset_room, escape_room, string_room, array_room, more_room, titled_room, line_room, element_before, element_moves, field_before, field_moves, end_room};
 
 use crate::form::Form;
@@ -17,7 +17,7 @@ use itoa::Buffer;
 use pickle_types::integer::IntegerType;
 use pickle_types::view::Name;
 use poke_batch::mode::Mode;
-use text_forms::style::Numbers;
+use text_output::style::Numbers;
 use value_text::print::suffix::{Suffix, suffix_of};
 
 fn digits(number: u128) -> u128

@@ -1,7 +1,7 @@
 //! The printed values whose length is bounded.
 
 use poke_batch::mode::Mode;
-use text_forms::style::Style;
+use text_output::style::Style;
 
 /// Printed values of types over files of so many bits, in a style, and in `mode` or, if that is `None`, in any mode.
 #[derive(Clone, Copy)]

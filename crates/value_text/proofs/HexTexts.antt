@@ -1,6 +1,6 @@
 -- Hexadecimal digits.
 use Rattle.std.proofs.Common.{◌≡◌, ℕ, zero, suc, ◌-◌, ◌%◌, ◌<◌, [], ◌∷◌, ◌++◌, refl, arith}
-use Rattle.text_forms.specs.HexDigits.{hex_digit}
+use Rattle.text_output.specs.HexDigits.{hex_digit}
 use Rattle.value_text.specs.StyledNumbers.{hex_digits, upper_digits}
 
 -- the digits before the last, and the last

@@ -9,7 +9,7 @@ use Rattle.value_text.specs.ValueText.{spelled, is_plain, comma}
 use Rattle.value_text.specs.JsonText.{no_key, json_string, json_escape}
 use Rattle.value_text.specs.declared.print.escape.Escapes.TheVariants.{Json}
 use Rattle.value_text.specs.Escaped.{quoted_by}
-use Rattle.text_forms.specs.declared.style.Style.{Style}
+use Rattle.text_output.specs.declared.style.Style.{Style}
 use Rattle.value_text.specs.StyledNumbers.{json_number, json_offset_in}
 use Rattle.value_text.specs.StyledJson.{styled_json, styled_json_members}
 use Rattle.value_text.specs.CutArrays.{is_past, kept_count, left_text, more_item}

@@ -1,7 +1,7 @@
 -- Laws of the lines of parts that have no parts.
 use Rattle.std.proofs.Common.{◌≡◌, ℕ, suc, add-one, ◌+◌, ◌-◌, ◌<◌, ◌≤◌, List, [], ◌++◌, Option, Some, None, true, false, refl, sym, ◌∙◌, ap, arith}
 use Rattle.std.specs.Option.{option_map, is_some}
-use Rattle.text_forms.specs.declared.style.Style.{Style}
+use Rattle.text_output.specs.declared.style.Style.{Style}
 use Rattle.pickle_meaning.specs.Values.{Value, Mapped, Members, label_of, members_of, member_count, member_at}
 use Rattle.value_text.specs.PathText.{step_text}
 use Rattle.value_text.specs.LinesText.{any_present, is_parted}

@@ -5,14 +5,14 @@ use Rattle.value_store.specs.declared.value.Kind.{Kind}
 use Rattle.value_store.specs.declared.value.Kind.TheVariants as kind
 use Rattle.pickle_meaning.specs.Values.{Value, Mapped, Label, IntegerLabel, OffsetLabel, TextLabel, ArrayLabel, StructLabel, UnionLabel, Members, member_count, member_at}
 use Rattle.value_store.specs.Labels.{kind_of, number_of, unit_of, bytes_of, name_of, member_name}
-use Rattle.text_forms.specs.declared.style.Style.{Style}
+use Rattle.text_output.specs.declared.style.Style.{Style}
 use Rattle.value_text.specs.declared.print.escape.Escapes.TheVariants.{Poke}
 use Rattle.value_text.specs.ValueText.{title_text, name_text}
 use Rattle.value_text.specs.Escaped.{quoted_by}
 use Rattle.value_text.specs.StyledNumbers.{integer_in, offset_in}
 use Rattle.value_text.specs.CutArrays.{is_past, kept_count, left_text, more_line}
 use Rattle.value_text.specs.PartText.{type_of}
-use Rattle.text_forms.specs.Brackets.{in_brackets}
+use Rattle.text_output.specs.Brackets.{in_brackets}
 use Rattle.value_text.specs.TreeText.{indent_text, prefix_text}
 use Rattle.value_text.specs.StyledTree.{styled_head, styled_lines, styled_parts, styled_tree}
 use Rattle.value_text.specs.LineText.{rest_text, part_text}

@@ -7,7 +7,7 @@ use Rattle.value_text.specs.declared.print.steps.Step.{Step}
 use Rattle.value_text.specs.declared.print.steps.Step.TheVariants.{Element, Field, Nameless}
 use Rattle.value_text.specs.PathText.{field_step, step_text, path_text}
 use Rattle.value_text.specs.Steps.{text_of}
-use Rattle.text_forms.specs.Brackets.{in_brackets}
+use Rattle.text_output.specs.Brackets.{in_brackets}
 
 -- the step to a part, by the kind of the value that has it
 pub step_to_element : (label : Label) (place : ℕ) → kind.Array ≡ kind_of label → step_text label place ≡ in_brackets place

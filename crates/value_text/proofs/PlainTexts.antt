@@ -3,10 +3,10 @@ use Rattle.std.proofs.Common.{◌≡◌, ℕ, suc, ℤ, ◌+◌, List, [], ◌++
 use Rattle.std.specs.Prelude.{codes}
 use Rattle.std.proofs.lemmas.Bool.{cases_Bool}
 use Rattle.pickle_types.specs.declared.integer.IntegerType.{IntegerType}
-use Rattle.text_forms.specs.declared.mode.Mode.{Mode}
-use Rattle.text_forms.specs.declared.mode.Mode.TheVariants.{Flat, Tree, Json, Lines}
-use Rattle.text_forms.specs.declared.style.Numbers.TheVariants.{Decimal}
-use Rattle.text_forms.specs.Styles.{plain}
+use Rattle.text_output.specs.declared.mode.Mode.{Mode}
+use Rattle.text_output.specs.declared.mode.Mode.TheVariants.{Flat, Tree, Json, Lines}
+use Rattle.text_output.specs.declared.style.Numbers.TheVariants.{Decimal}
+use Rattle.text_output.specs.Styles.{plain}
 use Rattle.pickle_meaning.specs.Values.{Value, Mapped, Label, IntegerLabel, OffsetLabel, TextLabel, ArrayLabel, StructLabel, UnionLabel, Members, NoMembers, MemberThen, AbsentThen, label_of, member_count}
 use Rattle.value_store.specs.Labels.{member_name}
 use Rattle.value_text.specs.ValueText.{offset_text, value_text, members_text, title_text, name_text, comma}
@@ -27,7 +27,7 @@ use Rattle.value_text.specs.declared.typed.Typed.{Typed}
 use Rattle.value_text.specs.TypedValue.{value_in, mapped_in}
 use Rattle.value_store.specs.declared.value.ValueRef.{ValueRef}
 use Rattle.value_store.specs.Refs.{value_shown}
-use Rattle.text_forms.specs.declared.style.Style.{Style}
+use Rattle.text_output.specs.declared.style.Style.{Style}
 
 plain_offset : (type : IntegerType) (unit : ℕ) (magnitude : ℤ) → offset_in Decimal type unit magnitude ≡ offset_text type unit magnitude
 unfolding offset_in unit_in offset_text

@@ -4,8 +4,8 @@ use Rattle.std.specs.Result.{is_err}
 use Rattle.std.specs.Io.KnownBytes.{Appends}
 use Rattle.std.proofs.KnownBytes.{Appends-trans, Appends-nil}
 use Rattle.std.proofs.lemmas.List.{append_assoc, append-nil}
-use Rattle.text_forms.specs.Written.{AppendsPart}
-use Rattle.text_forms.proofs.Parts.{part_first, part_next}
+use Rattle.text_output.specs.Written.{AppendsPart}
+use Rattle.text_output.proofs.Parts.{part_first, part_next}
 use Rattle.value_text.specs.declared.print.printer.Printer.{Printer}
 use Rattle.value_text.specs.Puts.{AppendsBut, Stands, HasPut, Puts, Ends}
 

@@ -8,7 +8,7 @@ use Rattle.value_store.specs.declared.value.Kind.TheVariants as kind
 use Rattle.pickle_types.specs.NodeParts.{node_part}
 use Rattle.pickle_meaning.specs.Values.{Label, IntegerLabel, OffsetLabel, TextLabel, ArrayLabel, StructLabel, UnionLabel}
 use Rattle.value_store.specs.Labels.{kind_of, name_of}
-use Rattle.text_forms.specs.Brackets.{in_brackets}
+use Rattle.text_output.specs.Brackets.{in_brackets}
 use Rattle.value_text.specs.ValueText.{title_text}
 use Rattle.value_text.specs.TypeWords.{Known, is_letter, found_word, inner_word, bare_word, known_word, some_word, node_word}
 

@@ -4,12 +4,12 @@ use Rattle.std.specs.Prelude.{unsigned_abs, nat_lt, ◌==◌}
 use Rattle.std.proofs.lemmas.Bool.{cases_Bool}
 use Rattle.std.proofs.lemmas.List.{append-nil, append_assoc}
 use Rattle.pickle_types.specs.declared.node.Node.{Node}
-use Rattle.text_forms.specs.HexDigits.{hex_digit}
-use Rattle.text_forms.specs.declared.style.Numbers.{Numbers}
-use Rattle.text_forms.specs.declared.style.Numbers.TheVariants.{Decimal, Hexadecimal, Digits}
-use Rattle.text_forms.specs.declared.style.Style.{Style}
-use Rattle.text_forms.specs.declared.style.Chars.{Chars}
-use Rattle.text_forms.specs.declared.style.Chars.TheVariants as form
+use Rattle.text_output.specs.HexDigits.{hex_digit}
+use Rattle.text_output.specs.declared.style.Numbers.{Numbers}
+use Rattle.text_output.specs.declared.style.Numbers.TheVariants.{Decimal, Hexadecimal, Digits}
+use Rattle.text_output.specs.declared.style.Style.{Style}
+use Rattle.text_output.specs.declared.style.Chars.{Chars}
+use Rattle.text_output.specs.declared.style.Chars.TheVariants as form
 use Rattle.pickle_meaning.specs.Values.{Naming, Label, IntegerLabel, OffsetLabel, TextLabel, ArrayLabel, StructLabel, UnionLabel, Value, Mapped, Members, NoMembers, MemberThen, AbsentThen, member_count}
 use Rattle.value_store.specs.Labels.{member_name}
 use Rattle.value_text.specs.JsonText.{json_string, key_before, no_key}

@@ -3,10 +3,10 @@ use Rattle.std.proofs.Common.{◌≡◌, ◌+◌, ℕ, pos, negsuc, refl, true, 
 use Rattle.std.specs.Fmt.{digits}
 use Rattle.pickle_types.specs.declared.integer.IntegerType.{IntegerType}
 use Rattle.pickle_meaning.specs.Values.{Value, Mapped, Label, IntegerLabel, OffsetLabel, TextLabel, ArrayLabel, StructLabel, UnionLabel, Members, NoMembers, MemberThen, AbsentThen}
-use Rattle.text_forms.specs.declared.mode.Mode.TheVariants.{Flat, Tree, Json, Lines}
-use Rattle.text_forms.specs.declared.style.Style.{Style}
-use Rattle.text_forms.specs.declared.style.Numbers.TheVariants.{Decimal, Hexadecimal, Digits}
-use Rattle.text_forms.specs.declared.style.Chars.TheVariants as char_form
+use Rattle.text_output.specs.declared.mode.Mode.TheVariants.{Flat, Tree, Json, Lines}
+use Rattle.text_output.specs.declared.style.Style.{Style}
+use Rattle.text_output.specs.declared.style.Numbers.TheVariants.{Decimal, Hexadecimal, Digits}
+use Rattle.text_output.specs.declared.style.Chars.TheVariants as char_form
 use Rattle.value_text.specs.ValueText.{integer_text, offset_text, string_text}
 use Rattle.value_text.specs.JsonText.{json_string}
 use Rattle.value_text.specs.CharTexts.{trimmed, chars_in, has_chars}

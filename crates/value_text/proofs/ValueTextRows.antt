@@ -3,7 +3,7 @@ use Rattle.std.proofs.Common.{◌≡◌, ℕ, pos, negsuc, refl, true, false, co
 use Rattle.std.specs.Fmt.{digits}
 use Rattle.pickle_types.specs.declared.integer.IntegerType.{IntegerType}
 use Rattle.pickle_meaning.specs.Values.{Value, Mapped, Label, IntegerLabel, OffsetLabel, TextLabel, ArrayLabel, StructLabel, UnionLabel, NoMembers, MemberThen, AbsentThen}
-use Rattle.text_forms.specs.declared.mode.Mode.TheVariants.{Flat}
+use Rattle.text_output.specs.declared.mode.Mode.TheVariants.{Flat}
 use Rattle.value_text.specs.Printed.{printed}
 use Rattle.value_text.specs.ValueText.{integer_text, offset_text, string_text}
 

@@ -1,9 +1,9 @@
 -- The cells of a table.
 use Rattle.std.specs.Prelude.{ℕ, List}
 use Rattle.pickle_meaning.specs.Values.{Value}
-use Rattle.text_forms.specs.declared.mode.Mode.{Mode}
-use Rattle.text_forms.specs.declared.mode.Mode.TheVariants.{Flat, Tree, Json, Lines}
-use Rattle.text_forms.specs.declared.style.Style.{Style}
+use Rattle.text_output.specs.declared.mode.Mode.{Mode}
+use Rattle.text_output.specs.declared.mode.Mode.TheVariants.{Flat, Tree, Json, Lines}
+use Rattle.text_output.specs.declared.style.Style.{Style}
 use Rattle.value_text.specs.declared.typed.Typed.{Typed}
 use Rattle.value_text.specs.StyledValue.{styled_value}
 use Rattle.value_text.specs.StyledJson.{styled_json}

@@ -1,6 +1,6 @@
 -- Arrays of which only the first elements are printed.
 use Rattle.std.specs.Prelude.{ℕ, Bool, false, nat_le, nat_lt, List, [], ◌++◌, Option, Some, None, if◌then◌else◌, ◌==◌, codes, decimal}
-use Rattle.text_forms.specs.declared.style.Style.{Style}
+use Rattle.text_output.specs.declared.style.Style.{Style}
 use Rattle.pickle_meaning.specs.Values.{Label, IntegerLabel, OffsetLabel, TextLabel, ArrayLabel, StructLabel, UnionLabel}
 use Rattle.value_text.specs.ValueText.{comma}
 use Rattle.value_text.specs.TreeText.{indent_text}

@@ -1,6 +1,6 @@
 -- The printed value in JSON, in the parts that are written one after the other.
 use Rattle.std.specs.Prelude.{ℕ, Bool, true, List, ◌++◌, None, codes}
-use Rattle.text_forms.specs.declared.style.Style.{Style}
+use Rattle.text_output.specs.declared.style.Style.{Style}
 use Rattle.pickle_meaning.specs.Values.{Value, label_of, members_of}
 use Rattle.value_text.specs.declared.typed.Typed.{Typed}
 use Rattle.value_text.specs.TypedValue.{typed_shown}

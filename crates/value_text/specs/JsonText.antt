@@ -3,7 +3,7 @@ use Rattle.std.specs.Prelude.{ℕ, ℤ, suc, ◌/◌, ◌%◌, Bool, true, false
 use Rattle.std.specs.Fmt.{signed_decimal}
 use Rattle.pickle_meaning.specs.Values.{Naming, Label, IntegerLabel, OffsetLabel, TextLabel, ArrayLabel, StructLabel, UnionLabel, Value, Mapped, Members, NoMembers, MemberThen, AbsentThen}
 use Rattle.value_store.specs.Labels.{member_name}
-use Rattle.text_forms.specs.HexDigits.{hex_digit}
+use Rattle.text_output.specs.HexDigits.{hex_digit}
 use Rattle.value_text.specs.ValueText.{spelled, comma}
 
 -- the escape of a byte, for the character of its number: a short form for these four, else `\u00` and two digits

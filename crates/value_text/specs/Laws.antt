@@ -1,8 +1,8 @@
 -- The laws of printed values.
 use Rattle.std.specs.Prelude.{◌≡◌, ℕ, List, Option}
 use Rattle.pickle_types.specs.declared.node.Node.{Node}
-use Rattle.text_forms.specs.declared.mode.Mode.{Mode}
-use Rattle.text_forms.specs.Styles.{plain}
+use Rattle.text_output.specs.declared.mode.Mode.{Mode}
+use Rattle.text_output.specs.Styles.{plain}
 use Rattle.value_text.specs.Printed.{printed}
 use Rattle.value_text.specs.Styled.{styled_printed, with_chars}
 use Rattle.pickle_meaning.specs.Values.{Value}
@@ -10,8 +10,8 @@ use Rattle.value_text.specs.Json.{Reads, IsJson}
 use Rattle.value_text.specs.JsonValue.{Json, json_of}
 use Rattle.value_text.specs.JsonText.{json_line}
 use Rattle.value_text.specs.SmallParts.{HasSmallParts, HasFewMembers}
-use Rattle.text_forms.specs.declared.mode.Mode.TheVariants as mode
-use Rattle.text_forms.specs.declared.style.Style.{Style}
+use Rattle.text_output.specs.declared.mode.Mode.TheVariants as mode
+use Rattle.text_output.specs.declared.style.Style.{Style}
 use Rattle.value_text.specs.StyledJsonValue.{styled_json_of}
 use Rattle.value_text.specs.LineParts.{NamesParts}
 use Rattle.value_text.specs.LinesText.{part_lines}

@@ -1,6 +1,6 @@
 -- The lines of the parts that have no parts, as they are written one after the other.
 use Rattle.std.specs.Prelude.{ℕ, List, ◌++◌}
-use Rattle.text_forms.specs.declared.style.Style.{Style}
+use Rattle.text_output.specs.declared.style.Style.{Style}
 use Rattle.pickle_meaning.specs.Values.{label_of, members_of}
 use Rattle.value_text.specs.declared.typed.Typed.{Typed}
 use Rattle.value_text.specs.TypedValue.{typed_shown}

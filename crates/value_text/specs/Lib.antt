@@ -12,7 +12,7 @@ pub mod LeafText
 pub mod Printed
 pub mod Suffixes
 pub mod PartText
-pub use Rattle.text_forms.specs.Written
+pub use Rattle.text_output.specs.Written
 pub mod Puts
 pub mod Json
 pub mod JsonValue

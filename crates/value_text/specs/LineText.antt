@@ -1,6 +1,6 @@
 -- The lines of a value in the parts that are written one after the other.
 use Rattle.std.specs.Prelude.{ℕ, ◌+◌, List, [], ◌++◌, if◌then◌else◌, codes}
-use Rattle.text_forms.specs.declared.style.Style.{Style}
+use Rattle.text_output.specs.declared.style.Style.{Style}
 use Rattle.pickle_meaning.specs.Values.{Label, Value, label_of, members_of, member_count}
 use Rattle.value_store.specs.Labels.{kind_of}
 use Rattle.value_text.specs.TreeText.{indent_text, prefix_text, has_parts}

@@ -2,7 +2,7 @@
 use Rattle.std.specs.Prelude.{ℕ, List, [], ◌∷◌, ◌++◌, Some, None, codes, decimal}
 use Rattle.pickle_meaning.specs.Values.{Naming, Label, ArrayLabel}
 use Rattle.value_store.specs.Labels.{member_name}
-use Rattle.text_forms.specs.Brackets.{in_brackets}
+use Rattle.text_output.specs.Brackets.{in_brackets}
 
 -- the step to a field or an alternative: its name or, if it has none, its place among the declared fields, from 0
 abbrev pub field_step : Naming → (place : ℕ) → List ℕ

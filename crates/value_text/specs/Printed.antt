@@ -1,8 +1,8 @@
 -- The whole output for a value, in each mode.
 use Rattle.std.specs.Prelude.{ℕ, List}
 use Rattle.pickle_meaning.specs.Values.{Value}
-use Rattle.text_forms.specs.declared.mode.Mode.{Mode}
-use Rattle.text_forms.specs.declared.mode.Mode.TheVariants.{Flat, Tree, Json, Lines}
+use Rattle.text_output.specs.declared.mode.Mode.{Mode}
+use Rattle.text_output.specs.declared.mode.Mode.TheVariants.{Flat, Tree, Json, Lines}
 use Rattle.value_text.specs.ValueText.{flat_text}
 use Rattle.value_text.specs.TreeText.{tree_text}
 use Rattle.value_text.specs.JsonText.{json_line}

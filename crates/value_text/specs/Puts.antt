@@ -1,7 +1,7 @@
 -- What a printer did with a text.
 use Rattle.std.specs.Prelude.{◌≡◌, ℕ, Bool, true, false, List, ◌++◌, Option, Result, OnOk, OnErr}
 use Rattle.std.specs.Io.KnownBytes.{Appends}
-use Rattle.text_forms.specs.Written.{AppendsPart}
+use Rattle.text_output.specs.Written.{AppendsPart}
 use Rattle.value_text.specs.declared.print.printer.Printer.{Printer}
 
 -- known bytes grow by a text but for a remainder at its end

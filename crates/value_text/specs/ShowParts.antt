@@ -5,8 +5,8 @@ use Rattle.pickle_types.specs.declared.node.Node.{Node}
 use Rattle.pickle_meaning.specs.Values.{Label, Value, label_of, members_of, member_at, member_count}
 use Rattle.value_store.specs.declared.value.ValueRef.{ValueRef}
 use Rattle.value_store.specs.Refs.{value_shown}
-use Rattle.text_forms.specs.declared.style.Look.{Look}
-use Rattle.text_forms.specs.Brackets.{in_brackets}
+use Rattle.text_output.specs.declared.style.Look.{Look}
+use Rattle.text_output.specs.Brackets.{in_brackets}
 use Rattle.value_text.specs.declared.typed.Types.{Types}
 use Rattle.value_text.specs.declared.typed.Typed.{Typed}
 use Rattle.value_text.specs.TypedValue.{nodes_in, char_node_in, types_in, node_in, mapped_in}

@@ -4,8 +4,8 @@ use Rattle.std.specs.Prelude.{ℕ, suc, ◌+◌, ◌-◌, ◌*◌, ◌/◌, ◌%
 use Rattle.std.specs.List.{flat_map, range_with_len}
 use Rattle.pickle_meaning.specs.Values.{Naming, Label, IntegerLabel, OffsetLabel, TextLabel, ArrayLabel, StructLabel, UnionLabel, Value, Mapped, Members, NoMembers, MemberThen, AbsentThen, label_of, start_of, end_of, members_of, member_count, member_at}
 use Rattle.value_store.specs.Labels.{kind_of, member_name}
-use Rattle.text_forms.specs.Brackets.{in_brackets}
-use Rattle.text_forms.specs.HexDigits.{hex_digit}
+use Rattle.text_output.specs.Brackets.{in_brackets}
+use Rattle.text_output.specs.HexDigits.{hex_digit}
 use Rattle.value_text.specs.CharTexts.{has_chars, char_of, chars_in, trimmed}
 use Rattle.value_text.specs.LinesText.{any_present}
 use Rattle.value_text.specs.PartTypes.{part_node}

@@ -2,7 +2,7 @@
 use Rattle.std.specs.Prelude.{ℕ, zero, suc, ◌*◌, ◌-◌, ◌/◌, ◌%◌, ◌^◌, ◌+◌, ℤ, pos, negsuc, Bool, List, [], ◌∷◌, ◌++◌, Option, Some, None, ◌==◌, nat_lt, if◌then◌else◌, codes, decimal, take, drop, length}
 use Rattle.std.specs.Fmt.{signed_decimal}
 use Rattle.std.specs.List.{prefix_len}
-use Rattle.text_forms.specs.HexDigits.{hex_digit}
+use Rattle.text_output.specs.HexDigits.{hex_digit}
 use Rattle.value_text.specs.ValueText.{string_text}
 
 -- the last hexadecimal digits of a number, so many

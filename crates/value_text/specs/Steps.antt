@@ -4,7 +4,7 @@ use Rattle.value_text.specs.declared.print.steps.Step.{Step}
 use Rattle.value_text.specs.declared.print.steps.Step.TheVariants.{Element, Field, Nameless}
 use Rattle.value_text.specs.declared.print.steps.Steps.{Steps, Start, Then'}
 use Rattle.value_text.specs.PathText.{field_step}
-use Rattle.text_forms.specs.Brackets.{in_brackets}
+use Rattle.text_output.specs.Brackets.{in_brackets}
 
 abbrev pub text_of : Step → List ℕ
 text_of (Element place) = in_brackets place

@@ -2,11 +2,11 @@
 use Rattle.std.specs.Prelude.{ℕ, List, Option}
 use Rattle.pickle_types.specs.declared.node.Node.{Node}
 use Rattle.pickle_meaning.specs.Values.{Value}
-use Rattle.text_forms.specs.declared.mode.Mode.{Mode}
-use Rattle.text_forms.specs.declared.mode.Mode.TheVariants.{Flat, Tree, Json, Lines}
-use Rattle.text_forms.specs.declared.style.Style.{Style}
-use Rattle.text_forms.specs.declared.style.Chars.{Chars}
-use Rattle.text_forms.specs.declared.style.Chars.TheVariants.{Numbers, Text}
+use Rattle.text_output.specs.declared.mode.Mode.{Mode}
+use Rattle.text_output.specs.declared.mode.Mode.TheVariants.{Flat, Tree, Json, Lines}
+use Rattle.text_output.specs.declared.style.Style.{Style}
+use Rattle.text_output.specs.declared.style.Chars.{Chars}
+use Rattle.text_output.specs.declared.style.Chars.TheVariants.{Numbers, Text}
 use Rattle.value_text.specs.declared.typed.Typed.{Typed}
 use Rattle.value_text.specs.CharTexts.{with_texts}
 use Rattle.value_text.specs.TypedValue.{nodes_in, char_node_in, types_in, node_in, mapped_in}

@@ -1,6 +1,6 @@
 -- The printed value in a style, in JSON.
 use Rattle.std.specs.Prelude.{ℕ, suc, Bool, true, false, List, [], ◌++◌, Option, None, if◌then◌else◌, codes}
-use Rattle.text_forms.specs.declared.style.Style.{Style}
+use Rattle.text_output.specs.declared.style.Style.{Style}
 use Rattle.pickle_meaning.specs.Values.{IntegerLabel, OffsetLabel, TextLabel, ArrayLabel, StructLabel, UnionLabel, Value, Mapped, Members, NoMembers, MemberThen, AbsentThen, member_count}
 use Rattle.value_text.specs.ValueText.{comma}
 use Rattle.value_text.specs.JsonText.{json_string, key_before, no_key}

@@ -1,6 +1,6 @@
 -- The printed value in a style, with a line for each part that has no parts itself.
 use Rattle.std.specs.Prelude.{ℕ, suc, ◌-◌, List, [], ◌++◌, Option, Some, None, if◌then◌else◌, codes, decimal}
-use Rattle.text_forms.specs.declared.style.Style.{Style}
+use Rattle.text_output.specs.declared.style.Style.{Style}
 use Rattle.pickle_meaning.specs.Values.{Value, Mapped, Members, NoMembers, MemberThen, AbsentThen, label_of, start_of, end_of, members_of, member_at, member_count}
 use Rattle.value_text.specs.PathText.{step_text, path_text}
 use Rattle.value_text.specs.LinesText.{bits_cell, place_cells, is_parted}

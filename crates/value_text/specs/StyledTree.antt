@@ -1,9 +1,9 @@
 -- The printed value in a style, over lines: a line for each value, and the lines of its parts below it.
 use Rattle.std.specs.Prelude.{ℕ, suc, ◌+◌, List, [], ◌++◌, Option, if◌then◌else◌, codes}
-use Rattle.text_forms.specs.declared.style.Style.{Style}
+use Rattle.text_output.specs.declared.style.Style.{Style}
 use Rattle.pickle_meaning.specs.Values.{Label, IntegerLabel, OffsetLabel, TextLabel, ArrayLabel, StructLabel, UnionLabel, Value, Mapped, Members, NoMembers, MemberThen, AbsentThen, member_count}
 use Rattle.value_store.specs.Labels.{kind_of}
-use Rattle.text_forms.specs.Brackets.{in_brackets}
+use Rattle.text_output.specs.Brackets.{in_brackets}
 use Rattle.value_text.specs.ValueText.{string_text, title_text}
 use Rattle.value_text.specs.TreeText.{line_text, prefix_text, has_parts}
 use Rattle.value_text.specs.StyledNumbers.{integer_in, offset_in}

@@ -1,6 +1,6 @@
 -- The printed value in a style, on one line.
 use Rattle.std.specs.Prelude.{ℕ, suc, Bool, true, false, List, [], ◌++◌, Option, None, if◌then◌else◌, codes}
-use Rattle.text_forms.specs.declared.style.Style.{Style}
+use Rattle.text_output.specs.declared.style.Style.{Style}
 use Rattle.pickle_meaning.specs.Values.{Label, IntegerLabel, OffsetLabel, TextLabel, ArrayLabel, StructLabel, UnionLabel, Value, Mapped, Members, NoMembers, MemberThen, AbsentThen, member_count}
 use Rattle.value_store.specs.Labels.{member_name}
 use Rattle.value_text.specs.ValueText.{string_text, title_text, name_text, comma}

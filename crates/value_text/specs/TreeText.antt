@@ -4,7 +4,7 @@ use Rattle.value_store.specs.declared.value.Kind.{Kind}
 use Rattle.value_store.specs.declared.value.Kind.TheVariants.{Integer, Offset, Text, Array, Struct, Union}
 use Rattle.pickle_meaning.specs.Values.{Label, IntegerLabel, OffsetLabel, TextLabel, ArrayLabel, StructLabel, UnionLabel, Value, Mapped, Members, NoMembers, MemberThen, AbsentThen, member_count}
 use Rattle.value_store.specs.Labels.{kind_of, member_name}
-use Rattle.text_forms.specs.Brackets.{in_brackets}
+use Rattle.text_output.specs.Brackets.{in_brackets}
 use Rattle.value_text.specs.ValueText.{integer_text, offset_text, string_text, title_text, name_text}
 
 -- two blanks for each level

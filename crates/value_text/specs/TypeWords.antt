@@ -7,7 +7,7 @@ use Rattle.pickle_types.specs.declared.node.Shape.TheVariants as shape
 use Rattle.pickle_types.specs.NodeParts.{node_part}
 use Rattle.pickle_types.specs.Table.{name_of as letters_of}
 use Rattle.pickle_meaning.specs.Values.{Label, IntegerLabel, OffsetLabel, TextLabel, ArrayLabel, StructLabel, UnionLabel}
-use Rattle.text_forms.specs.Brackets.{in_brackets}
+use Rattle.text_output.specs.Brackets.{in_brackets}
 use Rattle.value_text.specs.ValueText.{unit_text, title_text}
 
 -- what is known of a value's types: the nodes of its table, and which of them is `char`

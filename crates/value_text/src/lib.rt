@@ -7,4 +7,4 @@ pub mod laws;
 pub mod print;
 pub mod typed;
 
-pub use text_forms::{hex, mode, style, write};
+pub use text_output::{hex, mode, style, write};

@@ -21,7 +21,7 @@ mod tree;
 ghost use Rattle.std.specs.Prelude.{◌≡◌, OnOk, OnErr};
 ghost use Rattle.std.specs.Io.KnownBytes.{Appends};
 ghost use Rattle.value_store.specs.Refs.{value_shown};
-ghost use Rattle.text_forms.specs.Written.{AppendsPart};
+ghost use Rattle.text_output.specs.Written.{AppendsPart};
 ghost use Rattle.value_text.specs.Puts.{Puts};
 ghost use Rattle.value_text.specs.Printed.{printed};
 ghost use Rattle.value_text.specs.ShowParts.{shown_at};
@@ -38,7 +38,7 @@ pub use json_string::print_json_string;
 use line::Line;
 use printer::Printer;
 use std::io::Write;
-use text_forms::write::WriteFault;
+use text_output::write::WriteFault;
 use value_store::ValueRef;
 
 /// Prints a value in a mode. If the writer fails, what it accepted is the first bytes of the printed value, but not all

@@ -17,12 +17,12 @@ ghost use Rattle.value_store.specs.Moves.{Moves, Places as PlacesNumber};
 ghost use Rattle.value_store.specs.Names.{names_at, part_name};
 ghost use Rattle.value_store.specs.Slots.{level_count, HoldsInRoom};
 
-use crate::mapper::blame::check;
 use crate::mapper::level::leave_level;
 use crate::mapper::read::read_digits;
 use crate::mapper::state::Mapper;
 use crate::mapper::stop::Stop;
 use crate::mapper::watch::Watch;
+use crate::mapper::watched_clauses::check;
 use bit_space::{Order, Space};
 use pickle_meaning::faults::MapFaultKind;
 use pickle_types::integer::IntegerType;

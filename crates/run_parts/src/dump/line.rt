@@ -1,9 +1,9 @@
 //! A line of a dump.
 ghost use Rattle.std.specs.Prelude.{◌≡◌, ℕ, ◌+◌, ◌-◌, ◌*◌, ◌^◌, ◌<◌, ◌≤◌, [], ◌∷◌, ◌++◌, length, map, max, take};
 ghost use Rattle.run_parts.specs.DumpText.{place_text, gap, column, columns, shown, line_text};
-ghost use Rattle.text_forms.specs.HexDigits.{hex_digit};
+ghost use Rattle.text_output.specs.HexDigits.{hex_digit};
 
-use text_forms::hex::hex_digit;
+use text_output::hex::hex_digit;
 
 /// The bytes of the longest line: a place of 16 digits, 16 columns of up to 3 bytes, 16 bytes as text, and 4 bytes between
 /// and after them.

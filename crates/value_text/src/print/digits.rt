@@ -2,7 +2,7 @@
 ghost use Rattle.std.specs.Prelude.{◌≡◌, ◌+◌, ◌≤◌, [], ◌∷◌, ◌++◌, length, take, codes, decimal, unsigned_abs};
 ghost use Rattle.std.specs.Fmt.{signed_decimal};
 ghost use Rattle.value_text.specs.Suffixes.{sign_letter, letter_text, suffix_text};
-ghost use Rattle.text_forms.specs.Brackets.{in_brackets};
+ghost use Rattle.text_output.specs.Brackets.{in_brackets};
 ghost use Rattle.value_text.specs.JsonText.{place_key};
 ghost use Rattle.value_text.specs.LinesText.{bits_cell};
 

@@ -1,14 +1,14 @@
 //! Prints a string in JSON alone.
 ghost use Rattle.std.specs.Prelude.{OnOk, OnErr};
 ghost use Rattle.std.specs.Io.KnownBytes.{Appends};
-ghost use Rattle.text_forms.specs.Written.{AppendsPart};
+ghost use Rattle.text_output.specs.Written.{AppendsPart};
 ghost use Rattle.value_text.specs.JsonText.{json_string};
 
 use super::escape::Escapes;
 use super::line::Line;
 use super::printer::Printer;
 use std::io::Write;
-use text_forms::write::WriteFault;
+use text_output::write::WriteFault;
 
 /// Prints bytes as a JSON string, without a line feed. Bytes from 0x20 to 0x7e are themselves but for `"` and `\`, and any
 /// other byte is the escape of the character of its number. If the writer fails, what it accepted is the first bytes of

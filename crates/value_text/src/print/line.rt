@@ -1,7 +1,7 @@
 //! Gathers small texts, so that the writer is called once for many of them.
 ghost use Rattle.std.specs.Prelude.{◌≡◌, ◌+◌, ◌≤◌, ◌++◌, [], true, length, codes, decimal, unsigned_abs};
 ghost use Rattle.std.specs.Fmt.{signed_decimal};
-ghost use Rattle.text_forms.specs.Brackets.{in_brackets};
+ghost use Rattle.text_output.specs.Brackets.{in_brackets};
 ghost use Rattle.value_text.specs.Suffixes.{suffix_text};
 ghost use Rattle.value_text.specs.ValueText.{comma};
 ghost use Rattle.value_text.specs.JsonText.{place_key};

@@ -1,7 +1,7 @@
 //! The printer that all output of a value goes through.
 ghost use Rattle.std.specs.Prelude.{◌≡◌, ◌+◌, ◌≤◌, ◌++◌, [], length, codes, decimal};
 ghost use Rattle.std.specs.Fmt.{signed_decimal};
-ghost use Rattle.text_forms.specs.Brackets.{in_brackets};
+ghost use Rattle.text_output.specs.Brackets.{in_brackets};
 ghost use Rattle.value_text.specs.Puts.{Puts, Ends};
 ghost use Rattle.value_text.specs.Suffixes.{suffix_text};
 ghost use Rattle.value_text.specs.ValueText.{comma};
@@ -15,7 +15,7 @@ use super::line::Line;
 use super::suffix::Suffix;
 use itoa::Buffer;
 use std::io::Write;
-use text_forms::write::{WriteFault, put};
+use text_output::write::{WriteFault, put};
 
 /// A writer, and the text that isn't written to it yet. After the writer's first fault nothing more is written. The
 /// calls that put a text therefore return nothing; [`Printer::finish`] returns the fault.

@@ -24,7 +24,7 @@ use crate::typed::Typed;
 use dump::is_bytes;
 use inline::{any_present, is_inline, is_number_row};
 use std::io::Write;
-use text_forms::style::Look;
+use text_output::style::Look;
 use value_store::{Kind, ValueRef};
 
 /// What stands for parts that are left out.

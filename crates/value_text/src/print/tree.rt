@@ -4,7 +4,7 @@ ghost use Rattle.value_store.specs.Refs.{rank_of};
 ghost use Rattle.value_text.specs.TypedValue.{value_in, typed_shown};
 ghost use Rattle.value_text.specs.Puts.{Puts};
 ghost use Rattle.value_text.specs.ValueText.{name_text};
-ghost use Rattle.text_forms.specs.Brackets.{in_brackets};
+ghost use Rattle.text_output.specs.Brackets.{in_brackets};
 ghost use Rattle.value_text.specs.TreeText.{indent_text, has_parts};
 ghost use Rattle.value_text.specs.StyledTree.{styled_tree};
 ghost use Rattle.value_text.specs.CutArrays.{left_text, more_line};

@@ -1,6 +1,6 @@
 use Rattle.std.proofs.Common.{codes}
 use Rattle.run_parts.proofs.Sayings.{on_err}
-use Rattle.text_forms.proofs.Parts.{part_first, part_next}
+use Rattle.text_output.proofs.Parts.{part_first, part_next}
 use Rattle.pickle_json.specs.Checks.{lead}
 use Rattle.pickle_json.proofs.Columns.{same_text}
 use Rattle.pickle_json.proofs.check.put_one.Goals as goal

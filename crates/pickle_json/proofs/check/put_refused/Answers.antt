@@ -1,6 +1,6 @@
 use Rattle.std.proofs.Common.{codes}
 use Rattle.run_parts.proofs.Sayings.{on_err}
-use Rattle.text_forms.proofs.Parts.{part_first, part_next}
+use Rattle.text_output.proofs.Parts.{part_first, part_next}
 use Rattle.pickle_json.proofs.check.put_refused.Goals as goal
 
 pub returns-in_err-put-clause-err : goal.returns-in_err-put-clause-err

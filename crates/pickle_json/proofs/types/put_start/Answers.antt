@@ -1,5 +1,5 @@
 use Rattle.run_parts.proofs.Sayings.{on_err}
-use Rattle.text_forms.proofs.Parts.{part_first, part_next}
+use Rattle.text_output.proofs.Parts.{part_first, part_next}
 use Rattle.pickle_json.proofs.types.put_start.Goals as goal
 
 pub returns-in_err-put_string-clause-err : goal.returns-in_err-put_string-clause-err

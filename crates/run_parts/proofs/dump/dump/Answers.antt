@@ -1,6 +1,6 @@
 use Rattle.std.proofs.lemmas.Result.{err_from_is_err_and}
 use Rattle.std.proofs.KnownBytes.{Appends-trans}
-use Rattle.text_forms.proofs.Parts.{part_first, part_next}
+use Rattle.text_output.proofs.Parts.{part_first, part_next}
 use Rattle.run_parts.specs.DumpText.{dump_text}
 use Rattle.run_parts.proofs.dump.dump.Goals as goal
 

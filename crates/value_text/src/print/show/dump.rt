@@ -1,7 +1,7 @@
 //! Writes arrays of bytes as dumps, 16 bytes in a line.
 ghost use Rattle.std.specs.Prelude.{◌≡◌, ◌+◌, ◌*◌, ◌-◌, ◌/◌, ◌%◌, ◌<◌, ◌≤◌, ◌^◌, ◌++◌, ◌∷◌, [], codes};
 ghost use Rattle.pickle_meaning.specs.Values.{label_of, members_of, member_count, member_at};
-ghost use Rattle.text_forms.specs.HexDigits.{hex_digit};
+ghost use Rattle.text_output.specs.HexDigits.{hex_digit};
 ghost use Rattle.value_store.specs.Refs.{value_shown};
 ghost use Rattle.value_text.specs.Puts.{Puts};
 ghost use Rattle.value_text.specs.ShowText.{is_bytes, is_some_byte, is_byte_label, columns, column, digits_of_byte, gap, shown_letters, letter, letter_at, rest_of};
@@ -12,7 +12,7 @@ use super::is_array;
 use super::text::char_of;
 use crate::hex::hex_digit;
 use std::io::Write;
-use text_forms::style::Look;
+use text_output::style::Look;
 use value_store::{Kind, ValueRef};
 
 /// Whether a value is an array of unsigned integers of 8 bits, by its first element.

@@ -1,7 +1,7 @@
 //! Writes hexadecimal numbers.
 ghost use Rattle.std.specs.Prelude.{◌≡◌, ◌<◌, ◌/◌, ◌%◌, ◌^◌};
 ghost use Rattle.std.specs.List.{prefix_len};
-ghost use Rattle.text_forms.specs.HexDigits.{hex_digit};
+ghost use Rattle.text_output.specs.HexDigits.{hex_digit};
 ghost use Rattle.value_text.specs.Puts.{Puts};
 ghost use Rattle.value_text.specs.ShowWords.{hex_digits, hex_text, is_zero_digit};
 

@@ -11,7 +11,7 @@ use super::super::printer::Printer;
 use super::super::tree::has_parts;
 use super::is_array;
 use std::io::Write;
-use text_forms::style::Look;
+use text_output::style::Look;
 use value_store::{Kind, ValueRef};
 
 /// Whether a value goes on the line of its name: a number, an offset, a string, a struct of at most 64 bits whose

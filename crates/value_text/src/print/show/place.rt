@@ -5,7 +5,7 @@ ghost use Rattle.value_text.specs.Puts.{Puts};
 ghost use Rattle.value_text.specs.ShowText.{margin, name_cell, found_name};
 ghost use Rattle.value_text.specs.ShowWords.{place_text, byte_place, bit_place};
 ghost use Rattle.value_text.specs.ShowParts.{name_at, lent_found};
-ghost use Rattle.text_forms.specs.Brackets.{in_brackets};
+ghost use Rattle.text_output.specs.Brackets.{in_brackets};
 
 use super::super::printer::Printer;
 use super::hex::eight_digits;

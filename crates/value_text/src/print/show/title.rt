@@ -2,7 +2,7 @@
 ghost use Rattle.std.specs.Prelude.{◌++◌};
 ghost use Rattle.pickle_types.specs.NodeParts.{node_part};
 ghost use Rattle.value_store.specs.Refs.{value_shown};
-ghost use Rattle.text_forms.specs.Brackets.{in_brackets};
+ghost use Rattle.text_output.specs.Brackets.{in_brackets};
 ghost use Rattle.value_text.specs.Puts.{Puts};
 ghost use Rattle.value_text.specs.TypedValue.{nodes_in, node_in, mapped_in};
 ghost use Rattle.value_text.specs.ShowText.{dim_start, dim_end};
@@ -13,7 +13,7 @@ use super::super::printer::Printer;
 use crate::typed::{Typed, Types};
 use pickle_types::view::part_node;
 use std::io::Write;
-use text_forms::style::Look;
+use text_output::style::Look;
 use value_store::{Kind, ValueRef};
 
 /// How many levels of arrays a word for a type has at most.

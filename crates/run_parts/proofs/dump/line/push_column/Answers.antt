@@ -1,7 +1,7 @@
 use Rattle.std.proofs.Common.{rules, arith, ◌≡◌, ◌∙◌, ◌/◌, ◌%◌, ◌++◌, ◌∷◌, [], ap, List, ℕ, get_or, take}
 use Rattle.std.proofs.lemmas.Nat.{and_mask}
 use Rattle.std.proofs.lemmas.Option.{slice_get-get_or, slice_get_past}
-use Rattle.text_forms.specs.HexDigits.{hex_digit}
+use Rattle.text_output.specs.HexDigits.{hex_digit}
 use Rattle.run_parts.proofs.DumpLines.{column_some, column_none}
 use Rattle.run_parts.proofs.dump.line.push_column.Goals as goal
 

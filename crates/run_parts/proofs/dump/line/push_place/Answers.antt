@@ -1,7 +1,7 @@
 use Rattle.std.proofs.Common.{rules, arith, ◌≡◌, ◌∙◌, ◌-◌, ◌*◌, ◌/◌, ◌^◌, ◌++◌, ◌∷◌, [], ap, sym, List, ℕ, take}
 use Rattle.std.specs.Prelude.{bit_and}
 use Rattle.std.proofs.lemmas.List.{append-nil, append_assoc}
-use Rattle.text_forms.specs.HexDigits.{hex_digit}
+use Rattle.text_output.specs.HexDigits.{hex_digit}
 use Rattle.run_parts.proofs.DumpLines.{hex_digits, no_digit, digit_more, place_is, all_digits}
 use Rattle.run_parts.proofs.dump.line.push_place.Goals as goal
 

@@ -1,5 +1,5 @@
 use Rattle.std.proofs.Common.{rules, ◌%◌, [], ◌∷◌}
-use Rattle.text_forms.specs.HexDigits.{hex_digit}
+use Rattle.text_output.specs.HexDigits.{hex_digit}
 use Rattle.value_text.specs.Puts.{Puts}
 use Rattle.value_text.proofs.Puts.{puts_next}
 use Rattle.value_text.proofs.HexTexts.{digits_end}

@@ -1,0 +1,20 @@
+use Rattle.std.proofs.Common.{codes}
+use Rattle.std.proofs.lemmas.Result.{IfOk-weaker}
+use Rattle.clap.specs.Simple.{new_app}
+use Rattle.command_line.proofs.Declared.{added}
+use Rattle.command_line.specs.Commands.{get_rule, repeated, line_mode_rule}
+use Rattle.command_line.proofs.words.commands.each.Goals as goal
+
+pub returns : goal.returns
+returns c =
+    let start = c.described-command.ensures in
+    IfOk-weaker c.arg-7.result _ _ (λ made last without.
+    let mapped = c.in_ok-with_mapping.ensures (new_app (codes "each")) (repeated get_rule) without start c.paths.ensures in
+    let a1 = added _ _ _ _ _ c.in_ok-command.ensures mapped c.absent.ensures in
+    let styled = c.in_ok-with_style.ensures _ (line_mode_rule c.args.choices) a1 c.mode.ensures in
+    let b1 = added _ _ _ _ _ c.in_ok-arg.ensures styled c.why.ensures in
+    let b2 = added _ _ _ _ _ c.in_ok-arg-2.ensures b1 c.flush.ensures in
+    let b3 = added _ _ _ _ _ c.in_ok-arg-3.ensures b2 c.list_of_files.ensures in
+    let b4 = added _ _ _ _ _ c.in_ok-arg-4.ensures b3 c.pickle.ensures in
+    let b5 = added _ _ _ _ _ c.in_ok-arg-5.ensures b4 c.name.ensures in
+    added _ _ _ _ _ last b5 (c.in_ok-files.ensures without)) c.arg-7.ensures

@@ -1,0 +1,212 @@
+-- What the arguments of a command request, by what clap found among them.
+use Rattle.std.specs.Prelude.{◌≡◌, ◌≢◌, ◌⊎◌, ℕ, Bool, true, false, not, List, [], map, Option, Some, None, string_bytes, codes}
+use Rattle.std.specs.Option.{unwrap_or, option_map_or}
+use Rattle.clap.specs.Matches.{first_value, one_text, matched_of, raw_values}
+use Rattle.clap.specs.declared.parser.matches.Found.{Found}
+use Rattle.bit_space.specs.declared.order.Order.{Order}
+use Rattle.bit_space.specs.declared.order.Order.TheVariants.{Big, Little}
+use Rattle.text_output.specs.declared.mode.Mode.{Mode}
+use Rattle.text_output.specs.declared.style.Style.{Style}
+use Rattle.text_output.specs.Styles.{plain}
+use Rattle.command_line.specs.Numerals.{IsNumber, IsNoNumber}
+use Rattle.command_line.specs.Starts.{NamesStart, IsNoStart, NamesBytes, IsNoBytes}
+use Rattle.command_line.specs.Flags.{FlagIn}
+use Rattle.command_line.specs.Selects.{Selects, PartBeside}
+use Rattle.command_line.specs.Styles.{NamesNumbers, NamesChars, NamesElementsOr, IsNoElementsIfAny, NamesColor, NamesFaults}
+use Rattle.command_line.specs.Words.{NamesMode, NamesModeIfAny}
+use Rattle.command_line.specs.declared.selection.Choice.{Choice}
+use Rattle.command_line.specs.declared.selection.Choice.TheVariants.{Part, Parts, Columns}
+use Rattle.command_line.specs.declared.start.Start.{Start}
+use Rattle.command_line.specs.declared.start.Start.TheVariants.{Bit}
+use Rattle.command_line.specs.declared.terms.Terms.{Terms}
+use Rattle.command_line.specs.declared.words.mapping.MappingWords.{MappingWords}
+use Rattle.command_line.specs.declared.words.Job.{Job}
+use Rattle.command_line.specs.declared.words.Job.TheVariants as job
+use Rattle.command_line.specs.declared.words.Job.TheVariants.{Map, Bound, BoundText, Check, Types, Formats, Dump}
+use Rattle.command_line.specs.declared.request.Request.{Request}
+use Rattle.command_line.specs.declared.fault_form.FaultForm.{FaultForm}
+use Rattle.command_line.specs.declared.fault_form.FaultForm.TheVariants.{Text}
+use Rattle.command_line.specs.declared.request.Form.{Form}
+use Rattle.command_line.specs.declared.request.Form.TheVariants.{Printed, Shown}
+use Rattle.command_line.specs.declared.request.Over.{Over}
+use Rattle.command_line.specs.declared.request.Over.TheVariants.{File, Files}
+use Rattle.command_line.specs.declared.request.FileNames.{FileNames}
+use Rattle.command_line.specs.declared.request.FileNames.TheVariants.{Words, EndedByZero}
+
+-- the text of an argument, empty if it wasn't given
+abbrev pub word_in : Found → List ℕ → List ℕ
+word_in found name = unwrap_or (first_value found name) []
+
+-- the number that an argument is; the default if it wasn't given
+abbrev pub NumberIn : Option (List ℕ) → ℕ → ℕ → Type 0
+NumberIn None default number = number ≡ default
+NumberIn (Some word) default number = IsNumber word number
+
+-- the same, and no number if it wasn't given
+abbrev pub NumberIfAny : Option (List ℕ) → Option ℕ → Type 0
+NumberIfAny None number = number ≡ None
+NumberIfAny (Some word) None = ⊥
+NumberIfAny (Some word) (Some number) = IsNumber word number
+
+-- an argument was given, and is no number
+abbrev pub IsNoNumberIfAny : Option (List ℕ) → Type 0
+IsNoNumberIfAny None = ⊥
+IsNoNumberIfAny (Some word) = IsNoNumber word
+
+-- `little` is little-endian, any other text big-endian
+abbrev pub NamesOrder : List ℕ → Order → Type 0
+NamesOrder word Big = word ≢ codes "little"
+NamesOrder word Little = word ≡ codes "little"
+
+-- how a printed value looks, with so many elements by default
+pub record NamesStyle (found : Found) (default : Option ℕ) (style : Style) : Type 0 where
+  pub numbers : NamesNumbers (word_in found (codes "numbers")) style.numbers
+  pub chars : NamesChars (word_in found (codes "chars")) style.chars
+  pub elements : NamesElementsOr default (first_value found (codes "elements")) style.elements
+
+-- the terms under which a value is accepted, and what is printed of it, with so many elements by default
+pub record HasTerms (found : Found) (choice : Choice) (default : Option ℕ) (terms : Terms) : Type 0 where
+  pub whole : FlagIn (one_text found (codes "whole")) terms.whole
+  pub most_output : NumberIfAny (first_value found (codes "max-output")) terms.most_output
+  pub part : PartBeside (first_value found (codes "get")) terms.selection terms.part
+  pub most_slots : NumberIfAny (first_value found (codes "slots")) terms.most_slots
+  pub style : NamesStyle found default terms.style
+  pub look : terms.look ≡ None
+  pub selection : Selects found choice terms.selection
+
+abbrev pub no_terms : Terms
+no_terms = record { whole = false; most_output = None; part = None; most_slots = None; style = plain; look = None; selection = None }
+
+-- where a mapping starts
+abbrev pub StartsAt : Found → Start → Type 0
+StartsAt found start = NamesStart (first_value found (codes "byte")) (word_in found (codes "at")) start
+
+-- what a mapping is given: its start, its byte order, its limit of steps, its pickle and its type
+pub record AsksMapping (found : Found) (start : Start) (order : Order) (limit : ℕ) (pickle name : List ℕ) : Type 0 where
+  pub starts : StartsAt found start
+  pub order_named : NamesOrder (word_in found (codes "endian")) order
+  pub most_steps : NumberIn (first_value found (codes "limit")) 1000000000 limit
+  pub read_from : pickle ≡ word_in found (codes "PICKLE")
+  pub type_named : name ≡ word_in found (codes "TYPE")
+
+-- the words of a mapping are what its arguments request
+abbrev pub AsksMappingOf : Found → MappingWords → Type 0
+AsksMappingOf found words = AsksMapping found words.start words.order words.limit (string_bytes words.pickle) (string_bytes words.name)
+
+-- the most bytes that are read of a file without a length, if such a file is read
+abbrev pub Spools : Found → Option ℕ → Type 0
+Spools found most = NumberIfAny (first_value found (codes "spool")) most
+
+-- how the value is printed
+abbrev pub IsInMode : Found → Mode → Type 0
+IsInMode found mode = NamesMode (word_in found (codes "mode")) mode
+
+-- bounds of a type of a pickle over so many bits
+pub record AsksBound (found : Found) (pickle name : List ℕ) (bits : ℕ) : Type 0 where
+  pub read_from : pickle ≡ word_in found (codes "PICKLE")
+  pub type_named : name ≡ word_in found (codes "TYPE")
+  pub over : NumberIn (first_value found (codes "BITS")) 0 bits
+
+-- the files that arguments name, or the file from which a list of names is read
+abbrev pub NamesFiles : Found → FileNames → Type 0
+NamesFiles found (Words names) = (first_value found (codes "files0-from") ≡ None)
+    × (map string_bytes names.items ≡ option_map_or raw_values (matched_of found (codes "FILE")) [])
+NamesFiles found (EndedByZero path) = first_value found (codes "files0-from") ≡ Some (string_bytes path)
+
+-- how a refusal or a fault is written
+abbrev pub ReportsIn : Found → FaultForm → Type 0
+ReportsIn found faults = NamesFaults (word_in found (codes "faults")) faults
+
+-- how a value is written: printed in a mode, beside the form of refusals and faults, or shown with colors and with so many
+-- levels of parts, 6 by default
+abbrev pub IsInForm : Found → Form → Type 0
+IsInForm found (Printed mode faults) = IsInMode found mode × ReportsIn found faults
+IsInForm found (Shown color depth) = NamesColor (word_in found (codes "color")) color × NamesElementsOr (Some 6) (first_value found (codes "depth")) depth
+
+-- the most elements of an array that are written by default: all, or 16 for the eye
+abbrev pub elements_by_default : Form → Option ℕ
+elements_by_default (Printed mode faults) = None
+elements_by_default (Shown color depth) = Some 16
+
+-- what a type is mapped over: the one file that an argument names, or many, of which each line may be written at once
+abbrev pub IsOver : Found → Over → Type 0
+IsOver found (File file) = string_bytes file ≡ word_in found (codes "FILE")
+IsOver found (Files names flush) = NamesFiles found names × FlagIn (one_text found (codes "flush")) flush
+
+-- whether how much is done is shown
+abbrev pub ShowsProgress : Found → Bool → Type 0
+ShowsProgress found progress = FlagIn (one_text found (codes "progress")) progress
+
+-- which selections the command offers that writes in a form, over one file or many
+abbrev pub choice_of : Form → Over → Choice
+choice_of (Shown color depth) over = Part
+choice_of (Printed mode faults) (File file) = Parts
+choice_of (Printed mode faults) (Files names flush) = Columns
+
+-- a request is what arguments request
+pub record AsksRequest (found : Found) (request : Request) : Type 0 where
+  pub mapping : AsksMapping found request.start request.order request.limit (string_bytes request.pickle) (string_bytes request.name)
+  pub spools : Spools found request.spool
+  pub terms : HasTerms found (choice_of request.form request.over) (elements_by_default request.form) request.terms
+  pub form : IsInForm found request.form
+  pub progress : ShowsProgress found request.progress
+  pub over : IsOver found request.over
+
+-- the first byte of a dump
+abbrev pub DumpsFrom : Found → ℕ → Type 0
+DumpsFrom found from = NamesBytes (first_value found (codes "skip")) (word_in found (codes "from")) from
+
+-- how many bytes a dump has at most
+abbrev pub DumpsBytes : Found → ℕ → Type 0
+DumpsBytes found size = NamesBytes (first_value found (codes "length")) (word_in found (codes "size")) size
+
+-- a job is what the arguments of its command request
+abbrev pub Asks : Found → Job → Type 0
+Asks found (Map at order limit mode pickle name file) = AsksMapping found (Bit at) order limit (string_bytes pickle) (string_bytes name)
+    × IsInMode found mode × ReportsIn found Text × Spools found None × ShowsProgress found false × HasTerms found Parts None no_terms
+    × (string_bytes file ≡ word_in found (codes "FILE"))
+Asks found (job.Request request) = AsksRequest found request
+Asks found (Bound pickle name bits) = AsksBound found (string_bytes pickle) (string_bytes name) bits × FlagIn (one_text found (codes "text")) false
+Asks found (BoundText pickle name bits mode style) = AsksBound found (string_bytes pickle) (string_bytes name) bits
+    × FlagIn (one_text found (codes "text")) true × NamesModeIfAny (first_value found (codes "mode")) mode × NamesStyle found None style
+Asks found (Check pickle) = string_bytes pickle ≡ word_in found (codes "PICKLE")
+Asks found (Types pickle) = string_bytes pickle ≡ word_in found (codes "PICKLE")
+Asks found Formats = Unit {0}
+Asks found (Dump from size ruler file) = DumpsFrom found from × DumpsBytes found size
+    × FlagIn (one_text found (codes "no-ruler")) (not ruler) × (string_bytes file ≡ word_in found (codes "FILE"))
+
+-- a command is not the one of a name
+abbrev pub IsOther : Option (List ℕ) → List ℕ → Type 0
+IsOther command name = command ≢ Some name
+
+-- the command that writes in a form, over one file or many; none shows many files to the eye
+abbrev pub IsRequestOf : Option (List ℕ) → Form → Over → Type 0
+IsRequestOf command (Printed mode faults) (File file) = command ≡ Some (codes "map")
+IsRequestOf command (Shown color depth) (File file) = command ≡ Some (codes "show")
+IsRequestOf command (Printed mode faults) (Files names flush) = command ≡ Some (codes "each")
+IsRequestOf command (Shown color depth) (Files names flush) = ⊥
+
+-- a job is of the command of a name
+abbrev pub IsJobOf : Option (List ℕ) → Job → Type 0
+IsJobOf command (Map at order limit mode pickle name file) = command ≡ Some (codes "map")
+IsJobOf command (job.Request request) = IsRequestOf command request.form request.over
+IsJobOf command (Bound pickle name bits) = command ≡ Some (codes "bound")
+IsJobOf command (BoundText pickle name bits mode style) = command ≡ Some (codes "bound")
+IsJobOf command (Types pickle) = command ≡ Some (codes "types")
+IsJobOf command Formats = command ≡ Some (codes "formats")
+IsJobOf command (Dump from size ruler file) = command ≡ Some (codes "dump")
+IsJobOf command (Check pickle) = IsOther command (codes "map") × IsOther command (codes "show") × IsOther command (codes "each")
+    × IsOther command (codes "bound") × IsOther command (codes "types") × IsOther command (codes "formats") × IsOther command (codes "dump")
+
+-- the arguments of a mapping name no start
+abbrev pub StartsNowhere : Found → Type 0
+StartsNowhere found = IsNoStart (first_value found (codes "byte")) (word_in found (codes "at"))
+
+-- the arguments of a dump don't name bytes: one of them isn't such a number or offset
+abbrev pub IsNoRange : Found → Type 0
+IsNoRange found = IsNoBytes (first_value found (codes "skip")) (word_in found (codes "from"))
+    ⊎ IsNoBytes (first_value found (codes "length")) (word_in found (codes "size"))
+
+-- the arguments of a bound have something else than a number where one belongs
+abbrev pub IsNoBound : Found → Type 0
+IsNoBound found = IsNoNumberIfAny (first_value found (codes "BITS")) ⊎ IsNoElementsIfAny (first_value found (codes "elements"))

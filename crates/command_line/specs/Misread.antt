@@ -1,0 +1,88 @@
+-- Why the arguments of a command aren't a job, though the parser takes them.
+use Rattle.std.specs.Prelude.{◌≡◌, ◌⊎◌, Bool, false, ℕ, List, [], ◌∷◌, Option, Some, None, codes, unwrap_or}
+use Rattle.clap.specs.Matches.{first_value, one_text}
+use Rattle.clap.specs.declared.parser.matches.Found.{Found}
+use Rattle.command_line.specs.declared.pattern.Pattern.{Pattern}
+use Rattle.command_line.specs.declared.selection.Choice.{Choice}
+use Rattle.command_line.specs.declared.selection.Choice.TheVariants as choice
+use Rattle.command_line.specs.declared.words.WordFault.{WordFault}
+use Rattle.command_line.specs.declared.words.WordFault.TheVariants.{Usage, Help, Offset, Memory}
+use Rattle.command_line.specs.Flags.{FlagIn}
+use Rattle.command_line.specs.Found.{IsNoBound, IsNoNumberIfAny, IsNoRange, StartsNowhere}
+use Rattle.command_line.specs.Paths.{PathStep, IsPath}
+use Rattle.command_line.specs.Patterns.{PatternPart, IsPattern}
+use Rattle.command_line.specs.Selects.{ArePatterns, HasRows, is_one_path, words_in}
+use Rattle.command_line.specs.Styles.{IsNoElementsIfAny}
+
+-- a usage error has one reason, a refused offset another; what needs memory may fail
+abbrev pub FailsFor : (usage offset : Type 0) → WordFault → Type 0
+FailsFor usage offset (Usage text) = usage
+FailsFor usage offset (Help text) = ⊥
+FailsFor usage offset Offset = offset
+FailsFor usage offset Memory = Unit {0}
+
+-- a text isn't a path, or not a pattern
+abbrev pub IsNoPath : List ℕ → Type 0
+IsNoPath word = (steps : List PathStep) → ¬ (IsPath word steps)
+
+abbrev pub IsNoPattern : List ℕ → Type 0
+IsNoPattern word = (parts : List PatternPart) → ¬ (IsPattern word parts)
+
+abbrev pub IsNoPathIfAny : Option (List ℕ) → Type 0
+IsNoPathIfAny None = ⊥
+IsNoPathIfAny (Some word) = IsNoPath word
+
+-- one of the texts is such
+abbrev pub AnyWord : (List ℕ → Type 0) → List (List ℕ) → Type 0
+AnyWord IsSuch [] = ⊥
+AnyWord IsSuch (word ∷ words) = IsSuch word ⊎ AnyWord IsSuch words
+
+-- a text isn't the pattern of one path
+abbrev pub IsNoOnePath : List ℕ → Type 0
+IsNoOnePath word = IsNoPattern word ⊎ ((patterns : List Pattern) × ArePatterns (word ∷ []) patterns × (is_one_path patterns ≡ false))
+
+-- rows have no such pattern, no such columns, or no such mode
+pub data MisreadRows (found : Found) (pattern : List ℕ) (words : List (List ℕ)) : Type 0 where
+  pattern_wrong : IsNoPattern pattern → MisreadRows found pattern words
+  columns_wrong : AnyWord IsNoPath words → MisreadRows found pattern words
+  mode_wrong : (header : Bool) → FlagIn (one_text found (codes "header")) header
+      → ¬ (HasRows (unwrap_or (first_value found (codes "mode")) []) header) → MisreadRows found pattern words
+
+abbrev pub MisreadParts : Found → (rows : Option (List ℕ)) → (words : List (List ℕ)) → Type 0
+MisreadParts found None words = AnyWord IsNoPattern words
+MisreadParts found (Some pattern) words = MisreadRows found pattern words
+
+pub data MisreadColumns (words : List (List ℕ)) : Type 0 where
+  path_wrong : AnyWord IsNoPath words → MisreadColumns words
+  lone_wrong : AnyWord IsNoOnePath words → MisreadColumns words
+
+-- the parts that are requested are none, by what a command offers
+abbrev pub MisreadSelection : Found → Choice → Type 0
+MisreadSelection found choice.Part = ⊥
+MisreadSelection found choice.Parts = MisreadParts found (first_value found (codes "rows")) (words_in found (codes "get"))
+MisreadSelection found choice.Columns = MisreadColumns (words_in found (codes "get"))
+
+-- an option of a mapping is wrong
+pub data MisreadRequest (found : Found) (choice : Choice) : Type 0 where
+  selection_wrong : MisreadSelection found choice → MisreadRequest found choice
+  part_wrong : IsNoPathIfAny (first_value found (codes "get")) → MisreadRequest found choice
+  most_output_wrong : IsNoNumberIfAny (first_value found (codes "max-output")) → MisreadRequest found choice
+  most_slots_wrong : IsNoNumberIfAny (first_value found (codes "slots")) → MisreadRequest found choice
+  spool_wrong : IsNoNumberIfAny (first_value found (codes "spool")) → MisreadRequest found choice
+  limit_wrong : IsNoNumberIfAny (first_value found (codes "limit")) → MisreadRequest found choice
+  elements_wrong : IsNoElementsIfAny (first_value found (codes "elements")) → MisreadRequest found choice
+  depth_wrong : IsNoElementsIfAny (first_value found (codes "depth")) → MisreadRequest found choice
+
+-- the arguments of the command of this name are wrong
+pub data Misread (command : List ℕ) (found : Found) : Type 0 where
+  map_wrong : command ≡ codes "map" → MisreadRequest found choice.Parts → Misread command found
+  show_wrong : command ≡ codes "show" → MisreadRequest found choice.Part → Misread command found
+  each_wrong : command ≡ codes "each" → MisreadRequest found choice.Columns → Misread command found
+  bound_wrong : command ≡ codes "bound" → IsNoBound found → Misread command found
+
+-- the arguments of the command of this name have something else than an offset where one belongs
+pub data Misplaced (command : List ℕ) (found : Found) : Type 0 where
+  map_nowhere : command ≡ codes "map" → StartsNowhere found → Misplaced command found
+  show_nowhere : command ≡ codes "show" → StartsNowhere found → Misplaced command found
+  each_nowhere : command ≡ codes "each" → StartsNowhere found → Misplaced command found
+  dump_nowhere : command ≡ codes "dump" → IsNoRange found → Misplaced command found

@@ -1,0 +1,132 @@
+-- What the arguments of a command request of the parts of a value, by what clap found among them.
+use Rattle.std.specs.Prelude.{◌≡◌, ◌≢◌, ◌<◌, ℕ, Bool, true, false, List, [], ◌∷◌, length, Option, Some, None, string_bytes, codes, unwrap_or}
+use Rattle.std.specs.Option.{option_map_or}
+use Rattle.std.specs.List.{list_all}
+use Rattle.clap.specs.Matches.{first_value, one_text, matched_of, raw_values}
+use Rattle.clap.specs.declared.parser.matches.Found.{Found}
+use Rattle.command_line.specs.Flags.{FlagIn}
+use Rattle.command_line.specs.Paths.{steps_of, IsPath}
+use Rattle.command_line.specs.Patterns.{parts_of, is_exact, IsPattern}
+use Rattle.command_line.specs.declared.path.Path.{Path}
+use Rattle.command_line.specs.declared.pattern.Pattern.{Pattern}
+use Rattle.command_line.specs.declared.selection.Selection.{Selection}
+use Rattle.command_line.specs.declared.selection.Shape.{Shape}
+use Rattle.command_line.specs.declared.selection.Shape.TheVariants as shape
+use Rattle.command_line.specs.declared.selection.Rows.{Rows}
+use Rattle.command_line.specs.declared.selection.Column.{Column}
+use Rattle.command_line.specs.declared.selection.Absent.{Absent}
+use Rattle.command_line.specs.declared.selection.Absent.TheVariants as absent
+use Rattle.command_line.specs.declared.selection.Choice.{Choice}
+use Rattle.command_line.specs.declared.selection.Choice.TheVariants as choice
+
+-- the texts of an option that may be given many times
+abbrev pub words_in : Found → List ℕ → List (List ℕ)
+words_in found name = option_map_or raw_values (matched_of found name) []
+
+-- `empty` is an empty column or line, any other text a fault
+abbrev pub NamesAbsent : List ℕ → Absent → Type 0
+NamesAbsent word absent.Fault = word ≢ codes "empty"
+NamesAbsent word absent.Empty = word ≡ codes "empty"
+
+-- each text is a pattern
+abbrev pub ArePatterns : List (List ℕ) → List Pattern → Type 0
+ArePatterns [] [] = Unit {0}
+ArePatterns [] (pattern ∷ patterns) = ⊥
+ArePatterns (word ∷ words) [] = ⊥
+ArePatterns (word ∷ words) (pattern ∷ patterns) = IsPattern word (parts_of pattern.steps.items) × ArePatterns words patterns
+
+-- a text is the path of a column, which it names
+abbrev pub IsColumn : List ℕ → Column → Type 0
+IsColumn word column = (string_bytes column.name ≡ word) × IsPath word (steps_of column.path.steps.items)
+
+abbrev pub AreColumns : List (List ℕ) → List Column → Type 0
+AreColumns [] [] = Unit {0}
+AreColumns [] (column ∷ columns) = ⊥
+AreColumns (word ∷ words) [] = ⊥
+AreColumns (word ∷ words) (column ∷ columns) = IsColumn word column × AreColumns words columns
+
+-- whether patterns are one path
+abbrev pub is_one_path : List Pattern → Bool
+is_one_path [] = false
+is_one_path (pattern ∷ []) = list_all is_exact pattern.steps.items
+is_one_path (pattern ∷ more ∷ patterns) = false
+
+abbrev pub IsOnePath : List ℕ → List Pattern → Type 0
+IsOnePath word patterns = ArePatterns (word ∷ []) patterns × (is_one_path patterns ≡ true)
+
+-- a mode has rows, and a header if one is wanted
+abbrev pub HasRows : (mode : List ℕ) → (header : Bool) → Type 0
+HasRows mode header = (mode ≢ codes "tree") × (mode ≢ codes "lines") × (header ≡ true → mode ≢ codes "json")
+
+-- rows of a pattern, with a column for each path
+pub record NamesRows (found : Found) (pattern : List ℕ) (words : List (List ℕ)) (rows : Rows) : Type 0 where
+  pub led_to : IsPattern pattern (parts_of rows.pattern.steps.items)
+  pub columns : AreColumns words rows.columns.items
+  pub header : FlagIn (one_text found (codes "header")) rows.header
+  pub mode : HasRows (unwrap_or (first_value found (codes "mode")) []) rows.header
+
+-- no part or one is requested, and that by a path, whose absence is a fault
+abbrev pub IsOneAtMost : List (List ℕ) → Absent → Type 0
+IsOneAtMost [] given = Unit {0}
+IsOneAtMost (word ∷ []) given = given ≡ absent.Fault
+IsOneAtMost (word ∷ more ∷ words) given = ⊥
+
+-- whether patterns are one path whose absence is a fault
+abbrev pub is_plain : Absent → List Pattern → Bool
+is_plain absent.Fault patterns = is_one_path patterns
+is_plain absent.Empty patterns = false
+
+-- what `map` prints without rows: the parts to which the patterns lead that the texts are, but for a plain path
+abbrev pub IsShapeOfParts : List (List ℕ) → Absent → Shape → Type 0
+IsShapeOfParts words absent (shape.Parts patterns) = ArePatterns words patterns.items × (is_plain absent patterns.items ≡ false)
+IsShapeOfParts words absent (shape.Rows rows) = ⊥
+
+abbrev pub SelectsParts : List (List ℕ) → Absent → Option Selection → Type 0
+SelectsParts words absent None = IsOneAtMost words absent
+SelectsParts words absent (Some selection) = (selection.absent ≡ absent) × IsShapeOfParts words absent selection.shape
+
+-- what `each` prints: the columns of the value, or one part whose absence is no fault
+abbrev pub IsLonePath : List (List ℕ) → Absent → List Pattern → Type 0
+IsLonePath [] given patterns = ⊥
+IsLonePath (word ∷ []) given patterns = IsOnePath word patterns × (given ≡ absent.Empty)
+IsLonePath (word ∷ more ∷ words) given patterns = ⊥
+
+abbrev pub IsShapeOfColumns : List (List ℕ) → Absent → Shape → Type 0
+IsShapeOfColumns words absent (shape.Parts patterns) = IsLonePath words absent patterns.items
+IsShapeOfColumns words absent (shape.Rows rows) = (1 < length words) × (rows.pattern.steps.items ≡ []) × AreColumns words rows.columns.items × (rows.header ≡ false)
+
+abbrev pub SelectsColumns : List (List ℕ) → Absent → Option Selection → Type 0
+SelectsColumns words absent None = IsOneAtMost words absent
+SelectsColumns words absent (Some selection) = (selection.absent ≡ absent) × IsShapeOfColumns words absent selection.shape
+
+-- what `map` prints: rows if a pattern of rows is given
+abbrev pub IsShapeOfRows : Found → (pattern : List ℕ) → Shape → Type 0
+IsShapeOfRows found pattern (shape.Parts patterns) = ⊥
+IsShapeOfRows found pattern (shape.Rows rows) = NamesRows found pattern (words_in found (codes "get")) rows
+
+abbrev pub SelectsRows : Found → (pattern : List ℕ) → Absent → Option Selection → Type 0
+SelectsRows found pattern absent None = ⊥
+SelectsRows found pattern absent (Some selection) = (selection.absent ≡ absent) × IsShapeOfRows found pattern selection.shape
+
+abbrev pub SelectsAny : Found → (rows : Option (List ℕ)) → Absent → Option Selection → Type 0
+SelectsAny found None absent selection = SelectsParts (words_in found (codes "get")) absent selection
+SelectsAny found (Some pattern) absent selection = SelectsRows found pattern absent selection
+
+-- what a command prints that offers a choice, where this is what an absent part is
+abbrev pub SelectsBy : Found → Choice → Absent → Option Selection → Type 0
+SelectsBy found choice.Part absent selection = selection ≡ None
+SelectsBy found choice.Parts absent selection = SelectsAny found (first_value found (codes "rows")) absent selection
+SelectsBy found choice.Columns absent selection = SelectsColumns (words_in found (codes "get")) absent selection
+
+-- the selection that the arguments of a command request
+pub record Selects (found : Found) (choice : Choice) (selection : Option Selection) : Type 0 where
+  pub absent : Absent
+  pub absent_named : NamesAbsent (unwrap_or (first_value found (codes "absent")) []) absent
+  pub selected : SelectsBy found choice absent selection
+
+-- the path that an argument is, if it was given and nothing is selected
+abbrev pub PartBeside : Option (List ℕ) → Option Selection → Option Path → Type 0
+PartBeside word (Some selection) path = path ≡ None
+PartBeside None None path = path ≡ None
+PartBeside (Some word) None None = ⊥
+PartBeside (Some word) None (Some path) = IsPath word (steps_of path.steps.items)

@@ -1,0 +1,75 @@
+//! A mapping that requests more than a plain one does.
+
+ghost use Rattle.std.specs.Prelude.{◌≡◌};
+ghost use Rattle.command_line.specs.Requests.{faults_in};
+
+use crate::color::Color;
+use crate::fault_form::FaultForm;
+use crate::start::Start;
+use crate::terms::Terms;
+use bit_space::Order;
+use text_output::mode::Mode;
+
+/// A type to map, what it is mapped over, and how each value is accepted and written.
+#[derive(Debug, Drop, PartialEq, Eq)]
+pub struct Request {
+    /// Where the mapping starts in each file.
+    pub start: Start,
+    /// The byte order of the run.
+    pub order: Order,
+    /// The most steps of each mapping.
+    pub limit: u64,
+    /// The most bytes of a file without a length that are read into memory. `None` opens no such file.
+    pub spool: Option<u64>,
+    /// What each value must meet, and how it looks.
+    pub terms: Terms,
+    /// How each value is written.
+    pub form: Form,
+    /// Whether a terminal shows how much is done.
+    pub progress: bool,
+    /// The argument that names the pickle: a path, `-` for standard input, or `+` and the name of an installed one.
+    pub pickle: String,
+    /// The name of the type to map.
+    pub name: String,
+    /// What the type is mapped over.
+    pub over: Over,
+}
+
+impl Request {
+    /// How a refusal or a fault is written. To the eye that is in words.
+    pub fn faults(&self) -> FaultForm
+        ensures { result ≡ faults_in self.now.form }
+    {
+        match self.form {
+            Form::Printed { faults, .. } => faults,
+            Form::Shown { .. } => FaultForm::Text,
+        }
+    }
+}
+
+/// How a value is written.
+#[derive(Clone, Copy, Debug, Drop, PartialEq, Eq)]
+pub enum Form {
+    /// Printed in a mode, for programs, which also read a refusal or a fault.
+    Printed { mode: Mode, faults: FaultForm },
+    /// Shown to the eye, with so many levels of parts below the value at most. `None` shows all levels.
+    Shown { color: Color, depth: Option<u64> },
+}
+
+/// What a type is mapped over.
+#[derive(Debug, Drop, PartialEq, Eq)]
+pub enum Over {
+    /// The file of this name.
+    File(String),
+    /// One file after another, with a line for each. With `flush` each line is written at once.
+    Files { names: FileNames, flush: bool },
+}
+
+/// Where the names of many files are.
+#[derive(Debug, Drop, PartialEq, Eq)]
+pub enum FileNames {
+    /// In the arguments.
+    Words(Vec<String>),
+    /// In the file of this name, or in standard input for `-`. Each name ends with a byte 0.
+    EndedByZero(String),
+}

@@ -1,0 +1,565 @@
+//! Reads the arguments.
+mod arguments;
+mod bytes;
+mod choices;
+mod commands;
+mod found;
+mod line;
+mod mapping;
+mod selected;
+mod shown;
+mod style;
+mod ties;
+mod usage;
+
+ghost use Rattle.std.specs.Prelude.{◌≡◌, ◌≢◌, ◌⊎◌, ℕ, List, [], Some, codes, map, string_bytes, MatchResult, IfOk, IfErr, OnOk, true, false};
+ghost use Rattle.clap.specs.Matches.{found_of, first_value};
+ghost use Rattle.command_line.specs.Commanded.{Finds, Fails, AsksOf, AnswersIn, IsAskedBy, IsJobAskedBy, IsRefused, IsUnread, IsMisread, IsMisplaced, FailsTo, has_no_size};
+ghost use Rattle.command_line.specs.Ties.{keeps_ties};
+ghost use Rattle.command_line.specs.Misread.{FailsFor, MisreadRequest, Misread, Misplaced};
+ghost use Rattle.command_line.specs.Lines.{command_line};
+ghost use Rattle.command_line.specs.Words.{IsCheckOf, IsBareCheckOf, NamesMode, NamesModeIfAny};
+ghost use Rattle.command_line.specs.Found.{word_in, NumberIfAny, HasTerms, no_terms, NamesFiles, StartsNowhere};
+ghost use Rattle.command_line.specs.Found.{Asks, IsJobOf, IsNoRange, IsNoBound, IsNoNumberIfAny};
+ghost use Rattle.command_line.specs.declared.words.WordFault.TheVariants.{Memory};
+
+use crate::answer_form::AnswerForm;
+use crate::fault_form::FaultForm;
+use crate::request::{FileNames, Form, Over, Request};
+use crate::selection::Choice;
+use crate::start::Start;
+use crate::terms::Terms;
+use bit_space::Order;
+use bytes::bytes_in;
+use choices::{Choices, Ties};
+use clap::ArgMatches;
+use clap::error::ErrorKind;
+use commands::{PROGRAM, SHOWN_ELEMENTS, SHOWN_LEVELS, program};
+use found::{flag_of, number_if_any, number_of, word, word_of};
+use line::{command_line, without_help_of_help};
+use mapping::mapping_words;
+use selected::{part_beside, selection_of};
+use shown::shown_words;
+use std::alloc::{AllocError, Global};
+use style::{answer_of, color_of, depth_of, faults_of, style_of};
+use text_output::mode::Mode;
+use text_output::style::{Chars, Numbers, Style};
+use thiserror::Error;
+use ties::{is_given, keeps_ties};
+
+/// The usage error for arguments that are wrong, but whose escaped forms clap accepts.
+const WRONG_WORD: &str = "error: a word has bytes that aren't printed\n";
+
+/// The job that the arguments request.
+#[derive(Debug, Drop, PartialEq, Eq)]
+pub enum Job {
+    /// Map a type over a file, from the bit `at` on.
+    Map {
+        at: u64,
+        order: Order,
+        limit: u64,
+        mode: Mode,
+        pickle: String,
+        name: String,
+        file: String,
+    },
+    /// Map a type over one file or many, as a request says. A map of one file has at least one term, a start that is
+    /// counted from the file's end, refusals and faults in JSON, or a limit on the bytes of a file without a length.
+    Request(Request),
+    /// Print the most steps and slots that a mapping of a type over `bits` bits takes.
+    Bound {
+        pickle: String,
+        name: String,
+        bits: u64,
+    },
+    /// Print the most steps and slots that a mapping of a type over `bits` bits takes, and the most bytes of its
+    /// printed value in `mode`, or in every mode, in a style.
+    BoundText {
+        pickle: String,
+        name: String,
+        bits: u64,
+        mode: Option<Mode>,
+        style: Style,
+    },
+    /// Check a pickle.
+    Check {
+        pickle: String,
+    },
+    /// Print the types that a pickle declares.
+    Types {
+        pickle: String,
+    },
+    /// Print the pickles that are installed.
+    Formats,
+    /// Dump `size` bytes of a file, from the byte `from` on.
+    Dump {
+        from: u64,
+        size: u64,
+        ruler: bool,
+        file: String,
+    },
+}
+
+/// Why arguments aren't a job.
+#[derive(Debug, Drop, PartialEq, Eq, Error)]
+pub enum WordFault {
+    /// A usage error. The text is its message.
+    #[error("{0}")]
+    Usage(String),
+    /// The arguments request help or the version. The text is what to print.
+    #[error("{0}")]
+    Help(String),
+    /// An argument isn't an offset, is 2^64 bits or more, or isn't whole bytes for an option that needs them.
+    #[error("refused offset")]
+    Offset,
+    /// An allocation failed.
+    #[error("fault Memory")]
+    Memory,
+}
+
+impl From<AllocError> for WordFault {
+    ghost from_gives = { λ _ fault. fault ≡ Memory };
+
+    fn from(_error: AllocError) -> WordFault {
+        WordFault::Memory
+    }
+}
+
+/// A job, whether it explains a refusal or a fault, and how it answers.
+#[derive(Debug, Drop, PartialEq, Eq)]
+pub struct Asked {
+    /// The job that is requested.
+    pub job: Job,
+    /// Whether `--why` was given.
+    pub why: bool,
+    /// Whether the job is a dump of which no size was given.
+    pub default_size: bool,
+    /// How a check or a list of types is printed. Other jobs have words.
+    pub answer: AnswerForm,
+}
+
+/// Reads the arguments, without the program's name, as a job. Without arguments the job is a check of standard input,
+/// `-`. [`read_asked`] also returns whether `--why` was given.
+///
+/// clap reads all arguments before any of them is read as an offset or a path. The commands, their options and their
+/// defaults are this project's own; `--help` prints them.
+pub fn read_words(alloc: Global, words: Vec<String>) -> Result<Job, WordFault>
+    ensures empty { words.items ≡ [] → MatchResult result (IsCheckOf (codes "-")) (λ fault. fault ≡ WordFault.Memory) }
+    ensures asks { words.items ≢ [] → IfOk result (IsJobAskedBy (command_line (map string_bytes words.items))) }
+    ensures fails { words.items ≢ [] → IfErr result (FailsTo (command_line (map string_bytes words.items))) }
+{
+    Ok(read_asked(alloc, words)?.job)
+}
+
+/// Reads the arguments, without the program's name, as a job, and whether `--why` is among them. Without arguments the
+/// job is a check of standard input, `-`, without `--why`.
+pub fn read_asked(alloc: Global, words: Vec<String>) -> Result<Asked, WordFault>
+    ensures empty { words.items ≡ [] → MatchResult result (IsBareCheckOf (codes "-")) (λ fault. fault ≡ WordFault.Memory) }
+    ensures asks { words.items ≢ [] → IfOk result (IsAskedBy (command_line (map string_bytes words.items))) }
+    ensures fails { words.items ≢ [] → IfErr result (FailsTo (command_line (map string_bytes words.items))) }
+{
+    if words.is_empty() {
+        let pickle = String::from_str(alloc, "-")?;
+        return Ok(Asked {
+            job: Job::Check { pickle },
+            why: false,
+            default_size: false,
+            answer: AnswerForm::Text,
+        });
+    }
+    let line = command_line(alloc, words.as_slice())?;
+    let words = without_help_of_help(words.as_slice());
+    match matches_of(alloc, line.as_slice()) {
+        Ok(matches) => read_matches(alloc, &matches, words),
+        Err(error) => Err(told(alloc, &error, words)?),
+    }
+}
+
+// What the parser finds in the words of a command line.
+fn matches_of<'a>(alloc: Global, line: &'a [String]) -> Result<ArgMatches<'a>, clap::Error>
+    ensures finds { IfOk result (Finds (map string_bytes line.entry.now)) }
+    ensures fails { IfErr result (Fails (map string_bytes line.entry.now)) }
+{
+    program(alloc, Choices::all(), Ties::Without)?.try_get_matches_from(line)
+}
+
+// The job of the command that was found.
+fn read_matches(
+    alloc: Global,
+    matches: &ArgMatches<'_>,
+    words: &[String],
+) -> Result<Asked, WordFault>
+    ensures asks { IfOk result (λ asked. (line : List (List ℕ)) → Finds line matches.now → IsAskedBy line asked) }
+    ensures unread { IfErr result (λ fault. (line : List (List ℕ)) → Finds line matches.now → IsUnread line fault) }
+{
+    match matches.subcommand() {
+        Some((command, found)) => read_tied(alloc, command, found, words),
+        None => Err(WordFault::Usage(usage_of(alloc, words)?)),
+    }
+}
+
+// The same, if the ties between the arguments are kept.
+fn read_tied(
+    alloc: Global,
+    command: &str,
+    found: &ArgMatches<'_>,
+    words: &[String],
+) -> Result<Asked, WordFault>
+    ensures tied { OnOk result (keeps_ties command.now (found_of found.now) ≡ true) }
+    ensures asks { IfOk result (AsksOf command.now (found_of found.now)) }
+    ensures misread { IfErr result (FailsFor (IsMisread command.now (found_of found.now)) (IsMisplaced command.now (found_of found.now))) }
+{
+    if !keeps_ties(command, found) {
+        return Err(WordFault::Usage(usage_of(alloc, words)?));
+    }
+    read_found(alloc, command, found)
+}
+
+fn read_found(alloc: Global, command: &str, found: &ArgMatches<'_>) -> Result<Asked, WordFault>
+    ensures asks { IfOk result (AsksOf command.now (found_of found.now)) }
+    ensures misread { IfErr result (FailsFor (Misread command.now (found_of found.now)) (Misplaced command.now (found_of found.now))) }
+{
+    Ok(Asked {
+        job: read_command(alloc, command, found)?,
+        why: flag_of(found, "why"),
+        default_size: has_no_size(command, found),
+        answer: answer_form(command, found),
+    })
+}
+
+// How a command answers that has the option `--mode` for that.
+fn answer_form(command: &str, found: &ArgMatches<'_>) -> AnswerForm
+    ensures { AnswersIn command.now (word_in (found_of found.now) (codes "mode")) result }
+{
+    match command {
+        "check" | "types" => answer_of(word(found, "mode")),
+        _ => AnswerForm::Text,
+    }
+}
+
+// Whether a dump has no size among its arguments.
+fn has_no_size(command: &str, found: &ArgMatches<'_>) -> bool
+    ensures { result ≡ has_no_size command.now (found_of found.now) }
+{
+    command == "dump" && !is_given(found, "size") && !is_given(found, "length")
+}
+
+// The arguments after the program's name, which clap's messages print.
+fn after_name<'a>(alloc: Global, words: &'a [String]) -> Result<Vec<&'a str>, AllocError> {
+    let mut named = Vec::new(alloc);
+    named.push(PROGRAM)?;
+    for word in words {
+        named.push(word.as_str())?;
+    }
+    Ok(named)
+}
+
+fn told(alloc: Global, error: &clap::Error, words: &[String]) -> Result<WordFault, AllocError>
+    ensures fault { IfOk result (λ fault. fault ≢ WordFault.Offset) }
+    ensures refused { IfOk result (λ fault. (line : List (List ℕ)) → Fails line error.now → IsRefused line fault) }
+{
+    match error.kind() {
+        ErrorKind::DisplayHelp | ErrorKind::DisplayVersion => {
+            Ok(WordFault::Help(help_of(alloc, error, words)?))
+        }
+        ErrorKind::OutOfMemory => Ok(WordFault::Memory),
+        _ => Ok(WordFault::Usage(usage_of(alloc, words)?)),
+    }
+}
+
+// The text of help for arguments, by the program with ties.
+fn help_of(alloc: Global, error: &clap::Error, words: &[String]) -> Result<String, AllocError> {
+    let named = after_name(alloc, words)?;
+    match program(alloc, Choices::all(), Ties::With)?.try_get_matches_from(named.as_slice()) {
+        Ok(_matches) => text_of(alloc, error),
+        Err(tied) => text_of(alloc, &tied),
+    }
+}
+
+// The usage error for arguments. clap's message repeats some of them, and an argument with a line feed could pass for a
+// line of the message. clap therefore reads the escaped arguments once more, and its message on those is printed. No
+// option, command or value of an option has a backslash, so an argument that was wrong stays wrong.
+fn usage_of(alloc: Global, words: &[String]) -> Result<String, AllocError> {
+    let shown = shown_words(alloc, words)?;
+    let named = after_name(alloc, shown.as_slice())?;
+    match program(alloc, Choices::all(), Ties::With)?.try_get_matches_from(named.as_slice()) {
+        Ok(_matches) => String::from_str(alloc, WRONG_WORD),
+        Err(error) => text_of(alloc, &error),
+    }
+}
+
+fn text_of(alloc: Global, error: &clap::Error) -> Result<String, AllocError> {
+    if error.kind() == ErrorKind::OutOfMemory {
+        return Err(AllocError);
+    }
+    match format!(in alloc; "{error}") {
+        Ok(text) => Ok(text),
+        Err(_) => Err(AllocError),
+    }
+}
+
+fn read_command(alloc: Global, command: &str, found: &ArgMatches<'_>) -> Result<Job, WordFault>
+    ensures asks { IfOk result (Asks (found_of found.now)) }
+    ensures command { IfOk result (IsJobOf (Some command.now)) }
+    ensures misread { IfErr result (FailsFor (Misread command.now (found_of found.now)) (Misplaced command.now (found_of found.now))) }
+{
+    match command {
+        "map" => read_map(alloc, found),
+        "show" => read_show(alloc, found),
+        "each" => read_each(alloc, found),
+        "bound" => read_bound(alloc, found),
+        "types" => read_types(alloc, found),
+        "formats" => Ok(Job::Formats),
+        "dump" => read_dump(alloc, found),
+        _ => read_check(alloc, found),
+    }
+}
+
+fn read_map(alloc: Global, found: &ArgMatches<'_>) -> Result<Job, WordFault>
+    ensures asks { IfOk result (Asks (found_of found.now)) }
+    ensures command { IfOk result (IsJobOf (Some (codes "map"))) }
+    ensures offset { IfErr result (λ fault. fault ≡ WordFault.Offset → StartsNowhere (found_of found.now)) }
+    ensures misread { IfErr result (FailsFor (MisreadRequest (found_of found.now) Choice.Parts) (StartsNowhere (found_of found.now))) }
+{
+    let terms = terms_of(alloc, found, Choice::Parts, None)?;
+    let spool = spool_of(alloc, found)?;
+    let mapping = mapping_words(alloc, found)?;
+    let file = word_of(alloc, found, "FILE")?;
+    let mode = mode_of(word(found, "mode"));
+    let progress = flag_of(found, "progress");
+    match (mapping.start, faults_of(word(found, "faults"))) {
+        (Start::Bit(at), FaultForm::Text) if spool.is_none() && !progress && has_no_terms(&terms) =>
+            Ok(Job::Map {
+                at,
+                order: mapping.order,
+                limit: mapping.limit,
+                mode,
+                pickle: mapping.pickle,
+                name: mapping.name,
+                file,
+            }),
+        (start, faults) => Ok(Job::Request(Request {
+            start,
+            order: mapping.order,
+            limit: mapping.limit,
+            spool,
+            terms,
+            form: Form::Printed { mode, faults },
+            progress,
+            pickle: mapping.pickle,
+            name: mapping.name,
+            over: Over::File(file),
+        })),
+    }
+}
+
+fn read_show(alloc: Global, found: &ArgMatches<'_>) -> Result<Job, WordFault>
+    ensures asks { IfOk result (Asks (found_of found.now)) }
+    ensures command { IfOk result (IsJobOf (Some (codes "show"))) }
+    ensures offset { IfErr result (λ fault. fault ≡ WordFault.Offset → StartsNowhere (found_of found.now)) }
+    ensures misread { IfErr result (FailsFor (MisreadRequest (found_of found.now) Choice.Part) (StartsNowhere (found_of found.now))) }
+{
+    let mapping = mapping_words(alloc, found)?;
+    let spool = spool_of(alloc, found)?;
+    let terms = terms_of(alloc, found, Choice::Part, Some(SHOWN_ELEMENTS))?;
+    let depth = depth_of(alloc, found, Some(SHOWN_LEVELS))?;
+    let file = word_of(alloc, found, "FILE")?;
+    Ok(Job::Request(Request {
+        start: mapping.start,
+        order: mapping.order,
+        limit: mapping.limit,
+        spool,
+        terms,
+        form: Form::Shown {
+            color: color_of(word(found, "color")),
+            depth,
+        },
+        progress: flag_of(found, "progress"),
+        pickle: mapping.pickle,
+        name: mapping.name,
+        over: Over::File(file),
+    }))
+}
+
+fn read_each(alloc: Global, found: &ArgMatches<'_>) -> Result<Job, WordFault>
+    ensures asks { IfOk result (Asks (found_of found.now)) }
+    ensures command { IfOk result (IsJobOf (Some (codes "each"))) }
+    ensures offset { IfErr result (λ fault. fault ≡ WordFault.Offset → StartsNowhere (found_of found.now)) }
+    ensures misread { IfErr result (FailsFor (MisreadRequest (found_of found.now) Choice.Columns) (StartsNowhere (found_of found.now))) }
+{
+    let mapping = mapping_words(alloc, found)?;
+    let spool = spool_of(alloc, found)?;
+    let terms = terms_of(alloc, found, Choice::Columns, None)?;
+    let names = names_in(alloc, found)?;
+    Ok(Job::Request(Request {
+        start: mapping.start,
+        order: mapping.order,
+        limit: mapping.limit,
+        spool,
+        terms,
+        form: Form::Printed {
+            mode: mode_of(word(found, "mode")),
+            faults: faults_of(word(found, "faults")),
+        },
+        progress: flag_of(found, "progress"),
+        pickle: mapping.pickle,
+        name: mapping.name,
+        over: Over::Files {
+            names,
+            flush: flag_of(found, "flush"),
+        },
+    }))
+}
+
+// The most bytes that are read of a file without a length, if such a file is read.
+fn spool_of(alloc: Global, found: &ArgMatches<'_>) -> Result<Option<u64>, WordFault>
+    ensures ok { IfOk result (NumberIfAny (first_value (found_of found.now) (codes "spool"))) }
+    ensures fault { IfErr result (λ fault. fault ≢ WordFault.Offset) }
+    ensures misread { IfErr result (FailsFor (IsNoNumberIfAny (first_value (found_of found.now) (codes "spool"))) ⊥) }
+{
+    number_if_any(alloc, found, "spool", "--spool <BYTES>")
+}
+
+fn names_in(alloc: Global, found: &ArgMatches<'_>) -> Result<FileNames, AllocError>
+    ensures { IfOk result (NamesFiles (found_of found.now)) }
+{
+    if let Some(path) = found.get_str("files0-from") {
+        return Ok(FileNames::EndedByZero(String::from_str(alloc, path)?));
+    }
+    let names = copies(alloc, found.get_strs("FILE").unwrap_or(&[]))?;
+    Ok(FileNames::Words(names))
+}
+
+fn copies(alloc: Global, words: &[&str]) -> Result<Vec<String>, AllocError>
+    ensures { IfOk result (λ copies. map string_bytes copies.items ≡ map (λ word. word.now) words.now) }
+{
+    let mut copies = Vec::new(alloc);
+    for word in words {
+        copies.push(String::from_str(alloc, word)?)?;
+    }
+    Ok(copies)
+}
+
+// The terms that the options request. Without a request, printed arrays have at most `most_elements`.
+fn terms_of(
+    alloc: Global,
+    found: &ArgMatches<'_>,
+    choice: Choice,
+    most_elements: Option<u64>,
+) -> Result<Terms, WordFault>
+    ensures terms { IfOk result (HasTerms (found_of found.now) choice most_elements) }
+    ensures path { IfErr result (λ fault. fault ≡ WordFault.Offset → ⊥) }
+    ensures misread { IfErr result (FailsFor (MisreadRequest (found_of found.now) choice) ⊥) }
+{
+    let selection = selection_of(alloc, found, choice)?;
+    Ok(Terms {
+        whole: flag_of(found, "whole"),
+        most_output: number_if_any(alloc, found, "max-output", "--max-output <N>")?,
+        part: part_beside(alloc, found, &selection)?,
+        most_slots: number_if_any(alloc, found, "slots", "--slots <N>")?,
+        style: style_of(alloc, found, most_elements)?,
+        look: None,
+        selection,
+    })
+}
+
+fn has_no_terms(terms: &Terms) -> bool
+    ensures { result ≡ true → terms.now ≡ no_terms }
+{
+    match terms {
+        Terms {
+            whole: false,
+            most_output: None,
+            part: None,
+            most_slots: None,
+            style: Style {
+                numbers: Numbers::Decimal,
+                chars: Chars::Numbers,
+                elements: None,
+            },
+            look: None,
+            selection: None,
+        } => true,
+        _ => false,
+    }
+}
+
+// The mode that an argument names: the default, `flat`, for any but the three others.
+fn mode_of(word: &str) -> Mode
+    ensures { NamesMode word.now result }
+{
+    match word {
+        "tree" => Mode::Tree,
+        "json" => Mode::Json,
+        "lines" => Mode::Lines,
+        _ => Mode::Flat,
+    }
+}
+
+fn read_bound(alloc: Global, found: &ArgMatches<'_>) -> Result<Job, WordFault>
+    ensures asks { IfOk result (Asks (found_of found.now)) }
+    ensures command { IfOk result (IsJobOf (Some (codes "bound"))) }
+    ensures usage { IfErr result (λ fault. (fault ≡ Memory) ⊎ IsNoBound (found_of found.now)) }
+    ensures fault { IfErr result (λ fault. fault ≢ WordFault.Offset) }
+    ensures misread { IfErr result (FailsFor (IsNoBound (found_of found.now)) ⊥) }
+{
+    let pickle = word_of(alloc, found, "PICKLE")?;
+    let name = word_of(alloc, found, "TYPE")?;
+    let bits = number_of(alloc, found, "BITS", "<BITS>", 0)?;
+    if flag_of(found, "text") {
+        return Ok(Job::BoundText {
+            pickle,
+            name,
+            bits,
+            mode: mode_in(found),
+            style: style_of(alloc, found, None)?,
+        });
+    }
+    Ok(Job::Bound { pickle, name, bits })
+}
+
+// The mode that is requested, if one is.
+fn mode_in(found: &ArgMatches<'_>) -> Option<Mode>
+    ensures { NamesModeIfAny (first_value (found_of found.now) (codes "mode")) result }
+{
+    match found.get_str("mode") {
+        Some(word) => Some(mode_of(word)),
+        None => None,
+    }
+}
+
+fn read_check(alloc: Global, found: &ArgMatches<'_>) -> Result<Job, WordFault>
+    ensures asks { IfOk result (Asks (found_of found.now)) }
+    ensures check { IfOk result (IsCheckOf (word_in (found_of found.now) (codes "PICKLE"))) }
+    ensures memory { IfErr result (λ fault. fault ≡ Memory) }
+{
+    Ok(Job::Check {
+        pickle: word_of(alloc, found, "PICKLE")?,
+    })
+}
+
+fn read_types(alloc: Global, found: &ArgMatches<'_>) -> Result<Job, WordFault>
+    ensures asks { IfOk result (Asks (found_of found.now)) }
+    ensures command { IfOk result (IsJobOf (Some (codes "types"))) }
+    ensures memory { IfErr result (λ fault. fault ≡ Memory) }
+{
+    Ok(Job::Types {
+        pickle: word_of(alloc, found, "PICKLE")?,
+    })
+}
+
+fn read_dump(alloc: Global, found: &ArgMatches<'_>) -> Result<Job, WordFault>
+    ensures asks { IfOk result (Asks (found_of found.now)) }
+    ensures command { IfOk result (IsJobOf (Some (codes "dump"))) }
+    ensures offset { IfErr result (λ fault. fault ≡ WordFault.Offset → IsNoRange (found_of found.now)) }
+    ensures misread { IfErr result (FailsFor ⊥ (IsNoRange (found_of found.now))) }
+{
+    let from = bytes_in(found, "skip", "from")?;
+    let size = bytes_in(found, "length", "size")?;
+    Ok(Job::Dump {
+        from,
+        size,
+        ruler: !flag_of(found, "no-ruler"),
+        file: word_of(alloc, found, "FILE")?,
+    })
+}

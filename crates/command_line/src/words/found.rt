@@ -1,0 +1,85 @@
+//! What clap found for the arguments of a command.
+ghost use Rattle.std.specs.Prelude.{◌≡◌, ◌≢◌, ◌⊎◌, IfOk, IfErr, string_bytes};
+ghost use Rattle.clap.specs.Matches.{found_of, first_value, one_text};
+ghost use Rattle.command_line.specs.Numerals.{IsNumber, IsNoNumber};
+ghost use Rattle.command_line.specs.Found.{word_in, NumberIn, NumberIfAny, IsNoNumberIfAny};
+ghost use Rattle.command_line.specs.Flags.{FlagIn};
+ghost use Rattle.command_line.specs.Misread.{FailsFor};
+ghost use Rattle.command_line.specs.declared.words.WordFault.TheVariants.{Memory};
+
+use crate::numerals::decimal;
+use crate::words::WordFault;
+use crate::words::usage::{NO_NUMBER, invalid_value};
+use clap::ArgMatches;
+use std::alloc::{AllocError, Global};
+
+/// The text of an argument, empty if it wasn't given.
+pub fn word<'a>(found: &ArgMatches<'a>, name: &str) -> &'a str
+    ensures { result.now ≡ word_in (found_of found.now) name.now }
+{
+    found.get_str(name).unwrap_or("")
+}
+
+/// A copy of that text.
+pub fn word_of(alloc: Global, found: &ArgMatches<'_>, name: &str) -> Result<String, AllocError>
+    ensures { IfOk result (λ text. string_bytes text ≡ word_in (found_of found.now) name.now) }
+{
+    String::from_str(alloc, word(found, name))
+}
+
+/// The number that an argument is, if it was given. `place` is how messages name the argument.
+pub fn number_if_any(
+    alloc: Global,
+    found: &ArgMatches<'_>,
+    name: &str,
+    place: &str,
+) -> Result<Option<u64>, WordFault>
+    ensures ok { IfOk result (NumberIfAny (first_value (found_of found.now) name.now)) }
+    ensures err { IfErr result (λ fault. (fault ≡ Memory) ⊎ IsNoNumberIfAny (first_value (found_of found.now) name.now)) }
+    ensures fault { IfErr result (λ fault. fault ≢ WordFault.Offset) }
+    ensures misread { IfErr result (FailsFor (IsNoNumberIfAny (first_value (found_of found.now) name.now)) ⊥) }
+{
+    match found.get_str(name) {
+        Some(word) => Ok(Some(number_of_word(alloc, word, place)?)),
+        None => Ok(None),
+    }
+}
+
+/// The number that an argument is, or the default if it wasn't given.
+pub fn number_of(
+    alloc: Global,
+    found: &ArgMatches<'_>,
+    name: &str,
+    place: &str,
+    default: u64,
+) -> Result<u64, WordFault>
+    ensures ok { IfOk result (NumberIn (first_value (found_of found.now) name.now) default) }
+    ensures err { IfErr result (λ fault. (fault ≡ Memory) ⊎ IsNoNumberIfAny (first_value (found_of found.now) name.now)) }
+    ensures fault { IfErr result (λ fault. fault ≢ WordFault.Offset) }
+    ensures misread { IfErr result (FailsFor (IsNoNumberIfAny (first_value (found_of found.now) name.now)) ⊥) }
+{
+    match found.get_str(name) {
+        Some(word) => number_of_word(alloc, word, place),
+        None => Ok(default),
+    }
+}
+
+// The number that a text is. clap's own numbers may have a plus before them.
+fn number_of_word(alloc: Global, word: &str, place: &str) -> Result<u64, WordFault>
+    ensures ok { IfOk result (IsNumber word.now) }
+    ensures err { IfErr result (λ fault. (fault ≡ Memory) ⊎ IsNoNumber word.now) }
+    ensures fault { IfErr result (λ fault. fault ≢ WordFault.Offset) }
+    ensures misread { IfErr result (FailsFor (IsNoNumber word.now) ⊥) }
+{
+    match decimal(word.as_bytes()) {
+        Some(number) => Ok(number),
+        None => Err(WordFault::Usage(invalid_value(alloc, word, place, NO_NUMBER)?)),
+    }
+}
+
+/// Whether a flag was given.
+pub fn flag_of(found: &ArgMatches<'_>, name: &str) -> bool
+    ensures { FlagIn (one_text (found_of found.now) name.now) result }
+{
+    found.get_flag(name)
+}

@@ -1,0 +1,252 @@
+//! The parts of a value that arguments request.
+ghost use Rattle.std.specs.Prelude.{◌≡◌, ◌≢◌, map, codes, IfOk, IfErr, OnOk};
+ghost use Rattle.clap.specs.Matches.{found_of, first_value};
+ghost use Rattle.command_line.specs.Paths.{steps_of, IsPath};
+ghost use Rattle.command_line.specs.Patterns.{parts_of, IsPattern};
+ghost use Rattle.command_line.specs.Misread.{FailsFor, AnyWord, IsNoPath, IsNoPathIfAny, IsNoPattern, IsNoOnePath, MisreadSelection, MisreadColumns, MisreadRows};
+ghost use Rattle.command_line.specs.Selects.{NamesAbsent, ArePatterns, AreColumns, IsOnePath, NamesRows, SelectsParts, SelectsColumns, Selects, PartBeside, HasRows, IsColumn, is_one_path};
+ghost use Rattle.command_line.specs.declared.words.WordFault.TheVariants.{Offset};
+
+use crate::path::{Path, PathFault, read_path};
+use crate::pattern::{Pattern, read_pattern};
+use crate::selection::{Absent, Choice, Column, Rows, Selection, Shape};
+use crate::words::WordFault;
+use crate::words::found::{flag_of, word};
+use crate::words::usage::invalid_value;
+use clap::ArgMatches;
+use std::alloc::Global;
+
+/// How messages name the option of a part, and that of rows.
+const GET: &str = "--get <PATH>";
+
+const ROWS: &str = "--rows <PATTERN>";
+
+/// What is wrong with an argument that is no path.
+const NO_PATH: &str = "not a path";
+
+/// The selection that the options request, if they request more than one part at most.
+pub fn selection_of(
+    alloc: Global,
+    found: &ArgMatches<'_>,
+    choice: Choice,
+) -> Result<Option<Selection>, WordFault>
+    ensures ok { IfOk result (Selects (found_of found.now) choice) }
+    ensures fault { IfErr result (λ fault. fault ≢ Offset) }
+    ensures misread { IfErr result (FailsFor (MisreadSelection (found_of found.now) choice) ⊥) }
+{
+    let absent = absent_of(word(found, "absent"));
+    let words = found.get_strs("get").unwrap_or(&[]);
+    match choice {
+        Choice::Part => Ok(None),
+        Choice::Parts => match found.get_str("rows") {
+            Some(pattern) => Ok(Some(Selection {
+                shape: Shape::Rows(rows_of(alloc, found, pattern, words)?),
+                absent,
+            })),
+            None => parts_of(alloc, words, absent),
+        },
+        Choice::Columns => columns_selection(alloc, words, absent),
+    }
+}
+
+/// The path to the requested part, if there is one and no selection is requested.
+pub fn part_beside(
+    alloc: Global,
+    found: &ArgMatches<'_>,
+    selection: &Option<Selection>,
+) -> Result<Option<Path>, WordFault>
+    ensures part { IfOk result (PartBeside (first_value (found_of found.now) (codes "get")) selection.now) }
+    ensures fault { IfErr result (λ fault. fault ≢ Offset) }
+    ensures misread { IfErr result (FailsFor (IsNoPathIfAny (first_value (found_of found.now) (codes "get"))) ⊥) }
+{
+    match (selection, found.get_str("get")) {
+        (None, Some(word)) => Ok(Some(path_of(alloc, word)?)),
+        _ => Ok(None),
+    }
+}
+
+// What an absent part is, as an argument names it: the default, a fault, for any other than `empty`.
+fn absent_of(word: &str) -> Absent
+    ensures { NamesAbsent word.now result }
+{
+    match word {
+        "empty" => Absent::Empty,
+        _ => Absent::Fault,
+    }
+}
+
+// The parts to which the patterns lead that the arguments are. One path alone, whose absence is a fault, is no selection.
+fn parts_of(alloc: Global, words: &[&str], absent: Absent) -> Result<Option<Selection>, WordFault>
+    ensures ok { IfOk result (SelectsParts (map (λ word. word.now) words.now) absent) }
+    ensures fault { IfErr result (λ fault. fault ≢ Offset) }
+    ensures misread { IfErr result (FailsFor (AnyWord IsNoPattern (map (λ word. word.now) words.now)) ⊥) }
+{
+    if words.is_empty() {
+        return Ok(None);
+    }
+    let patterns = patterns_of(alloc, words)?;
+    if absent == Absent::Fault && is_one_path(patterns.as_slice()) {
+        return Ok(None);
+    }
+    Ok(Some(Selection {
+        shape: Shape::Parts(patterns),
+        absent,
+    }))
+}
+
+fn is_one_path(patterns: &[Pattern]) -> bool
+    ensures { result ≡ is_one_path patterns.now }
+{
+    match patterns {
+        [pattern] => pattern.is_path(),
+        _ => false,
+    }
+}
+
+// The columns of the value itself, whose paths the arguments are. One alone is a part.
+fn columns_selection(
+    alloc: Global,
+    words: &[&str],
+    absent: Absent,
+) -> Result<Option<Selection>, WordFault>
+    ensures ok { IfOk result (SelectsColumns (map (λ word. word.now) words.now) absent) }
+    ensures fault { IfErr result (λ fault. fault ≢ Offset) }
+    ensures misread { IfErr result (FailsFor (MisreadColumns (map (λ word. word.now) words.now)) ⊥) }
+{
+    if words.len() > 1 {
+        let rows = Rows {
+            pattern: Pattern::root(alloc),
+            columns: columns_of(alloc, words)?,
+            header: false,
+        };
+        return Ok(Some(Selection {
+            shape: Shape::Rows(rows),
+            absent,
+        }));
+    }
+    match (words, absent) {
+        ([word], Absent::Empty) => Ok(Some(Selection {
+            shape: Shape::Parts(lone_path(alloc, word)?),
+            absent,
+        })),
+        _ => Ok(None),
+    }
+}
+
+// The path that an argument is, as the one pattern.
+fn lone_path(alloc: Global, word: &str) -> Result<Vec<Pattern>, WordFault>
+    ensures ok { IfOk result (λ patterns. IsOnePath word.now patterns.items) }
+    ensures fault { IfErr result (λ fault. fault ≢ Offset) }
+    ensures misread { IfErr result (FailsFor (IsNoOnePath word.now) ⊥) }
+{
+    let patterns = patterns_of(alloc, &[word])?;
+    if is_one_path(patterns.as_slice()) {
+        return Ok(patterns);
+    }
+    Err(WordFault::Usage(invalid_value(alloc, word, GET, NO_PATH)?))
+}
+
+// The rows that the options request, where the printed value has a mode that has rows.
+fn rows_of(
+    alloc: Global,
+    found: &ArgMatches<'_>,
+    pattern: &str,
+    words: &[&str],
+) -> Result<Rows, WordFault>
+    ensures ok { IfOk result (NamesRows (found_of found.now) pattern.now (map (λ word. word.now) words.now)) }
+    ensures fault { IfErr result (λ fault. fault ≢ Offset) }
+    ensures misread { IfErr result (FailsFor (MisreadRows (found_of found.now) pattern.now (map (λ word. word.now) words.now)) ⊥) }
+{
+    let header = flag_of(found, "header");
+    check_mode(alloc, word(found, "mode"), header)?;
+    Ok(Rows {
+        pattern: pattern_of(alloc, pattern, ROWS, "not a pattern")?,
+        columns: columns_of(alloc, words)?,
+        header,
+    })
+}
+
+// Refuses a mode that has no rows, or no header.
+fn check_mode(alloc: Global, mode: &str, header: bool) -> Result<(), WordFault>
+    ensures ok { OnOk result (HasRows mode.now header) }
+    ensures fault { IfErr result (λ fault. fault ≢ Offset) }
+    ensures misread { IfErr result (FailsFor (¬ (HasRows mode.now header)) ⊥) }
+{
+    let why = match mode {
+        "tree" | "lines" => "--rows prints flat or json",
+        "json" if header => "--header prints flat",
+        _ => return Ok(()),
+    };
+    Err(WordFault::Usage(invalid_value(alloc, mode, "--mode <MODE>", why)?))
+}
+
+fn patterns_of(alloc: Global, words: &[&str]) -> Result<Vec<Pattern>, WordFault>
+    ensures ok { IfOk result (λ patterns. ArePatterns (map (λ word. word.now) words.now) patterns.items) }
+    ensures fault { IfErr result (λ fault. fault ≢ Offset) }
+    ensures misread { IfErr result (FailsFor (AnyWord IsNoPattern (map (λ word. word.now) words.now)) ⊥) }
+{
+    let mut patterns = Vec::new(alloc);
+    for word in words {
+        let pattern = pattern_of(alloc, word, GET, NO_PATH)?;
+        match patterns.push(pattern) {
+            Ok(()) => {}
+            Err(_) => return Err(WordFault::Memory),
+        }
+    }
+    Ok(patterns)
+}
+
+fn columns_of(alloc: Global, words: &[&str]) -> Result<Vec<Column>, WordFault>
+    ensures ok { IfOk result (λ columns. AreColumns (map (λ word. word.now) words.now) columns.items) }
+    ensures fault { IfErr result (λ fault. fault ≢ Offset) }
+    ensures misread { IfErr result (FailsFor (AnyWord IsNoPath (map (λ word. word.now) words.now)) ⊥) }
+{
+    let mut columns = Vec::new(alloc);
+    for word in words {
+        let column = column_of(alloc, word)?;
+        match columns.push(column) {
+            Ok(()) => {}
+            Err(_) => return Err(WordFault::Memory),
+        }
+    }
+    Ok(columns)
+}
+
+// The column whose path an argument is.
+fn column_of(alloc: Global, word: &str) -> Result<Column, WordFault>
+    ensures ok { IfOk result (IsColumn word.now) }
+    ensures fault { IfErr result (λ fault. fault ≢ Offset) }
+    ensures misread { IfErr result (FailsFor (IsNoPath word.now) ⊥) }
+{
+    let path = path_of(alloc, word)?;
+    Ok(Column {
+        name: String::from_str(alloc, word)?,
+        path,
+    })
+}
+
+// The pattern that an argument is. `place` is how messages name the argument, and `why` what they say of another.
+fn pattern_of(alloc: Global, word: &str, place: &str, why: &str) -> Result<Pattern, WordFault>
+    ensures ok { IfOk result (λ pattern. IsPattern word.now (parts_of pattern.steps.items)) }
+    ensures fault { IfErr result (λ fault. fault ≢ Offset) }
+    ensures misread { IfErr result (FailsFor (IsNoPattern word.now) ⊥) }
+{
+    match read_pattern(alloc, word.as_bytes()) {
+        Ok(pattern) => Ok(pattern),
+        Err(PathFault::Form) => Err(WordFault::Usage(invalid_value(alloc, word, place, why)?)),
+        Err(PathFault::Memory) => Err(WordFault::Memory),
+    }
+}
+
+// The path that an argument is.
+fn path_of(alloc: Global, word: &str) -> Result<Path, WordFault>
+    ensures path { IfOk result (λ path. IsPath word.now (steps_of path.steps.items)) }
+    ensures fault { IfErr result (λ fault. fault ≢ Offset) }
+    ensures misread { IfErr result (FailsFor (IsNoPath word.now) ⊥) }
+{
+    match read_path(alloc, word.as_bytes()) {
+        Ok(path) => Ok(path),
+        Err(PathFault::Form) => Err(WordFault::Usage(invalid_value(alloc, word, GET, NO_PATH)?)),
+        Err(PathFault::Memory) => Err(WordFault::Memory),
+    }
+}

@@ -1,0 +1,126 @@
+//! How a printed value looks, as arguments request it.
+ghost use Rattle.std.specs.Prelude.{◌≡◌, ◌≢◌, ◌⊎◌, IfOk, IfErr, codes};
+ghost use Rattle.clap.specs.Matches.{found_of, first_value};
+ghost use Rattle.command_line.specs.Styles.{NamesNumbers, NamesChars, NamesElements, NamesElementsOr, IsNoElements, IsNoElementsIfAny, NamesAnswer, NamesColor, NamesFaults};
+ghost use Rattle.command_line.specs.Found.{NamesStyle};
+ghost use Rattle.command_line.specs.Misread.{FailsFor};
+ghost use Rattle.command_line.specs.declared.words.WordFault.TheVariants.{Offset, Memory};
+
+use crate::answer_form::AnswerForm;
+use crate::color::Color;
+use crate::fault_form::FaultForm;
+use crate::numerals::decimal;
+use crate::words::WordFault;
+use crate::words::found::word;
+use crate::words::usage::invalid_value;
+use clap::ArgMatches;
+use std::alloc::Global;
+use text_output::style::{Chars, Numbers, Style};
+
+/// The style that the options request. Without a request, arrays have at most `most_elements`.
+pub fn style_of(
+    alloc: Global,
+    found: &ArgMatches<'_>,
+    most_elements: Option<u64>,
+) -> Result<Style, WordFault>
+    ensures style { IfOk result (NamesStyle (found_of found.now) most_elements) }
+    ensures usage { IfErr result (λ fault. (fault ≡ Memory) ⊎ IsNoElementsIfAny (first_value (found_of found.now) (codes "elements"))) }
+    ensures fault { IfErr result (λ fault. fault ≢ Offset) }
+    ensures misread { IfErr result (FailsFor (IsNoElementsIfAny (first_value (found_of found.now) (codes "elements"))) ⊥) }
+{
+    Ok(Style {
+        numbers: numbers_of(word(found, "numbers")),
+        chars: chars_of(word(found, "chars")),
+        elements: match found.get_str("elements") {
+            Some(word) => most_of(alloc, word, "--elements <N>")?,
+            None => most_elements,
+        },
+    })
+}
+
+/// The most levels of parts that are shown, as the options request it. Without a request there are `most_levels`.
+pub fn depth_of(
+    alloc: Global,
+    found: &ArgMatches<'_>,
+    most_levels: Option<u64>,
+) -> Result<Option<u64>, WordFault>
+    ensures depth { IfOk result (NamesElementsOr most_levels (first_value (found_of found.now) (codes "depth"))) }
+    ensures fault { IfErr result (λ fault. fault ≢ Offset) }
+    ensures misread { IfErr result (FailsFor (IsNoElementsIfAny (first_value (found_of found.now) (codes "depth"))) ⊥) }
+{
+    match found.get_str("depth") {
+        Some(word) => most_of(alloc, word, "--depth <N>"),
+        None => Ok(most_levels),
+    }
+}
+
+/// When colors are printed, as an argument names it: `auto`, the default, for any other than `always` and `never`.
+pub fn color_of(word: &str) -> Color
+    ensures { NamesColor word.now result }
+{
+    match word {
+        "always" => Color::Always,
+        "never" => Color::Never,
+        _ => Color::Auto,
+    }
+}
+
+/// How a refusal or a fault is written, as an argument names it: in words, the default, for any other than `json`.
+pub fn faults_of(word: &str) -> FaultForm
+    ensures { NamesFaults word.now result }
+{
+    match word {
+        "json" => FaultForm::Json,
+        _ => FaultForm::Text,
+    }
+}
+
+/// How an answer about a pickle is printed, as an argument names it: in words, the default, for any other than `json`.
+pub fn answer_of(word: &str) -> AnswerForm
+    ensures { NamesAnswer word.now result }
+{
+    match word {
+        "json" => AnswerForm::Json,
+        _ => AnswerForm::Text,
+    }
+}
+
+// The form of numbers that an argument names: decimal, the default, for any other than `hex` and `digits`.
+fn numbers_of(word: &str) -> Numbers
+    ensures { NamesNumbers word.now result }
+{
+    match word {
+        "hex" => Numbers::Hexadecimal,
+        "digits" => Numbers::Digits,
+        _ => Numbers::Decimal,
+    }
+}
+
+// The form of arrays of `char` that an argument names: numbers, the default, for any other than `text`.
+fn chars_of(word: &str) -> Chars
+    ensures { NamesChars word.now result }
+{
+    match word {
+        "text" => Chars::Text,
+        _ => Chars::Numbers,
+    }
+}
+
+// The most elements or levels that the argument of an option names.
+fn most_of(alloc: Global, word: &str, option: &str) -> Result<Option<u64>, WordFault>
+    ensures ok { IfOk result (NamesElements word.now) }
+    ensures usage { IfErr result (λ fault. (fault ≡ Memory) ⊎ IsNoElements word.now) }
+    ensures fault { IfErr result (λ fault. fault ≢ Offset) }
+    ensures misread { IfErr result (FailsFor (IsNoElements word.now) ⊥) }
+{
+    if word == "all" {
+        return Ok(None);
+    }
+    match decimal(word.as_bytes()) {
+        Some(most) => Ok(Some(most)),
+        None => {
+            let why = "neither a number below 2^64 nor all";
+            Err(WordFault::Usage(invalid_value(alloc, word, option, why)?))
+        }
+    }
+}

@@ -1,5 +1,0 @@
-use Rattle.command_words.proofs.PatternTexts.{one_pattern}
-use Rattle.command_words.proofs.pattern.has_one_pattern.Goals as goal
-
-pub returns : goal.returns
-returns c = record { law = one_pattern }

@@ -1,7 +1,0 @@
-use Rattle.std.proofs.Common.{refl}
-use Rattle.pickle_meaning.specs.Clauses.{constraint}
-use Rattle.fault_check.proofs.mapped.check_part.Goals as goal
-
-pub returns-in-None-clause-is : goal.returns-in-None-clause-is
-unfolding constraint
-returns-in-None-clause-is c = λ nodes. rw c.in-None.is refl

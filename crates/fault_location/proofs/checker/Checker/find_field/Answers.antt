@@ -1,0 +1,102 @@
+use Rattle.std.proofs.Common.{rules, [], ◌+◌, drop, ◌∙◌, arith}
+use Rattle.std.proofs.lemmas.List.{drop_more, drop_all}
+use Rattle.std.proofs.lemmas.Result.{err_from_is_err_and}
+use Rattle.pickle_types.specs.Table.{type_of, open_fields}
+use Rattle.fault_parts.specs.Arises.{no_field_before}
+use Rattle.fault_location.proofs.Located.{field_found, fields_passed}
+use Rattle.fault_location.proofs.Searching.{later_ends}
+use Rattle.fault_location.proofs.checker.Checker.find_field.Goals as goal
+
+pub loop-place-init : goal.loop-place-init
+loop-place-init g c = record {
+  frame = search rules;
+  depth = search rules;
+  so_far = λ bytes known. no_field_before;
+  spent = λ bytes known. omega arith;
+}
+
+pub returns-in-Beside-clause-is : goal.returns-in-Beside-clause-is
+returns-in-Beside-clause-is g c =
+    λ bytes known.
+    let i = c.loop-place.invariant in
+    let next = drop_more c.args.fields.now c.loop-place.place c.index-fields-place.result (omega arith) in
+    let next = rw (← c.index-fields-place.is) at next in
+    let before = rw next at (i.so_far bytes known) in
+    let beside = rw (i.frame.lent.nodes, c.in-Beside.is) at (c.in_ok-end.ensures.is bytes (i.frame.left.bytes ∙ known)) in
+    field_found [] before (beside (open_fields (type_of c.args.self.now.nodes.now) (drop (c.loop-place.place + 1) c.args.fields.now)))
+
+pub returns-in-Inside-clause-is : goal.returns-in-Inside-clause-is
+returns-in-Inside-clause-is g c =
+    λ bytes known.
+    let i = c.loop-place.invariant in
+    let next = drop_more c.args.fields.now c.loop-place.place c.index-fields-place.result (omega arith) in
+    let next = rw (← c.index-fields-place.is) at next in
+    let before = rw next at (i.so_far bytes known) in
+    let inside = rw (i.frame.lent.nodes, c.in-Inside.is) at (c.in_ok-end.ensures.is bytes (i.frame.left.bytes ∙ known)) in
+    rw c.field_part-part.ensures.inner_is (field_found _ before (inside (open_fields (type_of c.args.self.now.nodes.now) (drop (c.loop-place.place + 1) c.args.fields.now))))
+
+pub returns-clause-is : goal.returns-clause-is
+returns-clause-is g c =
+    λ bytes known.
+    let i = c.loop-place.invariant in
+    fields_passed (rw (drop_all c.loop-place.place c.args.fields.now (omega arith)) at (i.so_far bytes known))
+
+pub loop-place-preserved : goal.loop-place-preserved
+loop-place-preserved g c =
+    let i = c.loop-place.invariant in
+    let next = drop_more c.args.fields.now c.loop-place.place c.index-fields-place.result (omega arith) in
+    let next = rw (← c.index-fields-place.is) at next in
+    let rest = open_fields (type_of c.args.self.now.nodes.now) (drop (c.loop-place.place + 1) c.args.fields.now) in
+    record {
+      frame = search rules;
+      depth = search rules;
+      so_far = λ bytes known.
+          let before = rw next at (i.so_far bytes known) in
+          let passed = rw (i.frame.lent.nodes, c.in-Passed.is) at (c.in_ok-end.ensures.is bytes (i.frame.left.bytes ∙ known)) in
+          passed _ _ _ _ before;
+      spent = λ bytes known.
+          let spent = rw next at (i.spent bytes known) in
+          let one = rw (i.frame.lent.nodes, c.in-Passed.is) at (c.in_ok-end.ensures.spends bytes (i.frame.left.bytes ∙ known) rest) in
+          omega (arith, spent, one);
+    }
+
+pub returns-in-Beside-clause-spends : goal.returns-in-Beside-clause-spends
+returns-in-Beside-clause-spends g c =
+    λ bytes known.
+    let i = c.loop-place.invariant in
+    let next = drop_more c.args.fields.now c.loop-place.place c.index-fields-place.result (omega arith) in
+    let next = rw (← c.index-fields-place.is) at next in
+    let spent = rw next at (i.spent bytes known) in
+    let one = rw (i.frame.lent.nodes, c.in-Beside.is) at (c.in_ok-end.ensures.spends bytes (i.frame.left.bytes ∙ known) (open_fields (type_of c.args.self.now.nodes.now) (drop (c.loop-place.place + 1) c.args.fields.now))) in
+    omega (arith, spent, one)
+
+pub returns-in-Inside-clause-spends : goal.returns-in-Inside-clause-spends
+returns-in-Inside-clause-spends g c =
+    λ bytes known.
+    let i = c.loop-place.invariant in
+    let next = drop_more c.args.fields.now c.loop-place.place c.index-fields-place.result (omega arith) in
+    let next = rw (← c.index-fields-place.is) at next in
+    let spent = rw next at (i.spent bytes known) in
+    let one = rw (i.frame.lent.nodes, c.in-Inside.is) at (c.in_ok-end.ensures.spends bytes (i.frame.left.bytes ∙ known) (open_fields (type_of c.args.self.now.nodes.now) (drop (c.loop-place.place + 1) c.args.fields.now))) in
+    rw c.field_part-part.ensures.inner_is (omega (arith, spent, one))
+
+pub returns-clause-spends : goal.returns-clause-spends
+returns-clause-spends g c =
+    λ bytes known.
+    let i = c.loop-place.invariant in
+    let spent = rw (drop_all c.loop-place.place c.args.fields.now (omega arith)) at (i.spent bytes known) in
+    omega (arith, spent)
+
+pub returns-in_err-end-clause-spends : goal.returns-in_err-end-clause-spends
+returns-in_err-end-clause-spends g c =
+    let i = c.loop-place.invariant in
+    let p = err_from_is_err_and c.from_residual.result c.from_residual.ensures.1 in
+    let next = drop_more c.args.fields.now c.loop-place.place c.index-fields-place.result (omega arith) in
+    let next = rw (← c.index-fields-place.is) at next in
+    let rest = open_fields (type_of c.args.self.now.nodes.now) (drop (c.loop-place.place + 1) c.args.fields.now) in
+    λ bytes known.
+    let spent = rw next at (i.spent bytes known) in
+    let one = rw i.frame.lent.nodes at (c.in_err-end.ensures.spends bytes (i.frame.left.bytes ∙ known) rest) in
+    rw (p.1, p.2)
+    (later_ends (g.S.Space.view c.args.space.now) (g.S.Space.view c.loop-place.space) (g.S.Space.view c.try_field.new.space) c.args.self.now.meter.now c.loop-place.self.meter.now _ _ _
+    i.frame.left.failures c.in_err-end.ensures.frame.left.failures i.frame.left.limit (omega (arith, spent)) one)

@@ -1,0 +1,21 @@
+use Rattle.std.proofs.Common.{rules}
+use Rattle.fault_location.proofs.Meant.{comes_mapped, outer_mapped}
+use Rattle.fault_location.proofs.Searching.{mapped_spends}
+use Rattle.pickle_map.specs.Calls.{as_type}
+use Rattle.fault_location.proofs.checker.Checker.map_watched.Goals as goal
+
+pub returns : goal.returns
+returns g c = record {
+  frame = search rules;
+  ends = search rules;
+  is = comes_mapped c.args.self.now.nodes.now (g.S.Space.view c.args.space.now) c.args.self.now.meter.now c.map_type.new.self.meter.now c.args.self.now.store.now c.map_type.new.self.store.now
+      c.args.inner.node c.args.inner.order c.args.inner.start (g.met.S.Space.whole c.args.space.now) c.map_type.result c.map_type.ensures.is;
+  level = search rules;
+  outer = record {
+    outer = outer_mapped c.args.self.now.nodes.now (g.S.Space.view c.args.space.now) c.args.self.now.meter.now c.map_type.new.self.meter.now c.args.self.now.store.now c.map_type.new.self.store.now
+        (as_type c.args.inner.node c.args.inner.order c.args.inner.start) c.map_type.result c.map_type.ensures.is c.map_type.ensures.level.same;
+    depth = search rules;
+  };
+  spends = mapped_spends c.args.self.now.nodes.now (g.S.Space.view c.args.space.now) (g.S.Space.view c.map_type.new.space) c.args.self.now.meter.now c.map_type.new.self.meter.now c.args.self.now.store.now c.map_type.new.self.store.now
+      c.args.inner.node c.args.inner.order c.args.inner.start (g.met.S.Space.whole c.args.space.now) c.map_type.result c.map_type.ensures.is c.map_type.ensures.frame.left.device;
+}

@@ -1,0 +1,306 @@
+//! Why a mapping stops, or an array in it: more lines, after the line of the fault.
+#![tactic(auto)]
+
+ghost use Rattle.std.specs.Prelude.{◌≡◌, ◌≢◌, ◌<◌, ◌++◌, [], length, IfOk, IsTrue, IsFalse, IsSome};
+ghost use Rattle.pickle_types.specs.Table.{IsTable};
+ghost use Rattle.pickle_types.specs.TypeTable.{nodes_of};
+ghost use Rattle.bit_space.specs.SpaceView.{Keeps, SpaceView};
+ghost use Rattle.command_line.specs.declared.ask.Ask.{Ask};
+ghost use Rattle.poke_batch.specs.RunsUnder.{end_saying};
+ghost use Rattle.run_parts.specs.Outcomes.{outcome_saying, outcome_status};
+ghost use Rattle.run_parts.specs.declared.accept.Refusal.TheVariants.{Memory};
+ghost use Rattle.run_parts.specs.declared.status.Status.TheVariants.{Fault as Faulty};
+ghost use Rattle.pickle_meaning.specs.declared.faults.MapFaultKind.TheVariants as faults;
+ghost use Rattle.pickle_meaning.specs.Values.{value_at};
+ghost use Rattle.value_store.specs.Slots.{levels};
+ghost use Rattle.fault_report.specs.Found.{scene_type};
+ghost use Rattle.fault_report.specs.Mapped.{IsKnown, mapped_type};
+ghost use Rattle.fault_report.specs.Why.{run_of, ExplainsRun, IsOutcomeOf, TellsOfFault, TellsOfPart, TellsOfValue, TellsWhy};
+
+mod absent;
+mod again;
+mod approach;
+mod blame;
+mod cause;
+mod endings;
+mod flat;
+mod front;
+mod impossible;
+mod indent;
+mod lines;
+pub mod mapping;
+mod members;
+mod met;
+mod missing;
+mod names;
+mod other;
+mod part;
+mod place;
+mod scene;
+mod seen;
+mod term;
+mod trail;
+mod watcher;
+mod way;
+
+use crate::again::{Again, Kept};
+use crate::cause::Fault;
+use crate::lines::{arrays_text, fault_text};
+use crate::mapping::{Pickle, TypeMapping};
+use crate::scene::Scene;
+use crate::term::term_text;
+use bit_space::Space;
+use pickle_map::{MapFault, MapFaultKind, Store};
+use pickle_source::script::Script;
+use pickle_source::text::Text;
+use pickle_types::table::{Table, TypeId};
+use poke_batch::ask::Ask;
+use poke_batch::outcome::Outcome;
+use poke_batch::run::store_of;
+use poke_batch::terms::Terms;
+use run_parts::accept::{Refusal, accept};
+use run_parts::status::Status;
+use std::alloc::{AllocError, Global};
+use text_output::mode::Mode;
+use value_text::typed::{Typed, Types};
+
+/// What is said of a run beside its line.
+#[derive(Drop)]
+pub struct Explained {
+    /// The lines that say why the mapping ended.
+    pub text: Vec<u8>,
+    /// If the value is shown to the eye and the mapping stopped: the lines on what the mapping had met before the fault.
+    pub met: Vec<u8>,
+}
+
+impl Explained {
+    /// Nothing.
+    fn none(alloc: Global) -> Explained
+        ensures { result.text.items ≡ [] }
+    {
+        Explained {
+            text: Vec::new(alloc),
+            met: Vec::new(alloc),
+        }
+    }
+}
+
+/// The lines that say why a mapping of a type over a file had its outcome or, if it is done, which arrays ended early.
+/// Bytes outside 0x20 to 0x7e are escaped in these lines.
+///
+/// The type is mapped again. If that mapping doesn't end so, the result is empty.
+pub fn reasons<S: Space>(
+    alloc: Global,
+    pickle: Pickle<'_>,
+    ask: &Ask<'_>,
+    terms: &Terms,
+    space: &mut S,
+    outcome: Outcome,
+) -> Result<Explained, AllocError>
+    ensures why { let run = run_of (S.view space.old) (S.view space.new) ask.now terms.now outcome in
+        IfOk result (λ reasons. ExplainsRun pickle.entry.bytes.now run reasons.text.items) }
+    ensures keeps { Keeps (S.view space.old) (S.view space.new) }
+{
+    let table = match accept(alloc, pickle.bytes) {
+        Ok(table) => table,
+        Err(refusal) => return none_refused(alloc, refusal),
+    };
+    let Some(id) = table.find(ask.name) else {
+        return Ok(Explained::none(alloc));
+    };
+    let mapping = TypeMapping {
+        alloc,
+        table: &table,
+        id,
+        ask,
+    };
+    let reasons = reasons_in(mapping, pickle, terms, space, outcome)?;
+    Ok(reasons)
+}
+
+/// What is said of a run with a refused pickle: nothing. An error if it is refused for want of memory.
+fn none_refused(alloc: Global, refusal: Refusal) -> Result<Explained, AllocError>
+    ensures text { IfOk result (λ reasons. reasons.text.items ≡ []) }
+    ensures refused { IfOk result (λ _. refusal ≢ Memory) }
+{
+    match refusal {
+        Refusal::Memory => Err(AllocError),
+        _ => Ok(Explained::none(alloc)),
+    }
+}
+
+/// What [`reasons`] returns, from the table of the pickle's types.
+pub fn reasons_in<S: Space>(
+    mapping: TypeMapping<'_>,
+    pickle: Pickle<'_>,
+    terms: &Terms,
+    space: &mut S,
+    outcome: Outcome,
+) -> Result<Explained, AllocError>
+    requires known { IsKnown mapping }
+    ensures why { let run = run_of (S.view space.old) (S.view space.new) mapping.entry.ask.now terms.now outcome in
+        IfOk result (λ reasons. TellsWhy run (mapped_type mapping.entry) reasons.text.items) }
+    ensures keeps { Keeps (S.view space.old) (S.view space.new) }
+{
+    let TypeMapping {
+        alloc,
+        table,
+        id,
+        ask,
+    } = mapping;
+    let Ok(mut store) = store_of(alloc, terms.most_slots) else {
+        return Err(AllocError);
+    };
+    let Again { end, kept } = mapping.again(terms.look, space, &mut store)?;
+    let scene = scene_of(mapping, pickle, 8 * space.len())?;
+    let text = match end {
+        Ok(()) => {
+            let types = Types::new(table);
+            let value = root_of(&store, table, &types, id);
+            value_reasons(&scene, value, terms, ask.mode, &kept, outcome)?
+        }
+        Err(fault) => fault_reasons(&scene, ask, terms, fault, &kept, outcome)?,
+    };
+    let met = met_of(alloc, kept, &text);
+    Ok(Explained { text, met })
+}
+
+/// The lines on what a mapping had met, if there are lines that say why it stopped.
+fn met_of(alloc: Global, kept: Kept, text: &[u8]) -> Vec<u8> {
+    if text.is_empty() {
+        return Vec::new(alloc);
+    }
+    let Kept {
+        fault,
+        broken: _,
+        planned: _,
+    } = kept;
+    match fault {
+        Some(fault) => fault.into_met(),
+        None => Vec::new(alloc),
+    }
+}
+
+/// The value of a type that a store holds, beside its type.
+fn root_of<'a>(store: &'a Store, table: &'a Table, types: &'a Types<'a>, id: TypeId) -> Typed<'a>
+    requires held { IsSome (value_at (levels (nodes_of table.now) store.now) 0 0) }
+{
+    match store.root(table) {
+        Some(value) => Typed::new(value, types, Some(id.node)),
+        None => unreachable!(),
+    }
+}
+
+/// What the reasons are printed from.
+fn scene_of<'p, 't>(
+    mapping: TypeMapping<'t>,
+    pickle: Pickle<'p>,
+    bits: u64,
+) -> Result<Scene<'p, 't>, AllocError>
+    ensures nodes { IfOk result (λ scene. scene.nodes.now ≡ nodes_of mapping.entry.table.now) }
+    ensures root { IfOk result (λ scene. scene.root ≡ mapping.entry.id.node) }
+{
+    let alloc = mapping.alloc;
+    let Some(script) = Script::new(alloc, pickle.bytes) else {
+        return Err(AllocError);
+    };
+    Ok(Scene {
+        alloc,
+        script,
+        path: Text::new(alloc).show(pickle.path)?.into_bytes(),
+        name: Vec::from_slice(alloc, mapping.ask.name)?,
+        nodes: mapping.table.nodes(),
+        root: mapping.id.node,
+        bits,
+    })
+}
+
+/// The lines on a mapping that ended with a value. The run is done, or its outcome is the term that the value fails to
+/// meet.
+fn value_reasons(
+    scene: &Scene<'_, '_>,
+    value: Typed<'_>,
+    terms: &Terms,
+    mode: Mode,
+    kept: &Kept,
+    outcome: Outcome,
+) -> Result<Vec<u8>, AllocError>
+    requires table { IsTable scene.now.nodes.now }
+    requires root { scene.now.root < length scene.now.nodes.now }
+    ensures why { (space after : SpaceView) (ask : Ask) → TellsOfValue (run_of space after ask terms.now outcome) scene.now result }
+{
+    let Some(term) = term_text(scene.alloc, value, terms, mode, scene.bits, outcome)? else {
+        return Ok(Vec::new(scene.alloc));
+    };
+    let text = joined(term, arrays_text(scene, kept, outcome != Outcome::Done)?)?;
+    Ok(text)
+}
+
+/// The lines on a mapping that stopped, if the run's outcome is its fault. An error if it isn't, and the mapping stopped
+/// for want of memory.
+fn fault_reasons(
+    scene: &Scene<'_, '_>,
+    ask: &Ask<'_>,
+    terms: &Terms,
+    fault: MapFault,
+    kept: &Kept,
+    outcome: Outcome,
+) -> Result<Vec<u8>, AllocError>
+    requires table { IsTable scene.now.nodes.now }
+    requires root { scene.now.root < length scene.now.nodes.now }
+    ensures why { (space after : SpaceView) → TellsOfFault (run_of space after ask.now terms.now outcome) scene.now fault kept.now.fault result }
+{
+    if !is_outcome_of(outcome, ask.start, terms.most_slots, fault) {
+        return none_stopped(scene.alloc, fault.kind);
+    }
+    let part = part_text(scene, &kept.fault)?;
+    let text = joined(part, arrays_text(scene, kept, true)?)?;
+    Ok(text)
+}
+
+/// What is said of a mapping that stopped otherwise than its run: nothing. An error if it stopped for want of memory.
+fn none_stopped(alloc: Global, kind: MapFaultKind) -> Result<Vec<u8>, AllocError>
+    ensures text { IfOk result (λ text. text.items ≡ []) }
+    ensures kind { IfOk result (λ _. kind ≢ faults.Memory) }
+{
+    match kind {
+        MapFaultKind::Memory => Err(AllocError),
+        _ => Ok(Vec::new(alloc)),
+    }
+}
+
+/// The lines on the part with the fault of a mapping. Empty if the part isn't known.
+fn part_text(scene: &Scene<'_, '_>, part: &Option<Fault>) -> Result<Text, AllocError>
+    requires table { IsTable scene.now.nodes.now }
+    requires root { scene.now.root < length scene.now.nodes.now }
+    ensures part { TellsOfPart (scene_type scene.now) part.now result }
+{
+    let Some(fault) = part else {
+        return Ok(Text::new(scene.alloc));
+    };
+    let text = fault_text(scene, fault)?;
+    Ok(text)
+}
+
+/// Whether an outcome is the one of a fault, with exit status 1.
+fn is_outcome_of(outcome: Outcome, start: u64, most: Option<u64>, fault: MapFault) -> bool
+    ensures saying { IsTrue result → end_saying most start fault.kind fault.at ≡ outcome_saying outcome }
+    ensures faulty { IsTrue result → outcome_status outcome ≡ Faulty }
+    ensures other { IsFalse result → IsOutcomeOf start most fault outcome → ⊥ }
+{
+    match outcome {
+        Outcome::Fault(told) => outcome.status() == Status::Fault && told == fault,
+        Outcome::Slots(at) => {
+            most.is_some() && fault.kind == MapFaultKind::Memory && at == start
+        }
+        _ => false,
+    }
+}
+
+fn joined(front: Text, back: Text) -> Result<Vec<u8>, AllocError>
+    ensures { IfOk result (λ text. text.items ≡ front.bytes.items ++ back.bytes.items) }
+{
+    let back = back.into_bytes();
+    let joined = front.say(back.as_slice())?.into_bytes();
+    Ok(joined)
+}

@@ -1,0 +1,245 @@
+//! The parts that a mapping had met when it stopped, shown to the eye.
+
+use crate::cause::{Cause, Fault};
+use crate::indent::{Indented, digits_of};
+use crate::mapping::TypeMapping;
+use crate::way::{Joint, Step, part_of, say_element};
+use pickle_map::mapper::stop::Stop;
+use pickle_map::{Store, ValueRef};
+use pickle_source::text::Text;
+use pickle_types::view::Shape;
+use poke_batch::style::Look;
+use std::alloc::{AllocError, Global};
+use value_store::names::title;
+use value_text::print::print_shown;
+use value_text::typed::{Typed, Types};
+
+/// What the lines are printed from: a mapping that stopped, whose store still has the frames around the part with the
+/// fault.
+#[derive(Clone, Copy)]
+struct Stopped<'a> {
+    alloc: Global,
+    types: &'a Types<'a>,
+    /// The node of the type that was mapped.
+    root: usize,
+    /// The bit where the mapping began.
+    start: u64,
+    store: &'a Store,
+    fault: &'a Fault,
+    look: Look,
+}
+
+/// A value that was unfinished when the mapping stopped.
+#[derive(Clone, Copy)]
+struct Frame {
+    /// The node of its type.
+    node: usize,
+    /// How many of its parts were finished.
+    count: usize,
+    /// Its number among the frames of the store, counted from the innermost.
+    level: usize,
+}
+
+impl TypeMapping<'_> {
+    /// The lines on what the mapping had met before the part with its fault: a line for each value around that part,
+    /// which says that the value is unfinished, then the lines of the parts of that value that were finished. The last
+    /// line is that of the part with the fault.
+    pub fn met_lines(
+        self,
+        store: &Store,
+        fault: &Fault,
+        look: Look,
+    ) -> Result<Vec<u8>, AllocError> {
+        let types = Types::new(self.table);
+        let stopped = Stopped {
+            alloc: self.alloc,
+            types: &types,
+            root: self.id.node,
+            start: self.ask.start,
+            store,
+            fault,
+            look,
+        };
+        let mut text = Text::new(self.alloc);
+        for depth in 0..=fault.way.steps().len() {
+            text = stopped.say_value(text, depth)?;
+        }
+        Ok(text.into_bytes())
+    }
+}
+
+impl Stopped<'_> {
+    /// Adds the lines of the value at a depth of the way to the part with the fault. At the last depth that is the part.
+    fn say_value(self, text: Text, depth: usize) -> Result<Text, AllocError> {
+        let text = self.say_place(text, depth)?;
+        let text = say_indent(text, depth)?.say(b" ")?;
+        let name = self.name_cell(depth)?;
+        let Some(frame) = self.frame(depth) else {
+            return text.say(name.as_slice())?.say(b" = ?\n");
+        };
+        let label = self.say_title(Text::new(self.alloc).say(name.as_slice())?, frame.node)?;
+        let mark: &[u8] = if label.len() == 0 {
+            b" unfinished\n"
+        } else {
+            b", unfinished\n"
+        };
+        let text = text.say(label.into_bytes().as_slice())?.say(mark)?;
+        self.say_parts(text, frame, depth.saturating_add(1))
+    }
+
+    /// Adds the name of the type of a node to the text, if it has one.
+    fn say_title(self, text: Text, node: usize) -> Result<Text, AllocError> {
+        let name = match u32::try_from(node) {
+            Ok(of) => title(self.types.nodes(), of),
+            Err(_) => None,
+        };
+        match name {
+            Some(name) => text.say(b" ")?.say(name),
+            None => Ok(text),
+        }
+    }
+
+    /// Adds the place of the value at a depth to the text, if it is known where that value starts.
+    fn say_place(self, text: Text, depth: usize) -> Result<Text, AllocError> {
+        let bit = match self.fault.stop {
+            _ if depth == 0 => Some(u128::from(self.start)),
+            Stop::Fault(_, at) if self.frame(depth).is_none() => Some(at),
+            _ => None,
+        };
+        match bit {
+            Some(bit) => text.say(digits_of(self.alloc, bit)?.as_slice()),
+            None => text.say(b"          "),
+        }
+    }
+
+    /// The name of the value at a depth, with a blank before it: empty for the whole value and a nameless part.
+    fn name_cell(self, depth: usize) -> Result<Vec<u8>, AllocError> {
+        match self.step_to(depth) {
+            Some(step) => self.part_cell(step),
+            None => Ok(Vec::new(self.alloc)),
+        }
+    }
+
+    /// The name of the part to which a step leads, with a blank before it.
+    fn part_cell(self, step: Step) -> Result<Vec<u8>, AllocError> {
+        let text = Text::new(self.alloc);
+        let text = match part_of(self.types.nodes(), step) {
+            Some(part) => match part.joint {
+                Joint::Element => say_element(text.say(b" ")?, step.place as u64)?,
+                Joint::Named(name) => text.say(b" ")?.say(name)?,
+                Joint::Nameless => text,
+            },
+            None => text,
+        };
+        Ok(text.into_bytes())
+    }
+
+    /// The step that leads to the value at a depth.
+    fn step_to(self, depth: usize) -> Option<Step> {
+        self.fault.way.steps().get(depth.checked_sub(1)?).copied()
+    }
+
+    /// The frame of the value at a depth, if it was unfinished.
+    fn frame(self, depth: usize) -> Option<Frame> {
+        let steps = self.fault.way.steps();
+        let outgrown = matches!(self.fault.cause, Cause::Outgrown(_, _));
+        let Some(step) = steps.get(depth) else {
+            return if outgrown { self.outgrown(depth) } else { None };
+        };
+        let above = steps.len().saturating_sub(depth);
+        Some(Frame {
+            node: step.node,
+            count: step.place,
+            level: above
+                .saturating_add(usize::from(outgrown))
+                .saturating_sub(1),
+        })
+    }
+
+    /// The frame of an array whose elements end after its size: all of them were finished.
+    fn outgrown(self, depth: usize) -> Option<Frame> {
+        let node = match self.step_to(depth) {
+            Some(step) => part_of(self.types.nodes(), step)?.node,
+            None => self.root,
+        };
+        Some(Frame {
+            node,
+            count: self.store.count(0),
+            level: 0,
+        })
+    }
+
+    /// Adds the lines of the finished parts of a frame to the text. Of an array's elements those are the last.
+    fn say_parts(self, text: Text, frame: Frame, depth: usize) -> Result<Text, AllocError> {
+        let mut text = text;
+        let first = self.first_shown(frame);
+        for place in first..frame.count {
+            if place == first && 0 < first {
+                text = say_indent(text.say(b"          ")?, depth)?;
+                text = text.say(b"  ..+")?.say_number(first)?.say(b"\n")?;
+            }
+            text = self.say_part(text, frame, place, depth)?;
+        }
+        Ok(text)
+    }
+
+    /// The place of the first part of a frame that is shown. A union has no finished alternative.
+    fn first_shown(self, frame: Frame) -> usize {
+        match self.types.nodes().get(frame.node) {
+            Some(node) => match (&node.shape, self.look.elements) {
+                (Shape::Union { .. }, _) => frame.count,
+                (Shape::Array(_, _), Some(most)) => { frame.count.saturating_sub(most as usize) }
+                _ => 0,
+            },
+            None => frame.count,
+        }
+    }
+
+    /// Adds the lines of the part at a place of a frame to the text, if the value has that part.
+    fn say_part(
+        self,
+        text: Text,
+        frame: Frame,
+        place: usize,
+        depth: usize,
+    ) -> Result<Text, AllocError> {
+        let nodes = self.types.nodes();
+        let step = Step {
+            node: frame.node,
+            place,
+        };
+        let (Some(part), Some(stored)) = (part_of(nodes, step), self.store.part(frame.level, place))
+        else {
+            return Ok(text);
+        };
+        let value = Typed::new(ValueRef::new(stored, nodes), self.types, Some(part.node));
+        let mut shown = Vec::new(self.alloc);
+        if print_shown(value, look_below(self.look, depth), &mut shown).is_err() {
+            return Err(AllocError);
+        }
+        let name = self.part_cell(step)?;
+        let lines = Indented::new(self.alloc, depth, name.as_slice()).indent(shown.as_slice())?;
+        text.say(lines.as_slice())
+    }
+}
+
+/// The look of a part at a depth: of its own parts, those that are too deep in the whole value are left out.
+fn look_below(look: Look, depth: usize) -> Look {
+    let left = match look.depth {
+        Some(most) => Some(most.saturating_sub(depth as u64)),
+        None => None,
+    };
+    Look {
+        depth: left,
+        ..look
+    }
+}
+
+/// Adds two blanks for each of some values to the text.
+fn say_indent(text: Text, depth: usize) -> Result<Text, AllocError> {
+    let mut text = text;
+    for _ in 0..depth {
+        text = text.say(b"  ")?;
+    }
+    Ok(text)
+}

@@ -1,0 +1,237 @@
+//! The part in which the fault of a type arises.
+
+ghost use Rattle.std.specs.Prelude.{◌≡◌, IfOk, IfSome, IfNone, IsTrue, IsFalse};
+ghost use Rattle.bit_space.specs.SpaceView.{Keeps};
+ghost use Rattle.pickle_map.specs.Mapped.{EndsRun};
+ghost use Rattle.value_store.specs.Slots.{emptied};
+ghost use Rattle.fault_report.specs.Found.{HasThere, IsKept, way_places};
+ghost use Rattle.fault_report.specs.Mapped.{EndsWith, IsKnown, mapped_type};
+ghost use Rattle.fault_report.specs.Meant.{IsFaultAt};
+
+use crate::approach::{Approach, Approached};
+use crate::cause::{Around, Cause, Fault};
+use crate::front::front;
+use crate::mapping::TypeMapping;
+use crate::way::Way;
+use bit_space::{Meter, Order, Space};
+use fault_location::arises::find_there;
+use fault_location::locate::find_part;
+use fault_location::site::Ended;
+use pickle_map::mapper::stop::Stop;
+use pickle_map::mapper::told;
+use pickle_map::{MapFault, MapFaultKind, Store};
+use pickle_types::table::Table;
+use poke_batch::ask::Ask;
+use poke_batch::style::Look;
+use std::alloc::{AllocError, Global};
+
+/// The check and the search for a part may each take this many times the run's limit of steps. All that they map was
+/// mapped within the limit before, but they map some of that more than once.
+const MOST_TIMES: u64 = 4;
+
+impl TypeMapping<'_> {
+    /// The part with the fault that ended the mapping: the one that the watcher stored or, if the walk went into no part,
+    /// the type itself. If the check doesn't find the fault there, the part is searched for. With a look, what the mapping
+    /// had met is shown beside it.
+    ///
+    /// `None` if the search ends before the part is found, or if the fault ends a run and the watcher stored another.
+    pub fn part_with<S: Space>(
+        self,
+        look: Option<Look>,
+        fault: MapFault,
+        kept: Option<Fault>,
+        space: &mut S,
+        store: &mut Store,
+    ) -> Result<Option<Fault>, AllocError>
+        requires known { IsKnown self }
+        requires empty { store.old ≡ emptied store.old }
+        requires meant { EndsWith (S.view space.old) self fault }
+        ensures part { let is = IsKept (S.view space.old) (S.view space.new) (mapped_type self.entry) self.entry.ask.now fault in
+            IfOk result is }
+        ensures keeps { Keeps (S.view space.old) (S.view space.new) }
+    {
+        let part = match kept {
+            Some(part) => part,
+            None => Fault::of_type(self.alloc, fault),
+        };
+        if ends_run(fault.kind) {
+            return Ok(with_stop(part, self.ask, fault));
+        }
+        match self.checked(look, fault, part, space, store)? {
+            Some(part) => Ok(Some(part)),
+            None => self.searched(fault, space, store),
+        }
+    }
+
+    /// A part with what was seen near it, if its stop is the fault and the check finds the fault there. Otherwise the
+    /// store is empty afterwards.
+    fn checked<S: Space>(
+        self,
+        look: Option<Look>,
+        fault: MapFault,
+        part: Fault,
+        space: &mut S,
+        store: &mut Store,
+    ) -> Result<Option<Fault>, AllocError>
+        requires known { IsKnown self }
+        requires empty { store.old ≡ emptied store.old }
+        ensures part { let has = HasThere (S.view space.old) (mapped_type self.entry) self.entry.ask.now fault in
+            IfOk result (λ part. IfSome part has) }
+        ensures emptied { IfOk result (λ part. IfNone part (store.new ≡ emptied store.new)) }
+        ensures keeps { Keeps (S.view space.old) (S.view space.new) }
+    {
+        let TypeMapping { alloc, table, .. } = self;
+        if told(part.stop, self.ask.start) != fault {
+            return Ok(None);
+        }
+        let places = part.way.places(alloc)?;
+        let mut watch = Approach::new(
+            alloc,
+            table.nodes(),
+            part.way.steps(),
+            matches!(part.cause, Cause::NoneFits(_)),
+        );
+        if !self.is_at(fault, places.as_slice(), space, store, &mut watch) {
+            store.clear();
+            return Ok(None);
+        }
+        let approached = watch.into_approached()?;
+        let front = front_of(alloc, table, store, &part)?;
+        let met = match look {
+            Some(look) => self.met_lines(store, &part, look)?,
+            None => Vec::new(alloc),
+        };
+        store.clear();
+        let fits = self.other_order(fault, &part, space, store);
+        Ok(Some(seen_near(part, approached, front, fits, met)))
+    }
+
+    /// The part with a fault that the type means, found without the watcher. `None` if the search ends before it is
+    /// found.
+    fn searched<S: Space>(
+        self,
+        fault: MapFault,
+        space: &mut S,
+        store: &mut Store,
+    ) -> Result<Option<Fault>, AllocError>
+        requires known { IsKnown self }
+        requires empty { store.old ≡ emptied store.old }
+        requires meant { EndsWith (S.view space.old) self fault }
+        requires of_type { EndsRun fault.kind → ⊥ }
+        ensures part { let is = IsKept (S.view space.old) (S.view space.new) (mapped_type self.entry) self.entry.ask.now fault in
+            IfOk result is }
+        ensures keeps { Keeps (S.view space.old) (S.view space.new) }
+    {
+        let TypeMapping {
+            alloc,
+            table,
+            id,
+            ask,
+        } = self;
+        let mut meter = Meter::new(ask.limit.saturating_mul(MOST_TIMES));
+        match find_part(
+            alloc, table, id, ask.order, ask.start, space, &mut meter, store,
+        ) {
+            Ok(places) => {
+                let way = Way::along(alloc, table.nodes(), id.node, places.as_slice())?;
+                let stop = Stop::Fault(fault.kind, fault.at);
+                Ok(Some(Fault::new(alloc, way, stop, Cause::Plain)))
+            }
+            Err(Ended::Limit | Ended::Device) => Ok(None),
+            Err(Ended::Memory) => Err(AllocError),
+        }
+    }
+
+    /// Whether the check finds that a fault is that of the part to which places lead.
+    fn is_at<S: Space>(
+        self,
+        fault: MapFault,
+        places: &[usize],
+        space: &mut S,
+        store: &mut Store,
+        watch: &mut Approach<'_>,
+    ) -> bool
+        requires known { IsKnown self }
+        requires empty { store.old ≡ emptied store.old }
+        ensures at { let at = IsFaultAt (S.view space.old) (mapped_type self.entry) self.entry.ask.now fault places.now in
+            IsTrue result → at }
+        ensures keeps { Keeps (S.view space.old) (S.view space.new) }
+    {
+        let TypeMapping { table, id, ask, .. } = self;
+        let mut meter = Meter::new(ask.limit.saturating_mul(MOST_TIMES));
+        find_there(
+            table, id, ask.order, ask.start, fault, places, space, &mut meter, store, watch,
+        )
+    }
+}
+
+/// A part, if its stop is the one that ended the mapping.
+fn with_stop(part: Fault, ask: &Ask<'_>, fault: MapFault) -> Option<Fault> {
+    if told(part.stop, ask.start) == fault {
+        Some(part)
+    } else {
+        None
+    }
+}
+
+/// The last fields in front of a part.
+fn front_of(
+    alloc: Global,
+    table: &Table,
+    store: &Store,
+    part: &Fault,
+) -> Result<Vec<Vec<u8>>, AllocError> {
+    let inner = match &part.cause {
+        Cause::Outgrown(_, _) => 1,
+        _ => 0,
+    };
+    front(alloc, table.nodes(), store, part.way.steps(), inner)
+}
+
+/// A part, with what was seen near it.
+fn seen_near(
+    part: Fault,
+    approached: Approached,
+    front: Vec<Vec<u8>>,
+    fits: Option<Order>,
+    met: Vec<u8>,
+) -> Fault
+    ensures { way_places result.way ≡ way_places part.way }
+{
+    let Fault {
+        way,
+        stop,
+        cause,
+        around: _,
+    } = part;
+    let Approached {
+        leads,
+        cause: watched,
+    } = approached;
+    let cause = match watched {
+        Some(Cause::NoneFits(misses)) => Cause::NoneFits(misses),
+        _ => cause,
+    };
+    Fault {
+        way,
+        stop,
+        cause,
+        around: Around {
+            leads,
+            front,
+            fits,
+            met,
+        },
+    }
+}
+
+/// Whether a fault ends a run, and isn't one that a type means.
+fn ends_run(kind: MapFaultKind) -> bool
+    ensures ends { IsTrue result → EndsRun kind }
+    ensures is { IsFalse result → EndsRun kind → ⊥ }
+{
+    matches!(
+        kind,
+        MapFaultKind::Limit | MapFaultKind::Device | MapFaultKind::Memory
+    )
+}

@@ -1,0 +1,167 @@
+//! Arrays of numbers that the store packs.
+
+ghost use Rattle.std.specs.Prelude.{◌*◌, ◌<◌, ◌≤◌, [], length, All, IfOk};
+ghost use Rattle.mapping_plans.specs.Rows.{struct_row};
+ghost use Rattle.pickle_map.specs.Columns.{HasNode, ArePacked};
+ghost use Rattle.pickle_types.specs.Table.{IsTable, type_of, open_fields};
+ghost use Rattle.pickle_map.specs.AtWork.{Frame, LevelStays, LeavesLevel, Closes, PacksRow};
+ghost use Rattle.pickle_map.specs.Calls.{as_array_level};
+ghost use Rattle.pickle_map.specs.Framed.{IsEnd};
+ghost use Rattle.pickle_map.specs.Row.{PacksAs, PacksOrNot};
+ghost use Rattle.value_store.specs.Slots.{levels, IsPacking, level_count};
+ghost use Rattle.pickle_meaning.specs.Values.{outer_of};
+
+use crate::mapper::packed_fields::stride_of;
+use crate::mapper::read::read_digits;
+use crate::mapper::state::Mapper;
+use crate::mapper::stop::Stop;
+use crate::mapper::watch::Watch;
+use bit_space::{Order, Space};
+use pickle_meaning::extent::Extent;
+use pickle_meaning::faults::MapFaultKind;
+use pickle_types::view::{Field, Node, Shape as Type};
+use value_store::store::Store;
+use value_store::store::slots::Shape;
+
+/// How the elements of an array are kept: apart, as packed numbers, or as packed structs of numbers, which have these
+/// fields.
+pub(crate) enum Packing<'a> {
+    Apart,
+    Numbers(Shape),
+    Records(&'a [Field]),
+}
+
+// The most bytes of a packed struct.
+const MOST_BYTES: usize = 512;
+
+// Whether structs with such fields are packed in an array.
+fn packs_structs(nodes: &[Node], pinned: bool, fields: &[Field]) -> bool
+    requires table { IsTable nodes.now }
+    requires fields { All (HasNode nodes.now) fields.now }
+    ensures { ArePacked result (struct_row pinned (open_fields (type_of nodes.now) fields.now)) }
+{
+    if pinned {
+        return false;
+    }
+    match stride_of(nodes, fields) {
+        None => false,
+        Some(stride) => 1 <= stride && stride <= MOST_BYTES,
+    }
+}
+
+/// How the elements of an array are kept, whose type is the one at a place of the table.
+pub(crate) fn packed_as<'a>(nodes: &'a [Node], element: usize, store: &Store) -> Packing<'a>
+    requires table { IsTable nodes.now }
+    requires element { element < length nodes.now }
+    ensures { PacksOrNot nodes.entry.now element result store.now.room }
+{
+    if !store.packs() {
+        return Packing::Apart;
+    }
+    match &nodes[element].shape {
+        Type::Integer(number) => Packing::Numbers(Shape::Integers {
+            width: number.width,
+            signed: number.signed,
+        }),
+        Type::Offset(number, unit) => Packing::Numbers(Shape::Offsets {
+            width: number.width,
+            signed: number.signed,
+            unit: *unit,
+        }),
+        Type::Struct {
+            name: _,
+            pinned,
+            fields,
+        } => {
+            if packs_structs(nodes, *pinned, fields) {
+                Packing::Records(fields)
+            } else {
+                Packing::Apart
+            }
+        }
+        _ => Packing::Apart,
+    }
+}
+
+impl<W: Watch> Mapper<'_, W> {
+    /// Maps the elements of an array of packed numbers into its frame, and closes it.
+    pub(crate) fn row_body<S: Space>(
+        &mut self,
+        element: usize,
+        shape: Shape,
+        extent: Extent,
+        order: Order,
+        start: u64,
+        space: &mut S,
+    ) -> Result<u64, Stop>
+        requires shape { PacksAs shape (type_of self.old.nodes.now element) self.old.store.now.room }
+        requires packing { IsPacking self.old.nodes.now self.old.store.now shape [] start (outer_of (levels self.old.nodes.now self.old.store.now)) }
+        requires open { 1 < level_count self.old.store.now }
+        requires inside { start ≤ 8 * (S.view space.old).len }
+        requires free { self.old.meter.now.made < self.old.meter.now.steps }
+        ensures frame { Frame (S.view space.old) (S.view space.new) self.old self.new 1 result }
+        ensures ends { IfOk result (IsEnd start (S.view space.old)) }
+        ensures is { Closes (S.view space.old) self.old self.new (as_array_level element extent order start) result }
+        ensures level { LeavesLevel self.old self.new result }
+    {
+        let end = self.map_packed(element, shape, extent, order, start, space)?;
+        self.store.close_row(shape, start)?;
+        self.meter.note_made();
+        Ok(end)
+    }
+
+    /// Maps numbers, one after the other, into an array of packed numbers. The loop has the meter and the store in
+    /// registers.
+    #[inline(never)]
+    fn map_packed<S: Space>(
+        &mut self,
+        element: usize,
+        shape: Shape,
+        extent: Extent,
+        order: Order,
+        start: u64,
+        space: &mut S,
+    ) -> Result<u64, Stop>
+        requires shape { PacksAs shape (type_of self.old.nodes.now element) self.old.store.now.room }
+        requires packing { IsPacking self.old.nodes.now self.old.store.now shape [] start (outer_of (levels self.old.nodes.now self.old.store.now)) }
+        requires inside { start ≤ 8 * (S.view space.old).len }
+        ensures frame { Frame (S.view space.old) (S.view space.new) self.old self.new 0 result }
+        ensures ends { IfOk result (IsEnd start (S.view space.old)) }
+        ensures is { PacksRow (S.view space.old) self.old self.new shape element extent order start result }
+        ensures level { LevelStays self.old self.new }
+    {
+        let meter = &mut *self.meter;
+        let store = &mut *self.store;
+        let watch = &mut *self.watch;
+        let bits = 8 * space.len();
+        let width = shape.element_width();
+        let mut place = start;
+        let mut count = 0;
+        while extent.is_due(bits, start, count, place) {
+            watch.next();
+            meter.tick()?;
+            match read_digits(space, place, width, order, meter) {
+                Ok(digits) => {
+                    store.push_packed(shape, width, digits, count == 0, start)?;
+                    meter.note_made();
+                    place += u64::from(width);
+                    count += 1;
+                }
+                Err(stop) => {
+                    if stop.ends(extent) {
+                        watch.end(stop);
+                        return Ok(place);
+                    }
+                    return Err(stop);
+                }
+            }
+        }
+        if extent.is_met(start, place) {
+            Ok(place)
+        } else {
+            let stop = Stop::Fault(MapFaultKind::Bounds, u128::from(start));
+            watch.outgrow(extent, place, stop);
+            Err(stop)
+        }
+    }
+}

@@ -1,0 +1,111 @@
+//! Files in memory, from which jobs are done.
+
+ghost use Rattle.jobs.specs.Gives.{anything};
+
+use bit_space::{MemSpace, OpenFault};
+use jobs::{Aside, FileFault, Lengthless, NamedPickle, Opener};
+use poke_batch::pickle::PickleFault;
+use std::alloc::{AllocError, Global};
+use tests_kit::streams::OneByOne;
+
+/// The files, with their bytes.
+const FILES: [(&str, &[u8]); 6] = [
+    (
+        "p.pk",
+        b"type P = struct { uint<8> a; uint<16> b; }; type Q = uint<8>[];",
+    ),
+    ("wrong.pk", b"type P = struct { uint<8> a }"),
+    ("a.bin", b"\x01\x02\x03"),
+    ("b.bin", b"\x01"),
+    ("list", b"a.bin\0b.bin\0none"),
+    ("empty.list", b""),
+];
+
+/// The read at which the list `broken.list` fails, counted from 1.
+const BROKEN_AT: usize = 7;
+
+/// Files in memory.
+#[derive(Drop)]
+pub struct Shelf {
+    pub alloc: Global,
+}
+
+impl Opener for Shelf {
+    // The tests say what is given.
+    ghost gives = { λ _. anything };
+
+    type Bytes = MemSpace;
+
+    type List = OneByOne<'static>;
+
+    fn read_pickle(&self, word: &str) -> Result<NamedPickle, FileFault> {
+        match bytes_of(word) {
+            Some(bytes) => Ok(NamedPickle {
+                path: String::from_str(self.alloc, word)?,
+                bytes: bytes.to_vec(self.alloc)?,
+            }),
+            None => Err(PickleFault::Read.into()),
+        }
+    }
+
+    fn open(&self, path: &str, _spool: Option<u64>, _shows: bool) -> Result<MemSpace, FileFault> {
+        match bytes_of(path) {
+            Some(bytes) => match MemSpace::new(bytes.to_vec(self.alloc)?) {
+                Ok(space) => Ok(space),
+                Err(_) => Err(OpenFault::TooLong.into()),
+            },
+            None => Err(OpenFault::NotOpened.into()),
+        }
+    }
+
+    fn file_name(&self, word: &str) -> Result<Vec<u8>, AllocError> {
+        word.as_bytes().to_vec(self.alloc)
+    }
+
+    fn open_list(&self, path: &str) -> Option<OneByOne<'static>> {
+        if path == "broken.list" {
+            return Some(OneByOne {
+                bytes: b"a.bin\0b.bin",
+                reads: 0,
+                failing: BROKEN_AT,
+            });
+        }
+        Some(OneByOne {
+            bytes: bytes_of(path)?,
+            reads: 0,
+            failing: 0,
+        })
+    }
+
+    fn reason(&self, _path: &str, _lengthless: Lengthless) -> &'static str {
+        "it isn't on the shelf"
+    }
+}
+
+// The bytes of the file with a name.
+fn bytes_of(name: &str) -> Option<&'static [u8]> {
+    for (other, bytes) in FILES {
+        if other == name {
+            return Some(bytes);
+        }
+    }
+    None
+}
+
+/// What is written beside an answer.
+#[derive(Drop)]
+pub struct Notes {
+    pub text: Vec<u8>,
+}
+
+impl Aside for Notes {
+    fn show(&mut self) {}
+
+    fn count(&mut self) {}
+
+    fn clear(&mut self) {}
+
+    fn tell(&mut self, reasons: &[u8]) {
+        let _kept = self.text.extend_from_slice(reasons);
+    }
+}

@@ -1,0 +1,206 @@
+//! The arguments of command lines. An argument `""` is empty.
+
+use poke_batch::{WordFault, read_words};
+use std::alloc::Global;
+use std::test::Fail;
+use tests_kit::text::bytes_of;
+
+/// Arguments, and the job that they request.
+const JOBS: &str = r#" ==> Check { pickle: "-" }
+check - ==> Check { pickle: "-" }
+check p ==> Check { pickle: "p" }
+types p ==> Types { pickle: "p" }
+bound p T 25 ==> Bound { pickle: "p", name: "T", bits: 25 }
+bound p T 4294967321 ==> Bound { pickle: "p", name: "T", bits: 4294967321 }
+bound p T 18446744073709551615 ==> Bound { pickle: "p", name: "T", bits: 18446744073709551615 }
+bound --text p T 25 ==> BoundText { pickle: "p", name: "T", bits: 25, mode: None, style: Style { numbers: Decimal, chars: Numbers, elements: None } }
+bound p --text T --mode tree 25 ==> BoundText { pickle: "p", name: "T", bits: 25, mode: Some(Tree), style: Style { numbers: Decimal, chars: Numbers, elements: None } }
+bound --text --numbers hex --chars text p T 25 ==> BoundText { pickle: "p", name: "T", bits: 25, mode: None, style: Style { numbers: Hexadecimal, chars: Text, elements: None } }
+bound --text --elements 3 p T 25 ==> BoundText { pickle: "p", name: "T", bits: 25, mode: None, style: Style { numbers: Decimal, chars: Numbers, elements: Some(3) } }
+bound --text --elements all p T 25 ==> BoundText { pickle: "p", name: "T", bits: 25, mode: None, style: Style { numbers: Decimal, chars: Numbers, elements: None } }
+dump f ==> Dump { from: 0, size: 128, ruler: true, file: "f" }
+dump - ==> Dump { from: 0, size: 128, ruler: true, file: "-" }
+dump --from 2#4 --size=16#b --no-ruler f ==> Dump { from: 1, size: 2, ruler: false, file: "f" }
+map --at 4#b p T f ==> Map { at: 4, order: Big, limit: 1000000000, mode: Flat, pickle: "p", name: "T", file: "f" }
+map p T f ==> Map { at: 0, order: Big, limit: 1000000000, mode: Flat, pickle: "p", name: "T", file: "f" }
+map p --endian=little T --at=2#B f --limit 7 --mode flat ==> Map { at: 16, order: Little, limit: 7, mode: Flat, pickle: "p", name: "T", file: "f" }
+map --limit 18446744073709551615 -- p T f ==> Map { at: 0, order: Big, limit: 18446744073709551615, mode: Flat, pickle: "p", name: "T", file: "f" }
+map --mode tree p T f ==> Map { at: 0, order: Big, limit: 1000000000, mode: Tree, pickle: "p", name: "T", file: "f" }
+map --mode json p T f ==> Map { at: 0, order: Big, limit: 1000000000, mode: Json, pickle: "p", name: "T", file: "f" }
+map --mode=lines p T f ==> Map { at: 0, order: Big, limit: 1000000000, mode: Lines, pickle: "p", name: "T", file: "f" }
+map --slots 7 p T f ==> Request(Request { start: Bit(0), order: Big, limit: 1000000000, spool: None, terms: Terms { whole: false, most_output: None, part: None, most_slots: Some(7), style: Style { numbers: Decimal, chars: Numbers, elements: None }, look: None, selection: None }, form: Printed { mode: Flat, faults: Text }, progress: false, pickle: "p", name: "T", over: File("f") })
+map --spool 4096 p T f ==> Request(Request { start: Bit(0), order: Big, limit: 1000000000, spool: Some(4096), terms: Terms { whole: false, most_output: None, part: None, most_slots: None, style: Style { numbers: Decimal, chars: Numbers, elements: None }, look: None, selection: None }, form: Printed { mode: Flat, faults: Text }, progress: false, pickle: "p", name: "T", over: File("f") })
+map --progress p T f ==> Request(Request { start: Bit(0), order: Big, limit: 1000000000, spool: None, terms: Terms { whole: false, most_output: None, part: None, most_slots: None, style: Style { numbers: Decimal, chars: Numbers, elements: None }, look: None, selection: None }, form: Printed { mode: Flat, faults: Text }, progress: true, pickle: "p", name: "T", over: File("f") })
+each --mode json p T f ==> Request(Request { start: Bit(0), order: Big, limit: 1000000000, spool: None, terms: Terms { whole: false, most_output: None, part: None, most_slots: None, style: Style { numbers: Decimal, chars: Numbers, elements: None }, look: None, selection: None }, form: Printed { mode: Json, faults: Text }, progress: false, pickle: "p", name: "T", over: Files { names: Words(["f"]), flush: false } })
+each p T f g ==> Request(Request { start: Bit(0), order: Big, limit: 1000000000, spool: None, terms: Terms { whole: false, most_output: None, part: None, most_slots: None, style: Style { numbers: Decimal, chars: Numbers, elements: None }, look: None, selection: None }, form: Printed { mode: Flat, faults: Text }, progress: false, pickle: "p", name: "T", over: Files { names: Words(["f", "g"]), flush: false } })
+each --progress --spool 0 p T f g ==> Request(Request { start: Bit(0), order: Big, limit: 1000000000, spool: Some(0), terms: Terms { whole: false, most_output: None, part: None, most_slots: None, style: Style { numbers: Decimal, chars: Numbers, elements: None }, look: None, selection: None }, form: Printed { mode: Flat, faults: Text }, progress: true, pickle: "p", name: "T", over: Files { names: Words(["f", "g"]), flush: false } })
+each --files0-from - --whole p T ==> Request(Request { start: Bit(0), order: Big, limit: 1000000000, spool: None, terms: Terms { whole: true, most_output: None, part: None, most_slots: None, style: Style { numbers: Decimal, chars: Numbers, elements: None }, look: None, selection: None }, form: Printed { mode: Flat, faults: Text }, progress: false, pickle: "p", name: "T", over: Files { names: EndedByZero("-"), flush: false } })
+map --whole p T f ==> Request(Request { start: Bit(0), order: Big, limit: 1000000000, spool: None, terms: Terms { whole: true, most_output: None, part: None, most_slots: None, style: Style { numbers: Decimal, chars: Numbers, elements: None }, look: None, selection: None }, form: Printed { mode: Flat, faults: Text }, progress: false, pickle: "p", name: "T", over: File("f") })
+map --max-output 5 p T f ==> Request(Request { start: Bit(0), order: Big, limit: 1000000000, spool: None, terms: Terms { whole: false, most_output: Some(5), part: None, most_slots: None, style: Style { numbers: Decimal, chars: Numbers, elements: None }, look: None, selection: None }, form: Printed { mode: Flat, faults: Text }, progress: false, pickle: "p", name: "T", over: File("f") })
+map --get . p T f ==> Request(Request { start: Bit(0), order: Big, limit: 1000000000, spool: None, terms: Terms { whole: false, most_output: None, part: Some(Path { steps: [] }), most_slots: None, style: Style { numbers: Decimal, chars: Numbers, elements: None }, look: None, selection: None }, form: Printed { mode: Flat, faults: Text }, progress: false, pickle: "p", name: "T", over: File("f") })
+map --get .a[2].0 p T f ==> Request(Request { start: Bit(0), order: Big, limit: 1000000000, spool: None, terms: Terms { whole: false, most_output: None, part: Some(Path { steps: [Field([97]), Element(2), Place(0)] }), most_slots: None, style: Style { numbers: Decimal, chars: Numbers, elements: None }, look: None, selection: None }, form: Printed { mode: Flat, faults: Text }, progress: false, pickle: "p", name: "T", over: File("f") })
+map --get .a --get [2] p T f ==> Request(Request { start: Bit(0), order: Big, limit: 1000000000, spool: None, terms: Terms { whole: false, most_output: None, part: None, most_slots: None, style: Style { numbers: Decimal, chars: Numbers, elements: None }, look: None, selection: Some(Selection { shape: Parts([Pattern { steps: [Exact(Field([97]))] }, Pattern { steps: [Exact(Element(2))] }]), absent: Fault }) }, form: Printed { mode: Flat, faults: Text }, progress: false, pickle: "p", name: "T", over: File("f") })
+map --get .a[*].* --absent empty p T f ==> Request(Request { start: Bit(0), order: Big, limit: 1000000000, spool: None, terms: Terms { whole: false, most_output: None, part: None, most_slots: None, style: Style { numbers: Decimal, chars: Numbers, elements: None }, look: None, selection: Some(Selection { shape: Parts([Pattern { steps: [Exact(Field([97])), Elements(Span { from: None, end: None }), Fields] }]), absent: Empty }) }, form: Printed { mode: Flat, faults: Text }, progress: false, pickle: "p", name: "T", over: File("f") })
+map --rows [1:] --get .a --get . --header p T f ==> Request(Request { start: Bit(0), order: Big, limit: 1000000000, spool: None, terms: Terms { whole: false, most_output: None, part: None, most_slots: None, style: Style { numbers: Decimal, chars: Numbers, elements: None }, look: None, selection: Some(Selection { shape: Rows(Rows { pattern: Pattern { steps: [Elements(Span { from: Some(1), end: None })] }, columns: [Column { name: ".a", path: Path { steps: [Field([97])] } }, Column { name: ".", path: Path { steps: [] } }], header: true }), absent: Fault }) }, form: Printed { mode: Flat, faults: Text }, progress: false, pickle: "p", name: "T", over: File("f") })
+each --get .a --get .0 p T f ==> Request(Request { start: Bit(0), order: Big, limit: 1000000000, spool: None, terms: Terms { whole: false, most_output: None, part: None, most_slots: None, style: Style { numbers: Decimal, chars: Numbers, elements: None }, look: None, selection: Some(Selection { shape: Rows(Rows { pattern: Pattern { steps: [] }, columns: [Column { name: ".a", path: Path { steps: [Field([97])] } }, Column { name: ".0", path: Path { steps: [Place(0)] } }], header: false }), absent: Fault }) }, form: Printed { mode: Flat, faults: Text }, progress: false, pickle: "p", name: "T", over: Files { names: Words(["f"]), flush: false } })
+map --absent fault --get .a p T f ==> Request(Request { start: Bit(0), order: Big, limit: 1000000000, spool: None, terms: Terms { whole: false, most_output: None, part: Some(Path { steps: [Field([97])] }), most_slots: None, style: Style { numbers: Decimal, chars: Numbers, elements: None }, look: None, selection: None }, form: Printed { mode: Flat, faults: Text }, progress: false, pickle: "p", name: "T", over: File("f") })
+map --get .a --get .b p T f ==> Request(Request { start: Bit(0), order: Big, limit: 1000000000, spool: None, terms: Terms { whole: false, most_output: None, part: None, most_slots: None, style: Style { numbers: Decimal, chars: Numbers, elements: None }, look: None, selection: Some(Selection { shape: Parts([Pattern { steps: [Exact(Field([97]))] }, Pattern { steps: [Exact(Field([98]))] }]), absent: Fault }) }, form: Printed { mode: Flat, faults: Text }, progress: false, pickle: "p", name: "T", over: File("f") })
+map --mode tree --get .a[*].0 --get [2:5] p T f ==> Request(Request { start: Bit(0), order: Big, limit: 1000000000, spool: None, terms: Terms { whole: false, most_output: None, part: None, most_slots: None, style: Style { numbers: Decimal, chars: Numbers, elements: None }, look: None, selection: Some(Selection { shape: Parts([Pattern { steps: [Exact(Field([97])), Elements(Span { from: None, end: None }), Exact(Place(0))] }, Pattern { steps: [Elements(Span { from: Some(2), end: Some(5) })] }]), absent: Fault }) }, form: Printed { mode: Tree, faults: Text }, progress: false, pickle: "p", name: "T", over: File("f") })
+map --get .* --absent empty p T f ==> Request(Request { start: Bit(0), order: Big, limit: 1000000000, spool: None, terms: Terms { whole: false, most_output: None, part: None, most_slots: None, style: Style { numbers: Decimal, chars: Numbers, elements: None }, look: None, selection: Some(Selection { shape: Parts([Pattern { steps: [Fields] }]), absent: Empty }) }, form: Printed { mode: Flat, faults: Text }, progress: false, pickle: "p", name: "T", over: File("f") })
+map --absent empty --get .a p T f ==> Request(Request { start: Bit(0), order: Big, limit: 1000000000, spool: None, terms: Terms { whole: false, most_output: None, part: None, most_slots: None, style: Style { numbers: Decimal, chars: Numbers, elements: None }, look: None, selection: Some(Selection { shape: Parts([Pattern { steps: [Exact(Field([97]))] }]), absent: Empty }) }, form: Printed { mode: Flat, faults: Text }, progress: false, pickle: "p", name: "T", over: File("f") })
+map --rows [7:] --get .a --header p T f ==> Request(Request { start: Bit(0), order: Big, limit: 1000000000, spool: None, terms: Terms { whole: false, most_output: None, part: None, most_slots: None, style: Style { numbers: Decimal, chars: Numbers, elements: None }, look: None, selection: Some(Selection { shape: Rows(Rows { pattern: Pattern { steps: [Elements(Span { from: Some(7), end: None })] }, columns: [Column { name: ".a", path: Path { steps: [Field([97])] } }], header: true }), absent: Fault }) }, form: Printed { mode: Flat, faults: Text }, progress: false, pickle: "p", name: "T", over: File("f") })
+map --rows [:7] --get .a --get .b --mode json --absent empty p T f ==> Request(Request { start: Bit(0), order: Big, limit: 1000000000, spool: None, terms: Terms { whole: false, most_output: None, part: None, most_slots: None, style: Style { numbers: Decimal, chars: Numbers, elements: None }, look: None, selection: Some(Selection { shape: Rows(Rows { pattern: Pattern { steps: [Elements(Span { from: None, end: Some(7) })] }, columns: [Column { name: ".a", path: Path { steps: [Field([97])] } }, Column { name: ".b", path: Path { steps: [Field([98])] } }], header: false }), absent: Empty }) }, form: Printed { mode: Json, faults: Text }, progress: false, pickle: "p", name: "T", over: File("f") })
+each --get .a --get .b p T f ==> Request(Request { start: Bit(0), order: Big, limit: 1000000000, spool: None, terms: Terms { whole: false, most_output: None, part: None, most_slots: None, style: Style { numbers: Decimal, chars: Numbers, elements: None }, look: None, selection: Some(Selection { shape: Rows(Rows { pattern: Pattern { steps: [] }, columns: [Column { name: ".a", path: Path { steps: [Field([97])] } }, Column { name: ".b", path: Path { steps: [Field([98])] } }], header: false }), absent: Fault }) }, form: Printed { mode: Flat, faults: Text }, progress: false, pickle: "p", name: "T", over: Files { names: Words(["f"]), flush: false } })
+each --get .a p T f ==> Request(Request { start: Bit(0), order: Big, limit: 1000000000, spool: None, terms: Terms { whole: false, most_output: None, part: Some(Path { steps: [Field([97])] }), most_slots: None, style: Style { numbers: Decimal, chars: Numbers, elements: None }, look: None, selection: None }, form: Printed { mode: Flat, faults: Text }, progress: false, pickle: "p", name: "T", over: Files { names: Words(["f"]), flush: false } })
+each --get .a --absent empty p T f ==> Request(Request { start: Bit(0), order: Big, limit: 1000000000, spool: None, terms: Terms { whole: false, most_output: None, part: None, most_slots: None, style: Style { numbers: Decimal, chars: Numbers, elements: None }, look: None, selection: Some(Selection { shape: Parts([Pattern { steps: [Exact(Field([97]))] }]), absent: Empty }) }, form: Printed { mode: Flat, faults: Text }, progress: false, pickle: "p", name: "T", over: Files { names: Words(["f"]), flush: false } })
+map --numbers hex p T f ==> Request(Request { start: Bit(0), order: Big, limit: 1000000000, spool: None, terms: Terms { whole: false, most_output: None, part: None, most_slots: None, style: Style { numbers: Hexadecimal, chars: Numbers, elements: None }, look: None, selection: None }, form: Printed { mode: Flat, faults: Text }, progress: false, pickle: "p", name: "T", over: File("f") })
+map --chars text p T f ==> Request(Request { start: Bit(0), order: Big, limit: 1000000000, spool: None, terms: Terms { whole: false, most_output: None, part: None, most_slots: None, style: Style { numbers: Decimal, chars: Text, elements: None }, look: None, selection: None }, form: Printed { mode: Flat, faults: Text }, progress: false, pickle: "p", name: "T", over: File("f") })
+map --elements 0 p T f ==> Request(Request { start: Bit(0), order: Big, limit: 1000000000, spool: None, terms: Terms { whole: false, most_output: None, part: None, most_slots: None, style: Style { numbers: Decimal, chars: Numbers, elements: Some(0) }, look: None, selection: None }, form: Printed { mode: Flat, faults: Text }, progress: false, pickle: "p", name: "T", over: File("f") })
+map --elements 18446744073709551615 p T f ==> Request(Request { start: Bit(0), order: Big, limit: 1000000000, spool: None, terms: Terms { whole: false, most_output: None, part: None, most_slots: None, style: Style { numbers: Decimal, chars: Numbers, elements: Some(18446744073709551615) }, look: None, selection: None }, form: Printed { mode: Flat, faults: Text }, progress: false, pickle: "p", name: "T", over: File("f") })
+map --numbers decimal --chars numbers --elements all p T f ==> Map { at: 0, order: Big, limit: 1000000000, mode: Flat, pickle: "p", name: "T", file: "f" }
+map --byte 446 p T f ==> Map { at: 3568, order: Big, limit: 1000000000, mode: Flat, pickle: "p", name: "T", file: "f" }
+map --byte=0x1Be p T f ==> Map { at: 3568, order: Big, limit: 1000000000, mode: Flat, pickle: "p", name: "T", file: "f" }
+map --byte 2305843009213693951 p T f ==> Map { at: 18446744073709551608, order: Big, limit: 1000000000, mode: Flat, pickle: "p", name: "T", file: "f" }
+map --byte -512 p T f ==> Request(Request { start: BytesFromEnd(512), order: Big, limit: 1000000000, spool: None, terms: Terms { whole: false, most_output: None, part: None, most_slots: None, style: Style { numbers: Decimal, chars: Numbers, elements: None }, look: None, selection: None }, form: Printed { mode: Flat, faults: Text }, progress: false, pickle: "p", name: "T", over: File("f") })
+map --byte -0x200 p T f ==> Request(Request { start: BytesFromEnd(512), order: Big, limit: 1000000000, spool: None, terms: Terms { whole: false, most_output: None, part: None, most_slots: None, style: Style { numbers: Decimal, chars: Numbers, elements: None }, look: None, selection: None }, form: Printed { mode: Flat, faults: Text }, progress: false, pickle: "p", name: "T", over: File("f") })
+map --byte -0 p T f ==> Request(Request { start: BytesFromEnd(0), order: Big, limit: 1000000000, spool: None, terms: Terms { whole: false, most_output: None, part: None, most_slots: None, style: Style { numbers: Decimal, chars: Numbers, elements: None }, look: None, selection: None }, form: Printed { mode: Flat, faults: Text }, progress: false, pickle: "p", name: "T", over: File("f") })
+each --flush --byte -1 p T f ==> Request(Request { start: BytesFromEnd(1), order: Big, limit: 1000000000, spool: None, terms: Terms { whole: false, most_output: None, part: None, most_slots: None, style: Style { numbers: Decimal, chars: Numbers, elements: None }, look: None, selection: None }, form: Printed { mode: Flat, faults: Text }, progress: false, pickle: "p", name: "T", over: Files { names: Words(["f"]), flush: true } })
+map --faults json p T f ==> Request(Request { start: Bit(0), order: Big, limit: 1000000000, spool: None, terms: Terms { whole: false, most_output: None, part: None, most_slots: None, style: Style { numbers: Decimal, chars: Numbers, elements: None }, look: None, selection: None }, form: Printed { mode: Flat, faults: Json }, progress: false, pickle: "p", name: "T", over: File("f") })
+each --faults json p T f ==> Request(Request { start: Bit(0), order: Big, limit: 1000000000, spool: None, terms: Terms { whole: false, most_output: None, part: None, most_slots: None, style: Style { numbers: Decimal, chars: Numbers, elements: None }, look: None, selection: None }, form: Printed { mode: Flat, faults: Json }, progress: false, pickle: "p", name: "T", over: Files { names: Words(["f"]), flush: false } })
+show p T f ==> Request(Request { start: Bit(0), order: Big, limit: 1000000000, spool: None, terms: Terms { whole: false, most_output: None, part: None, most_slots: None, style: Style { numbers: Decimal, chars: Numbers, elements: Some(16) }, look: None, selection: None }, form: Shown { color: Auto, depth: Some(6) }, progress: false, pickle: "p", name: "T", over: File("f") })
+show --spool=7 p T f ==> Request(Request { start: Bit(0), order: Big, limit: 1000000000, spool: Some(7), terms: Terms { whole: false, most_output: None, part: None, most_slots: None, style: Style { numbers: Decimal, chars: Numbers, elements: Some(16) }, look: None, selection: None }, form: Shown { color: Auto, depth: Some(6) }, progress: false, pickle: "p", name: "T", over: File("f") })
+show --color always --elements all --endian little --byte -8 p T f ==> Request(Request { start: BytesFromEnd(8), order: Little, limit: 1000000000, spool: None, terms: Terms { whole: false, most_output: None, part: None, most_slots: None, style: Style { numbers: Decimal, chars: Numbers, elements: None }, look: None, selection: None }, form: Shown { color: Always, depth: Some(6) }, progress: false, pickle: "p", name: "T", over: File("f") })
+show --color never --elements 3 p T f ==> Request(Request { start: Bit(0), order: Big, limit: 1000000000, spool: None, terms: Terms { whole: false, most_output: None, part: None, most_slots: None, style: Style { numbers: Decimal, chars: Numbers, elements: Some(3) }, look: None, selection: None }, form: Shown { color: Never, depth: Some(6) }, progress: false, pickle: "p", name: "T", over: File("f") })
+dump -s 0x1b0 -n 80 f ==> Dump { from: 432, size: 80, ruler: true, file: "f" }"#;
+
+/// Arguments that aren't a job.
+const WRONG: &str = r#"map --at 8 p T f ==> refused offset
+map --at 18446744073709551616#b p T f ==> refused offset
+dump --from 3#b f ==> refused offset
+dump --size 4#b f ==> refused offset
+dump --size "" f ==> refused offset
+map --byte 8#b p T f ==> refused offset
+map --byte 0x p T f ==> refused offset
+map --byte +1 p T f ==> refused offset
+map --byte --1 p T f ==> refused offset
+map --byte -+1 p T f ==> refused offset
+map --byte 0X10 p T f ==> refused offset
+map --byte 0xfg p T f ==> refused offset
+map --byte "" p T f ==> refused offset
+map --byte - p T f ==> refused offset
+map --byte 2305843009213693952 p T f ==> refused offset
+each --byte -2305843009213693952 p T f ==> refused offset
+dump -s 1#B f ==> refused offset
+dump -n -1 f ==> usage
+dump -s 0 --from 0#B f ==> usage
+dump -n 1 --size 1#B f ==> usage
+map --at 0#b --byte 0 p T f ==> usage
+map --limit 18446744073709551616 p T f ==> usage
+map --limit +5 p T f ==> usage
+map --max-output +5 p T f ==> usage
+map --slots +5 p T f ==> usage
+bound p T +5 ==> usage
+map --elements -1 p T f ==> usage
+map --elements +1 p T f ==> usage
+map --elements ALL p T f ==> usage
+map --elements 18446744073709551616 p T f ==> usage
+map --numbers octal p T f ==> usage
+map --chars hex p T f ==> usage
+map --flush p T f ==> usage
+map --faults xml p T f ==> usage
+show --faults json p T f ==> usage
+check --faults json p ==> usage
+bound --numbers hex p T 25 ==> usage
+bound --chars text p T 25 ==> usage
+bound --elements all p T 25 ==> usage
+bound --text --numbers octal p T 25 ==> usage
+bound --text --elements +1 p T 25 ==> usage
+map --at 8 --limit x p T f ==> usage
+map --at -1#b p T f ==> usage
+map --rows . --get [:3] p T f ==> usage
+map --rows . p T f ==> usage
+map --header --get .a p T f ==> usage
+each --get .a[*] p T f ==> usage
+show --get .a --get .b p T f ==> usage
+map --at 1#b --at 1#b p T f ==> usage
+map --endian middle p T f ==> usage
+map --mode leaf p T f ==> usage
+map --max-output -1 p T f ==> usage
+map --whole --whole p T f ==> usage
+map --get a p T f ==> usage
+map --at 8 --get a p T f ==> usage
+show --at 8 --get a p T f ==> refused offset
+each --at 8 --get a p T f ==> refused offset
+map --color p T f ==> usage
+map p T ==> usage
+map p T f g ==> usage
+bound p T ==> usage
+bound p T -1 ==> usage
+bound --mode tree p T 25 ==> usage
+bound --text --mode leaf p T 25 ==> usage
+dump --no-ruler --no-ruler f ==> usage
+check ==> usage
+types ==> usage
+types p T ==> usage
+chec p ==> usage
+- ==> usage
+"" ==> usage"#;
+
+/// Arguments that request help, and parts of its text.
+const HELP: &str = "\
+    --help ==> Exit status: & [default: 1000000000] & Example:\n\
+    -h ==> Usage: & map & dump & --files0-from\n\
+    help --help ==> Exit status: & [default: 1000000000] & Example:\n\
+    help bound -h ==> Exit status: & BITS & Example:\n\
+    map --help ==> Usage: poke_batch map & [default: 0#b] & [default: big]\n\
+    bound --help ==> Exit status: & BITS & Example:\n\
+    check --help ==> Exit status: & PICKLE & Example:\n\
+    dump --help ==> Exit status: & [default: 0#B] & [default: 128#B]";
+
+fn words_of(alloc: Global, text: &str) -> Result<Vec<String>, Fail> {
+    let mut words = Vec::new(alloc);
+    for word in text.split_ascii_whitespace() {
+        let word = if word == "\"\"" { "" } else { word };
+        words.push(String::from_utf8(bytes_of(alloc, word)?)?)?;
+    }
+    Ok(words)
+}
+
+/// The job, the fault, or `usage` for a usage error.
+fn answer(alloc: Global, words: &str) -> Result<String, Fail> {
+    match read_words(alloc, words_of(alloc, words)?) {
+        Ok(job) => Ok(format!(in alloc; "{job:?}")?),
+        Err(WordFault::Usage(text)) => {
+            let told = if text.is_empty() { "no usage" } else { "usage" };
+            Ok(String::from_str(alloc, told)?)
+        }
+        Err(fault) => Ok(format!(in alloc; "{fault}")?),
+    }
+}
+
+#[test]
+fn reads_jobs_or_refuses_words(rt: HostRuntime) -> Result<(), Fail> {
+    for table in [JOBS, WRONG] {
+        for line in table.lines() {
+            let (words, told) = line.split_once(" ==> ").ok_or("no arrow")?;
+            let found = answer(rt.alloc(), words)?;
+            assert_eq!(rt; found.as_str(), told, "{line}");
+        }
+    }
+    Ok(())
+}
+
+#[test]
+fn helps(rt: HostRuntime) -> Result<(), Fail> {
+    let alloc = rt.alloc();
+    for line in HELP.lines() {
+        let (words, parts) = line.split_once(" ==> ").ok_or("no arrow")?;
+        let Err(WordFault::Help(text)) = read_words(alloc, words_of(alloc, words)?) else {
+            return Err(Fail::from("no help"));
+        };
+        for part in parts.split(" & ") {
+            assert!(rt; text.as_str().find(part).is_some(), "{line}: {part}");
+        }
+    }
+    Ok(())
+}
