@@ -35,7 +35,9 @@ pub onto_numeral : (n : ℕ) (xs : List ℕ) → numeral_onto n xs ≡ n * 2 ^ l
 unfolding numeral_onto
 onto_numeral n [] = numeral_of_nothing n (2 ^ 0) refl
 onto_numeral n (d ∷ xs) =
-    onto_numeral (2 * n + d) xs ∙ numeral_step n d (2 ^ length xs) (2 ^ suc (length xs)) (numeral_onto 0 xs) (pow-succ' 2 (length xs)) ∙ ap (λ t. n * 2 ^ suc (length xs) + t) (sym (onto_numeral (2 * 0 + d) xs))
+    onto_numeral (2 * n + d) xs
+    ∙ numeral_step n d (2 ^ length xs) (2 ^ suc (length xs)) (numeral_onto 0 xs) (pow-succ' 2 (length xs))
+    ∙ ap (λ t. n * 2 ^ suc (length xs) + t) (sym (onto_numeral (2 * 0 + d) xs))
 
 pub onto_both : (n : ℕ) (xs ys : List ℕ) → numeral_onto n (xs ++ ys) ≡ numeral_onto (numeral_onto n xs) ys
 unfolding numeral_onto
@@ -54,12 +56,19 @@ pub numeral_below : (xs : List ℕ) → AreDigits xs → numeral xs < 2 ^ length
 unfolding numeral_onto
 numeral_below [] h = omega arith
 numeral_below (d ∷ xs) h =
-    rw (onto_numeral (2 * 0 + d) xs) (below_step (2 * 0 + d) (2 ^ length xs) (2 ^ suc (length xs)) (numeral_onto 0 xs) (pow-succ' 2 (length xs)) (omega (arith, h.0)) (numeral_below xs h.1))
+    rw (onto_numeral (2 * 0 + d) xs) (below_step (2 * 0 + d) (2 ^ length xs) (2 ^ suc (length xs)) (numeral_onto 0 xs)
+    (pow-succ' 2 (length xs)) (omega (arith, h.0)) (numeral_below xs h.1))
 
 -- the digits between others, by their numeral
-pub numeral_between : (front middle back : List ℕ) → AreDigits middle → AreDigits back → numeral (front ++ (middle ++ back)) / 2 ^ length back % 2 ^ length middle ≡ numeral middle
+pub numeral_between : (front middle back : List ℕ) → AreDigits middle → AreDigits back →
+    numeral (front ++ (middle ++ back)) / 2 ^ length back % 2 ^ length middle ≡ numeral middle
 numeral_between front middle back h g =
-    rw (sym (append_assoc front middle back), numeral_both (front ++ middle) back, shr_high (numeral (front ++ middle)) (length back) (numeral back) (numeral_below back g), numeral_both front middle)
+    rw (
+      sym (append_assoc front middle back),
+      numeral_both (front ++ middle) back,
+      shr_high (numeral (front ++ middle)) (length back) (numeral back) (numeral_below back g),
+      numeral_both front middle,
+    )
     (mod_low (numeral front) (length middle) (numeral middle) (numeral_below middle h))
 
 -- ---- the digits of a number
@@ -88,11 +97,13 @@ pub numeral_binary : (width n : ℕ) → numeral (binary width n) ≡ n % 2 ^ wi
 unfolding binary numeral_onto
 numeral_binary zero n = sym (mod_one n)
 numeral_binary (suc width) n =
-    onto_numeral (0 + n / 2 ^ width % 2) (binary width n) ∙ rw (length-binary width n, numeral_binary width n) (numeral_digit n width)
+    onto_numeral (0 + n / 2 ^ width % 2) (binary width n)
+    ∙ rw (length-binary width n, numeral_binary width n) (numeral_digit n width)
 
 high_digit : (width i a n : ℕ) → (a * 2 ^ (i + (1 + width)) + n) / 2 ^ width % 2 ≡ n / 2 ^ width % 2
 high_digit width i a n =
-    let p : a * 2 ^ (i + (1 + width)) + n ≡ (a * 2 ^ i * 2) * 2 ^ width + n = rw (pow-add 2 i (1 + width), pow-add 2 1 width) (omega arith) in
+    let p : a * 2 ^ (i + (1 + width)) + n ≡ (a * 2 ^ i * 2) * 2 ^ width + n =
+    rw (pow-add 2 i (1 + width), pow-add 2 1 width) (omega arith) in
     rw (p, mul-add-div_right (pow_pos width) (a * 2 ^ i * 2) n) (omega arith)
 
 high_digit_at : (width j i a n : ℕ) → j ≡ i + (1 + width) → (a * 2 ^ j + n) / 2 ^ width % 2 ≡ n / 2 ^ width % 2
@@ -103,7 +114,8 @@ pub binary_high : (width j a n : ℕ) → width ≤ j → binary width (a * 2 ^ 
 unfolding binary
 binary_high zero j a n h = refl
 binary_high (suc width) j a n h =
-    let e : (a * 2 ^ j + n) / 2 ^ width % 2 ≡ n / 2 ^ width % 2 = high_digit_at width j (j - suc width) a n (omega arith) in
+    let e : (a * 2 ^ j + n) / 2 ^ width % 2 ≡ n / 2 ^ width % 2 =
+    high_digit_at width j (j - suc width) a n (omega arith) in
     rw (e, binary_high width j a n (omega arith)) refl
 
 pub numeral_first : (d p tail : ℕ) → (2 * 0 + d) * p + tail ≡ d * p + tail
@@ -114,8 +126,10 @@ pub binary_numeral : (xs : List ℕ) → AreDigits xs → binary (length xs) (nu
 unfolding binary numeral_onto
 binary_numeral [] h = refl
 binary_numeral (d ∷ xs) h =
-    let e : numeral (d ∷ xs) ≡ d * 2 ^ length xs + numeral xs = onto_numeral (2 * 0 + d) xs ∙ numeral_first d (2 ^ length xs) (numeral xs) in
-    let f : (d * 2 ^ length xs + numeral xs) / 2 ^ length xs ≡ d = shr_high d (length xs) (numeral xs) (numeral_below xs h.1) in
+    let e : numeral (d ∷ xs) ≡ d * 2 ^ length xs + numeral xs = onto_numeral (2 * 0 + d) xs
+    ∙ numeral_first d (2 ^ length xs) (numeral xs) in
+    let f : (d * 2 ^ length xs + numeral xs) / 2 ^ length xs ≡ d =
+    shr_high d (length xs) (numeral xs) (numeral_below xs h.1) in
     let g : d % 2 ≡ d = omega (arith, h.0) in
     rw (e, f, g, binary_high (length xs) (length xs) d (numeral xs) (omega arith), binary_numeral xs h.1) refl
 
@@ -130,24 +144,34 @@ eight_more n = omega arith
 pub length-bits_of : (bytes : List ℕ) → length (bits_of bytes) ≡ 8 * length bytes
 unfolding bits_of
 length-bits_of [] = refl
-length-bits_of (byte ∷ bytes) = length-append (binary 8 byte) (bits_of bytes) ∙ rw (length-binary 8 byte, length-bits_of bytes) (eight_more (length bytes))
+length-bits_of (byte ∷ bytes) = length-append (binary 8 byte) (bits_of bytes)
+    ∙ rw (length-binary 8 byte, length-bits_of bytes) (eight_more (length bytes))
 
 pub bits_of_digits : (bytes : List ℕ) → AreDigits (bits_of bytes)
 unfolding bits_of
 bits_of_digits [] = tt
-bits_of_digits (byte ∷ bytes) = digits_both (binary 8 byte) (bits_of bytes) (binary_digits 8 byte) (bits_of_digits bytes)
+bits_of_digits (byte ∷ bytes) =
+    digits_both (binary 8 byte) (bits_of bytes) (binary_digits 8 byte) (bits_of_digits bytes)
 
 pub bits_of_both : (xs ys : List ℕ) → bits_of (xs ++ ys) ≡ bits_of xs ++ bits_of ys
 unfolding bits_of
 bits_of_both [] ys = refl
-bits_of_both (x ∷ xs) ys = ap (λ t. binary 8 x ++ t) (bits_of_both xs ys) ∙ sym (append_assoc (binary 8 x) (bits_of xs) (bits_of ys))
+bits_of_both (x ∷ xs) ys = ap (λ t. binary 8 x ++ t) (bits_of_both xs ys)
+    ∙ sym (append_assoc (binary 8 x) (bits_of xs) (bits_of ys))
 
 -- one more byte at the end
-pub numeral_byte : (xs : List ℕ) (byte : ℕ) → byte < 256 → numeral (bits_of (xs ++ byte ∷ [])) ≡ numeral (bits_of xs) * 256 + byte
+pub numeral_byte : (xs : List ℕ) (byte : ℕ) → byte < 256 →
+    numeral (bits_of (xs ++ byte ∷ [])) ≡ numeral (bits_of xs) * 256 + byte
 unfolding bits_of
 numeral_byte xs byte h =
     let e : bits_of (xs ++ byte ∷ []) ≡ bits_of xs ++ (binary 8 byte ++ []) = bits_of_both xs (byte ∷ []) in
-    rw (e, append-nil (binary 8 byte), numeral_both (bits_of xs) (binary 8 byte), length-binary 8 byte, numeral_binary 8 byte) (omega arith)
+    rw (
+      e,
+      append-nil (binary 8 byte),
+      numeral_both (bits_of xs) (binary 8 byte),
+      length-binary 8 byte,
+      numeral_binary 8 byte,
+    ) (omega arith)
 
 take_nothing : (n : ℕ) → take {A = ℕ} n [] ≡ []
 take_nothing n = search (rules, common_steps)
@@ -166,35 +190,42 @@ unfolding bits_of
 bits_of-take zero bytes = refl
 bits_of-take (suc n) [] = sym (take_nothing (8 * suc n))
 bits_of-take (suc n) (byte ∷ bytes) =
-    rw (bits_of-take n bytes, sym (eight_more n)) (sym (take_over 8 (8 * n) (binary 8 byte) (bits_of bytes) (length-binary 8 byte)))
+    rw (bits_of-take n bytes, sym (eight_more n))
+    (sym (take_over 8 (8 * n) (binary 8 byte) (bits_of bytes) (length-binary 8 byte)))
 
 pub bits_of-drop : (n : ℕ) (bytes : List ℕ) → bits_of (drop n bytes) ≡ drop (8 * n) (bits_of bytes)
 unfolding bits_of
 bits_of-drop zero bytes = refl
 bits_of-drop (suc n) [] = sym (drop_nothing (8 * suc n))
 bits_of-drop (suc n) (byte ∷ bytes) =
-    rw (bits_of-drop n bytes, sym (eight_more n)) (sym (drop_over 8 (8 * n) (binary 8 byte) (bits_of bytes) (length-binary 8 byte)))
+    rw (bits_of-drop n bytes, sym (eight_more n))
+    (sym (drop_over 8 (8 * n) (binary 8 byte) (bits_of bytes) (length-binary 8 byte)))
 
-pub bits_of-range : (bytes : List ℕ) (i j : ℕ) → bits_of (slice_range bytes i j) ≡ slice_range (bits_of bytes) (8 * i) (8 * j)
+pub bits_of-range : (bytes : List ℕ) (i j : ℕ) →
+    bits_of (slice_range bytes i j) ≡ slice_range (bits_of bytes) (8 * i) (8 * j)
 bits_of-range bytes i j =
     let e : 8 * (j - i) ≡ 8 * j - 8 * i = omega arith in
     rw (bits_of-take (j - i) (drop i bytes), bits_of-drop i bytes, e) refl
 
 -- a part of a part
-pub range_of_range : (xs : List ℕ) (i j a b : ℕ) → a ≤ b → i + b ≤ j → slice_range (slice_range xs i j) a b ≡ slice_range xs (i + a) (i + b)
+pub range_of_range : (xs : List ℕ) (i j a b : ℕ) → a ≤ b → i + b ≤ j →
+    slice_range (slice_range xs i j) a b ≡ slice_range xs (i + a) (i + b)
 range_of_range xs i j a b h g =
     let e : i + b - (i + a) ≡ b - a = omega arith in
     let f : j - i ≡ a + (j - i - a) = omega arith in
-    let t : drop a (take (j - i) (drop i xs)) ≡ take (j - i - a) (drop a (drop i xs)) = ap (λ n. drop a (take n (drop i xs))) f ∙ drop-take a (j - i - a) (drop i xs) in
+    let t : drop a (take (j - i) (drop i xs)) ≡ take (j - i - a) (drop a (drop i xs)) =
+    ap (λ n. drop a (take n (drop i xs))) f ∙ drop-take a (j - i - a) (drop i xs) in
     let l : b - a ≤ j - i - a = omega arith in
     rw (e, t, take-take (b - a) (j - i - a) (drop a (drop i xs)) l, drop-drop a i xs) refl
 
-numeral_part : (xs front middle back : List ℕ) (width behind : ℕ) → xs ≡ front ++ (middle ++ back) → length middle ≡ width → length back ≡ behind → AreDigits middle → AreDigits back
+numeral_part : (xs front middle back : List ℕ) (width behind : ℕ) → xs ≡ front ++ (middle ++ back)
+    → length middle ≡ width → length back ≡ behind → AreDigits middle → AreDigits back
     → numeral xs / 2 ^ behind % 2 ^ width ≡ numeral middle
 numeral_part xs front middle back width behind e m b h g = rw (e, sym m, sym b) (numeral_between front middle back h g)
 
 -- the numeral of a part, from that of the whole
-pub numeral_range : (xs : List ℕ) (lead width behind : ℕ) → AreDigits xs → lead + width + behind ≡ length xs → numeral xs / 2 ^ behind % 2 ^ width ≡ numeral (slice_range xs lead (lead + width))
+pub numeral_range : (xs : List ℕ) (lead width behind : ℕ) → AreDigits xs → lead + width + behind ≡ length xs →
+    numeral xs / 2 ^ behind % 2 ^ width ≡ numeral (slice_range xs lead (lead + width))
 numeral_range xs lead width behind h e =
     let w : lead + width - lead ≡ width = omega arith in
     let rest : length (drop lead xs) ≡ width + behind = omega (arith, length-drop lead xs) in

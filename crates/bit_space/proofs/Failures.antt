@@ -4,7 +4,8 @@ use Rattle.std.proofs.lemmas.Bool.{cases_lt}
 use Rattle.bit_space.specs.SpaceView.{SpaceView, Keeps, HasRisen}
 
 pub keeps_all : {a b c : SpaceView} → Keeps a b → Keeps b c → Keeps a c
-keeps_all k h = record { len = h.len ∙ k.len; bytes = h.bytes ∙ k.bytes; failures = omega (arith, k.failures, h.failures) }
+keeps_all k h =
+    record { len = h.len ∙ k.len; bytes = h.bytes ∙ k.bytes; failures = omega (arith, k.failures, h.failures) }
 
 -- a count that rose in a later call
 pub risen_later : (a b c : ℕ) → a ≤ b → b ≤ c → HasRisen b c → HasRisen a c

@@ -17,7 +17,8 @@ bytes_reversed : number Little (bits_of (0x12 ∷ 0x34 ∷ [])) ≡ 13330
 unfolding binary bits_of numeral_onto groups_from digits number
 bytes_reversed = refl
 
-at_bit_4 : number Big (slice_range (bits_of (0x01 ∷ 0x23 ∷ 0x45 ∷ 0x67 ∷ 0x89 ∷ 0xab ∷ 0xcd ∷ 0xef ∷ 0x01 ∷ [])) 4 68) ≡ 1311768467463790320
+at_bit_4 : number Big (slice_range (bits_of (0x01 ∷ 0x23 ∷ 0x45 ∷ 0x67 ∷ 0x89 ∷ 0xab ∷ 0xcd ∷ 0xef ∷ 0x01 ∷ [])) 4 68)
+    ≡ 1311768467463790320
 unfolding binary bits_of numeral_onto groups_from digits number
 at_bit_4 = refl
 

@@ -26,7 +26,8 @@ eight_more_bits count =
     rw (e, pow-add 2 8 (8 * count)) refl
 
 -- the front group of `rest` comes last
-pub turned_front : (count b m v : ℕ) → b < 256 → m < 2 ^ (8 * count) → turned (suc count) (b * 2 ^ (8 * count) + m) v ≡ turned count m v * 256 + b
+pub turned_front : (count b m v : ℕ) → b < 256 → m < 2 ^ (8 * count) →
+    turned (suc count) (b * 2 ^ (8 * count) + m) v ≡ turned count m v * 256 + b
 unfolding turned
 turned_front zero b m v h g =
     let e : m ≡ 0 = omega (arith, g) in
@@ -57,44 +58,69 @@ pub last_in_front : (g : List ℕ) (gs : List (List ℕ)) → concat (reverse (g
 last_in_front g gs = rw (reverse_onto gs g [], concat-append (reverse gs) (g ∷ []), append-nil g) refl
 
 little_step : (count n last : ℕ) (xs : List ℕ) → length xs ≡ 8 * suc count + last → 0 < last → AreDigits xs
-    → numeral (concat (reverse (groups_from n (drop 8 xs)))) ≡ turned count (numeral (take (8 * count) (drop 8 xs))) (numeral (drop (8 * count) (drop 8 xs)))
-    → numeral (concat (reverse (groups_from (suc n) xs))) ≡ turned (suc count) (numeral (take (8 * suc count) xs)) (numeral (drop (8 * suc count) xs))
+    → numeral (concat (reverse (groups_from n (drop 8 xs))))
+    ≡ turned count (numeral (take (8 * count) (drop 8 xs))) (numeral (drop (8 * count) (drop 8 xs)))
+    → numeral (concat (reverse (groups_from (suc n) xs)))
+    ≡ turned (suc count) (numeral (take (8 * suc count) xs)) (numeral (drop (8 * suc count) xs))
 little_step count n last xs e h d ih =
     let f : length (take 8 xs) ≡ 8 = length-take-le 8 xs (omega arith) in
     let r : length (drop 8 xs) ≡ 8 * count + last = omega (arith, length-drop 8 xs) in
     let m : length (take (8 * count) (drop 8 xs)) ≡ 8 * count = length-take-le (8 * count) (drop 8 xs) (omega arith) in
     let k : 8 * suc count ≡ 8 + 8 * count = omega arith in
     let t : take (8 + 8 * count) xs ≡ take 8 xs ++ take (8 * count) (drop 8 xs) = take-add 8 (8 * count) xs in
-    let front : numeral (take 8 xs) < 256 = subst (λ j. numeral (take 8 xs) < 2 ^ j) f (numeral_below (take 8 xs) (digits_front 8 xs d)) in
-    let mid : numeral (take (8 * count) (drop 8 xs)) < 2 ^ (8 * count) = subst (λ j. numeral (take (8 * count) (drop 8 xs)) < 2 ^ j) m (numeral_below (take (8 * count) (drop 8 xs)) (digits_front (8 * count) (drop 8 xs) (digits_back 8 xs d))) in
-    let left : numeral (concat (reverse (groups_from (suc n) xs))) ≡ turned count (numeral (take (8 * count) (drop 8 xs))) (numeral (drop (8 * count) (drop 8 xs))) * 256 + numeral (take 8 xs) =
-    rw (first_group n xs (omega arith), last_in_front (take 8 xs) (groups_from n (drop 8 xs)), numeral_both (concat (reverse (groups_from n (drop 8 xs)))) (take 8 xs), f, ih) refl in
-    let right : turned (suc count) (numeral (take (8 * suc count) xs)) (numeral (drop (8 * suc count) xs)) ≡ turned (suc count) (numeral (take 8 xs) * 2 ^ (8 * count) + numeral (take (8 * count) (drop 8 xs))) (numeral (drop (8 * count) (drop 8 xs))) =
+    let front : numeral (take 8 xs) < 256 =
+    subst (λ j. numeral (take 8 xs) < 2 ^ j) f (numeral_below (take 8 xs) (digits_front 8 xs d)) in
+    let mid : numeral (take (8 * count) (drop 8 xs)) < 2 ^ (8 * count) =
+    subst (λ j. numeral (take (8 * count) (drop 8 xs)) < 2 ^ j) m
+    (numeral_below (take (8 * count) (drop 8 xs)) (digits_front (8 * count) (drop 8 xs) (digits_back 8 xs d))) in
+    let left : numeral (concat (reverse (groups_from (suc n) xs))) ≡ turned count
+    (numeral (take (8 * count) (drop 8 xs))) (numeral (drop (8 * count) (drop 8 xs))) * 256 + numeral (take 8 xs) =
+    rw (
+      first_group n xs (omega arith),
+      last_in_front (take 8 xs) (groups_from n (drop 8 xs)),
+      numeral_both (concat (reverse (groups_from n (drop 8 xs)))) (take 8 xs),
+      f,
+      ih,
+    ) refl in
+    let right : turned (suc count) (numeral (take (8 * suc count) xs)) (numeral (drop (8 * suc count) xs))
+    ≡ turned (suc count) (numeral (take 8 xs) * 2 ^ (8 * count) + numeral (take (8 * count) (drop 8 xs)))
+    (numeral (drop (8 * count) (drop 8 xs))) =
     rw (k, t, numeral_both (take 8 xs) (take (8 * count) (drop 8 xs)), m, drop-drop (8 * count) 8 xs) refl in
-    left ∙ sym (turned_front count (numeral (take 8 xs)) (numeral (take (8 * count) (drop 8 xs))) (numeral (drop (8 * count) (drop 8 xs))) front mid) ∙ sym right
+    left ∙ sym (turned_front count (numeral (take 8 xs)) (numeral (take (8 * count) (drop 8 xs)))
+    (numeral (drop (8 * count) (drop 8 xs))) front mid)
+    ∙ sym right
 
 -- what little order makes of bits, by whole numbers
-pub little_from : (count n last : ℕ) (xs : List ℕ) → count ≤ n → length xs ≡ 8 * count + last → 0 < last → last ≤ 8 → AreDigits xs
-    → numeral (concat (reverse (groups_from n xs))) ≡ turned count (numeral (take (8 * count) xs)) (numeral (drop (8 * count) xs))
+pub little_from : (count n last : ℕ) (xs : List ℕ) → count ≤ n → length xs ≡ 8 * count + last → 0 < last
+    → last ≤ 8 → AreDigits xs
+    → numeral (concat (reverse (groups_from n xs)))
+    ≡ turned count (numeral (take (8 * count) xs)) (numeral (drop (8 * count) xs))
 unfolding turned
 little_from zero n last xs c e h g d = rw (one_group n last xs e g, append-nil xs) refl
 little_from (suc count) zero last xs c e h g d = absurd (omega arith)
 little_from (suc count) (suc n) last xs c e h g d =
-    little_step count n last xs e h d (little_from count n last (drop 8 xs) (omega arith) (omega (arith, length-drop 8 xs)) h g (digits_back 8 xs d))
+    little_step count n last xs e h d
+    (little_from count n last (drop 8 xs) (omega arith) (omega (arith, length-drop 8 xs)) h g (digits_back 8 xs d))
 
-parts_of_number : (front back : List ℕ) (n last : ℕ) → n ≡ numeral (front ++ back) → length back ≡ last → AreDigits back → (n / 2 ^ last ≡ numeral front) × (n % 2 ^ last ≡ numeral back)
+parts_of_number : (front back : List ℕ) (n last : ℕ) → n ≡ numeral (front ++ back) → length back ≡ last →
+    AreDigits back → (n / 2 ^ last ≡ numeral front) × (n % 2 ^ last ≡ numeral back)
 parts_of_number front back n last e b h =
-    rw (e, numeral_both front back, sym b) (shr_high (numeral front) (length back) (numeral back) (numeral_below back h), mod_low (numeral front) (length back) (numeral back) (numeral_below back h))
+    rw (e, numeral_both front back, sym b) (
+      shr_high (numeral front) (length back) (numeral back) (numeral_below back h),
+      mod_low (numeral front) (length back) (numeral back) (numeral_below back h),
+    )
 
 -- the number in little order of bits that come to n in big order
-pub little_number : (count last width n : ℕ) → width ≡ 8 * count + last → 0 < last → last ≤ 8 → n < 2 ^ width → number Little (binary width n) ≡ turned count (n / 2 ^ last) (n % 2 ^ last)
+pub little_number : (count last width n : ℕ) → width ≡ 8 * count + last → 0 < last → last ≤ 8 → n < 2 ^ width →
+    number Little (binary width n) ≡ turned count (n / 2 ^ last) (n % 2 ^ last)
 unfolding number digits
 little_number count last width n e h g f =
     let xs : List ℕ = binary width n in
     let l : length xs ≡ 8 * count + last = length-binary width n ∙ e in
     let whole : take (8 * count) xs ++ drop (8 * count) xs ≡ xs = take-append-drop (8 * count) xs in
     let value : n ≡ numeral xs = sym (numeral_binary width n ∙ mod-eq_of_lt f) in
-    let parts = parts_of_number (take (8 * count) xs) (drop (8 * count) xs) n last (rw whole value) (omega (arith, length-drop (8 * count) xs, l)) (digits_back (8 * count) xs (binary_digits width n)) in
+    let parts = parts_of_number (take (8 * count) xs) (drop (8 * count) xs) n last (rw whole value)
+    (omega (arith, length-drop (8 * count) xs, l)) (digits_back (8 * count) xs (binary_digits width n)) in
     rw (parts.0, parts.1) (little_from count (length xs) last xs (omega (arith, l)) l h g (binary_digits width n))
 
 pub turned_below : (count rest v j : ℕ) → v < 2 ^ j → turned count rest v < 2 ^ (j + 8 * count)
@@ -117,29 +143,34 @@ number_below Little width n h g =
     let last : ℕ = width - 8 * count in
     let e : width ≡ 8 * count + last = omega arith in
     let f : last + 8 * count ≡ width = omega arith in
-    let t : turned count (n / 2 ^ last) (n % 2 ^ last) < 2 ^ (last + 8 * count) = turned_below count (n / 2 ^ last) (n % 2 ^ last) last (mod_below n (2 ^ last) (pow_pos last)) in
+    let t : turned count (n / 2 ^ last) (n % 2 ^ last) < 2 ^ (last + 8 * count) =
+    turned_below count (n / 2 ^ last) (n % 2 ^ last) last (mod_below n (2 ^ last) (pow_pos last)) in
     rw (little_number count last width n e (omega arith) (omega arith) g) (rw f at t)
 
 -- a number of at most 8 bits is the same in both orders
-pub short_number : (order : Order) (width n : ℕ) → 0 < width → width ≤ 8 → n < 2 ^ width → number order (binary width n) ≡ n
+pub short_number : (order : Order) (width n : ℕ) → 0 < width → width ≤ 8 → n < 2 ^ width →
+    number order (binary width n) ≡ n
 unfolding number digits turned
 short_number Big width n h g f = numeral_binary width n ∙ mod-eq_of_lt f
 short_number Little width n h g f = little_number 0 width width n (omega arith) h g f ∙ mod-eq_of_lt f
 
 -- one more group
-pub turn_value : (v rest last counter : ℕ) → v < 2 ^ (last + 8 * counter) → v * 256 + rest % 256 < 2 ^ (last + 8 * (counter + 1))
+pub turn_value : (v rest last counter : ℕ) → v < 2 ^ (last + 8 * counter) →
+    v * 256 + rest % 256 < 2 ^ (last + 8 * (counter + 1))
 turn_value v rest last counter h =
     let e : last + 8 * (counter + 1) ≡ 8 + (last + 8 * counter) = omega arith in
     let p : 2 ^ (8 + (last + 8 * counter)) ≡ 256 * 2 ^ (last + 8 * counter) = pow-add 2 8 (last + 8 * counter) in
     rw (e, p) (omega arith)
 
-pub turn_more : (groups counter rest v total : ℕ) → counter < groups → turned (groups - counter) rest v ≡ total → turned (groups - (counter + 1)) (rest / 256) (v * 256 + rest % 256) ≡ total
+pub turn_more : (groups counter rest v total : ℕ) → counter < groups → turned (groups - counter) rest v ≡ total →
+    turned (groups - (counter + 1)) (rest / 256) (v * 256 + rest % 256) ≡ total
 unfolding turned
 turn_more groups counter rest v total h e =
     let f : groups - counter ≡ suc (groups - (counter + 1)) = omega arith in
     rw f at e
 
-pub turn_all : (groups counter rest v total : ℕ) → groups ≤ counter → turned (groups - counter) rest v ≡ total → v ≡ total
+pub turn_all : (groups counter rest v total : ℕ) → groups ≤ counter →
+    turned (groups - counter) rest v ≡ total → v ≡ total
 unfolding turned
 turn_all groups counter rest v total h e =
     let f : groups - counter ≡ 0 = omega arith in

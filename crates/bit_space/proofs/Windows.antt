@@ -19,25 +19,31 @@ pub range_digits : (xs : List ℕ) (i j : ℕ) → AreDigits xs → AreDigits (s
 range_digits xs i j h = digits_front (j - i) (drop i xs) (digits_back i xs h)
 
 -- the numeral of some bits of a window
-pub window_below : (window : List ℕ) (lead width cut : ℕ) → lead + width ≤ 8 * length window → cut ≡ numeral (slice_range (bits_of window) lead (lead + width)) → cut < 2 ^ width
+pub window_below : (window : List ℕ) (lead width cut : ℕ) → lead + width ≤ 8 * length window →
+    cut ≡ numeral (slice_range (bits_of window) lead (lead + width)) → cut < 2 ^ width
 window_below window lead width cut h e =
     let xs : List ℕ = slice_range (bits_of window) lead (lead + width) in
     let l : length xs ≡ width = length-range (bits_of window) lead width (omega (arith, length-bits_of window)) in
-    rw e (subst (λ k. numeral xs < 2 ^ k) l (numeral_below xs (range_digits (bits_of window) lead (lead + width) (bits_of_digits window))))
+    rw e (subst (λ k. numeral xs < 2 ^ k) l
+    (numeral_below xs (range_digits (bits_of window) lead (lead + width) (bits_of_digits window))))
 
-pub known_bytes : (o : Option (List ℕ)) (bits : List ℕ) → option_map bits_of o ≡ Some bits → (bytes : List ℕ) × (o ≡ Some bytes) × (bits ≡ bits_of bytes)
+pub known_bytes : (o : Option (List ℕ)) (bits : List ℕ) → option_map bits_of o ≡ Some bits →
+    (bytes : List ℕ) × (o ≡ Some bytes) × (bits ≡ bits_of bytes)
 known_bytes None bits e = cc
 known_bytes (Some bytes) bits e = (bytes, refl, cc)
 
 -- the bits of a window stand in the space where the window does
-window_bits : (bytes window : List ℕ) (first count lead width position : ℕ) → window ≡ slice_range bytes first (first + count) → lead + width ≤ 8 * count → position ≡ 8 * first + lead
+window_bits : (bytes window : List ℕ) (first count lead width position : ℕ)
+    → window ≡ slice_range bytes first (first + count) → lead + width ≤ 8 * count → position ≡ 8 * first + lead
     → slice_range (bits_of window) lead (lead + width) ≡ slice_range (bits_of bytes) position (position + width)
 window_bits bytes window first count lead width position e h p =
     let f : 8 * first + lead + width ≡ 8 * first + (lead + width) = omega arith in
-    rw (e, bits_of-range bytes first (first + count), p, f) (range_of_range (bits_of bytes) (8 * first) (8 * (first + count)) lead (lead + width) (omega arith) (omega arith))
+    rw (e, bits_of-range bytes first (first + count), p, f)
+    (range_of_range (bits_of bytes) (8 * first) (8 * (first + count)) lead (lead + width) (omega arith) (omega arith))
 
 -- what is made of a window is a number that may be read
-pub window_read : (known : Option (List ℕ)) (order : Order) (window : List ℕ) (first count lead width position cut n : ℕ)
+pub window_read : (known : Option (List ℕ)) (order : Order) (window : List ℕ)
+    (first count lead width position cut n : ℕ)
     → 0 < width → length window ≡ count → lead + width ≤ 8 * count → position ≡ 8 * first + lead
     → cut ≡ numeral (slice_range (bits_of window) lead (lead + width)) → n ≡ number order (binary width cut)
     → ((bytes : List ℕ) → known ≡ Some bytes → window ≡ slice_range bytes first (first + count))
@@ -46,10 +52,13 @@ window_read known order window first count lead width position cut n some l h p 
     let xs : List ℕ = slice_range (bits_of window) lead (lead + width) in
     let below : cut < 2 ^ width = window_below window lead width cut (omega arith) e in
     let size : length xs ≡ width = length-range (bits_of window) lead width (omega (arith, length-bits_of window)) in
-    let same : binary width cut ≡ xs = rw e (binary_numeral_at width xs size (range_digits (bits_of window) lead (lead + width) (bits_of_digits window))) in
+    let same : binary width cut ≡ xs = rw e
+    (binary_numeral_at width xs size (range_digits (bits_of window) lead (lead + width) (bits_of_digits window))) in
     record {
       fits = rw f (number_below order width cut some below);
-      exact = λ bits k. let b = known_bytes known bits k in rw (f, same, b.2, window_bits b.0 window first count lead width position (g b.0 b.1) h p) refl;
+      exact = λ bits k.
+          let b = known_bytes known bits k in
+          rw (f, same, b.2, window_bits b.0 window first count lead width position (g b.0 b.1) h p) refl;
     }
 
 -- the numeral of at most n bytes
@@ -59,12 +68,15 @@ joined_below xs n h =
     omega (arith, numeral_below (bits_of xs) (bits_of_digits xs), pow_mono l)
 
 -- one more byte of a window
-pub joined_more : (xs : List ℕ) (i d : ℕ) → i < length xs → get_or xs i d < 256 → numeral (bits_of (take (i + 1) xs)) ≡ numeral (bits_of (take i xs)) * 256 + get_or xs i d
+pub joined_more : (xs : List ℕ) (i d : ℕ) → i < length xs → get_or xs i d < 256 →
+    numeral (bits_of (take (i + 1) xs)) ≡ numeral (bits_of (take i xs)) * 256 + get_or xs i d
 joined_more xs i d h g = rw (take_more xs i d h) (numeral_byte (take i xs) (get_or xs i d) g)
 
 -- the last byte of a window
-pub joined_last : (xs : List ℕ) (n d : ℕ) → length xs ≡ n + 1 → get_or xs n d < 256 → numeral (bits_of xs) ≡ numeral (bits_of (take n xs)) * 256 + get_or xs n d
-joined_last xs n d h g = subst (λ ys. numeral (bits_of ys) ≡ numeral (bits_of (take n xs)) * 256 + get_or xs n d) (take_all (n + 1) xs (omega (arith, h))) (joined_more xs n d (omega (arith, h)) g)
+pub joined_last : (xs : List ℕ) (n d : ℕ) → length xs ≡ n + 1 → get_or xs n d < 256 →
+    numeral (bits_of xs) ≡ numeral (bits_of (take n xs)) * 256 + get_or xs n d
+joined_last xs n d h g = subst (λ ys. numeral (bits_of ys) ≡ numeral (bits_of (take n xs)) * 256 + get_or xs n d)
+    (take_all (n + 1) xs (omega (arith, h))) (joined_more xs n d (omega (arith, h)) g)
 
 -- the numeral of nothing
 pub joined_none : 0 ≡ numeral (bits_of [])
@@ -72,25 +84,33 @@ unfolding bits_of numeral_onto
 joined_none = refl
 
 -- the byte of a window of one byte is the numeral of its bits
-byte_cut : (window : List ℕ) (d : ℕ) → length window ≡ 1 → get_or window 0 d < 256 → get_or window 0 d ≡ numeral (slice_range (bits_of window) 0 (0 + 8))
+byte_cut : (window : List ℕ) (d : ℕ) → length window ≡ 1 → get_or window 0 d < 256 →
+    get_or window 0 d ≡ numeral (slice_range (bits_of window) 0 (0 + 8))
 byte_cut window d h g =
     let l : length (bits_of window) ≤ 8 = omega (arith, h, length-bits_of window) in
     let e : numeral (bits_of window) ≡ numeral (bits_of []) * 256 + get_or window 0 d = joined_last window 0 d h g in
     rw (take_all 8 (bits_of window) l) (omega (arith, e, joined_none))
 
 -- and it may be read in either order
-pub byte_read : (known : Option (List ℕ)) (order : Order) (window : List ℕ) (first position d : ℕ) → length window ≡ 1 → get_or window 0 d < 256 → position ≡ 8 * first
-    → ((bytes : List ℕ) → known ≡ Some bytes → window ≡ slice_range bytes first (first + 1)) → MayRead (option_map bits_of known) order position 8 (get_or window 0 d)
+pub byte_read : (known : Option (List ℕ)) (order : Order) (window : List ℕ) (first position d : ℕ) → length window ≡ 1
+    → get_or window 0 d < 256 → position ≡ 8 * first
+    → ((bytes : List ℕ) → known ≡ Some bytes → window ≡ slice_range bytes first (first + 1))
+    → MayRead (option_map bits_of known) order position 8 (get_or window 0 d)
 byte_read known order window first position d l h p g =
-    window_read known order window first 1 0 8 position (get_or window 0 d) (get_or window 0 d) (omega arith) l (omega arith) (omega (arith, p)) (byte_cut window d l h) (sym (short_number order 8 (get_or window 0 d) (omega arith) (omega arith) h)) g
+    window_read known order window first 1 0 8 position (get_or window 0 d) (get_or window 0 d) (omega arith) l
+    (omega arith) (omega (arith, p)) (byte_cut window d l h)
+    (sym (short_number order 8 (get_or window 0 d) (omega arith) (omega arith) h)) g
 
 -- a mask of the low bits
 pub low_bits : (n k w : ℕ) → k < w → bit_and n (1 * 2 ^ k % 2 ^ w - 1) ≡ n % 2 ^ k
 low_bits n k w h = rw (one_shl k w h) (and_mask n k)
 
 -- bits cut out of a window by a shift and a mask
-pub cut_bits : (window : List ℕ) (lead width all : ℕ) → lead + width ≤ 8 * length window → width ≤ 64 → all ≡ numeral (bits_of window)
-    → bit_and (all / 2 ^ (8 * length window - lead - width)) (1 * 2 ^ width % 2 ^ 128 - 1) ≡ numeral (slice_range (bits_of window) lead (lead + width))
+pub cut_bits : (window : List ℕ) (lead width all : ℕ) → lead + width ≤ 8 * length window → width ≤ 64
+    → all ≡ numeral (bits_of window)
+    → bit_and (all / 2 ^ (8 * length window - lead - width)) (1 * 2 ^ width % 2 ^ 128 - 1)
+    ≡ numeral (slice_range (bits_of window) lead (lead + width))
 cut_bits window lead width all h g e =
     rw (low_bits (all / 2 ^ (8 * length window - lead - width)) width 128 (omega arith), e)
-    (numeral_range (bits_of window) lead width (8 * length window - lead - width) (bits_of_digits window) (omega (arith, length-bits_of window)))
+    (numeral_range (bits_of window) lead width (8 * length window - lead - width) (bits_of_digits window)
+    (omega (arith, length-bits_of window)))

@@ -5,8 +5,10 @@ use Rattle.bit_space.specs.Bits.{AreDigits, digits, number, signed_numeral, twos
 
 -- in two's complement a number is the number of the digits after the first, less the first times its place value
 abbrev pub FirstDigitSigns : Type 0
-FirstDigitSigns = (order : Order) (bits : List ℕ) → AreDigits bits → twos_complement (length bits) (number order bits) ≡ signed_numeral (digits order bits)
+FirstDigitSigns = (order : Order) (bits : List ℕ) → AreDigits bits →
+    twos_complement (length bits) (number order bits) ≡ signed_numeral (digits order bits)
 
 -- a signed number is negative exactly where its first digit is 1
 abbrev pub NegativeStartsWithOne : Type 0
-NegativeStartsWithOne = (first : ℕ) (rest : List ℕ) → AreDigits (first ∷ rest) → (signed_numeral (first ∷ rest) <ℤ pos 0) ↔ (first ≡ 1)
+NegativeStartsWithOne = (first : ℕ) (rest : List ℕ) → AreDigits (first ∷ rest) →
+    (signed_numeral (first ∷ rest) <ℤ pos 0) ↔ (first ≡ 1)

@@ -8,7 +8,8 @@ use Rattle.bit_space.specs.SpaceView.{SpaceView}
 -- those bytes
 pub record IsPage (view : SpaceView) (page : ℕ) (content : List ℕ) : Type 0 where
   pub size : length content ≡ min 4096 (view.len - 4096 * page)
-  pub same : (bytes : List ℕ) → view.bytes ≡ Some bytes → content ≡ slice_range bytes (4096 * page) (4096 * page + length content)
+  pub same : (bytes : List ℕ) → view.bytes ≡ Some bytes →
+      content ≡ slice_range bytes (4096 * page) (4096 * page + length content)
 
 -- each entry of a cache is a page of a space, by its number
 pub record ArePages (view : SpaceView) (entries : List (ℕ × Vec ℕ Global)) : Type 0 where

@@ -17,11 +17,13 @@ pub record MayRead (known : Option (List ℕ)) (order : Order) (position width n
 abbrev pub IsRefused : BitFault → (end : ℕ) (before after : SpaceView) (limit steps steps' : ℕ) → Type 0
 IsRefused Limit end before after limit steps steps' = (steps ≡ limit) × (steps' ≡ steps)
 IsRefused End end before after limit steps steps' = (steps' ≡ steps + 1) × (steps < limit) × (8 * before.len < end)
-IsRefused Device end before after limit steps steps' = (steps' ≡ steps + 1) × (steps < limit) × (end ≤ 8 * before.len) × HasRisen before.failures after.failures
+IsRefused Device end before after limit steps steps' =
+    (steps' ≡ steps + 1) × (steps < limit) × (end ≤ 8 * before.len) × HasRisen before.failures after.failures
 
 -- the same, between two states of the meter
 abbrev pub RefusesReading : (end : ℕ) → (before after : SpaceView) → (meter meter' : Meter) → BitFault → Type 0
-RefusesReading end before after meter meter' fault = IsRefused fault end before after meter.limit meter.steps meter'.steps
+RefusesReading end before after meter meter' fault =
+    IsRefused fault end before after meter.limit meter.steps meter'.steps
 
 -- a fact about each refusal that isn't a device's
 abbrev pub UnlessDevice : BitFault → Type 0 → Type 0

@@ -66,7 +66,8 @@ pub fn read_number<S: Space>(
     ensures steps { OnOk result ((meter.old.steps < meter.old.limit) × (meter.new.steps ≡ meter.old.steps + 1)) }
     ensures inside { OnOk result (pos + width ≤ 8 * (S.view space.old).len) }
     ensures ok { IfOk result (λ n. MayRead (known_bits (S.view space.old)) order pos width n) }
-    ensures err { IfErr result (RefusesReading (pos + width) (S.view space.old) (S.view space.new) meter.old meter.new) }
+    ensures err { IfErr result
+        (RefusesReading (pos + width) (S.view space.old) (S.view space.new) meter.old meter.new) }
     ensures untouched { IfErr result (λ fault. UnlessDevice fault (space.new ≡ space.old)) }
 {
     meter.tick()?;

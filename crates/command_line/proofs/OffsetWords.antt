@@ -55,11 +55,13 @@ cut_at_hash w k e =
     sym (take-append-drop k w) ∙ ap (λ s. take k w ++ s) (drop_more w k 0 p.0 ∙ ap (λ y. y ∷ drop (k + 1) w) h)
 
 -- there, and nowhere else
-pub cut_parts : (w : List ℕ) (k bits : ℕ) (x : IsOffsetWord w bits) → position (λ byte. byte == 35) w ≡ Some k → (take k w ≡ x.magnitude) × (drop (k + 1) w ≡ x.unit)
+pub cut_parts : (w : List ℕ) (k bits : ℕ) (x : IsOffsetWord w bits) → position (λ byte. byte == 35) w ≡ Some k →
+    (take k w ≡ x.magnitude) × (drop (k + 1) w ≡ x.unit)
 cut_parts w k bits x e =
     let n : k ≡ length x.magnitude = same_Some _ _ (sym e ∙ hash_after w x.magnitude x.unit x.parts x.number.1) in (
       ap (take k) x.parts ∙ take_at x.magnitude (35 ∷ x.unit) k (sym n),
-      ap (drop (k + 1)) (x.parts ∙ sym (append_assoc x.magnitude (35 ∷ []) x.unit)) ∙ drop_at (x.magnitude ++ 35 ∷ []) x.unit (k + 1) (omega (arith, length-append x.magnitude (35 ∷ []))),
+      ap (drop (k + 1)) (x.parts ∙ sym (append_assoc x.magnitude (35 ∷ []) x.unit))
+          ∙ drop_at (x.magnitude ++ 35 ∷ []) x.unit (k + 1) (omega (arith, length-append x.magnitude (35 ∷ []))),
     )
 
 -- a unit has one value, of at least one bit
@@ -105,34 +107,41 @@ pub product_large : (m u n : ℕ) → n ≤ m → 1 ≤ u → n ≤ m * u
 product_large m u n h k = omega (arith, mul-le-mul_left m k)
 
 -- if the answer is none
-pub large_by_hash : (w : List ℕ) (n : ℕ) → position (λ byte. byte == 35) w ≡ None → (bits : ℕ) → IsOffsetWord w bits → n ≤ bits
+pub large_by_hash : (w : List ℕ) (n : ℕ) → position (λ byte. byte == 35) w ≡ None → (bits : ℕ) →
+    IsOffsetWord w bits → n ≤ bits
 large_by_hash w n e bits x = absurd (hash_there w bits x e)
 
-pub large_by_magnitude : (w : List ℕ) (k n : ℕ) → position (λ byte. byte == 35) w ≡ Some k → ¬ (IsNumeral 10 (take k w) × (digits_value 10 (take k w) < n)) → (bits : ℕ) → IsOffsetWord w bits → n ≤ bits
+pub large_by_magnitude : (w : List ℕ) (k n : ℕ) → position (λ byte. byte == 35) w ≡ Some k →
+    ¬ (IsNumeral 10 (take k w) × (digits_value 10 (take k w) < n)) → (bits : ℕ) → IsOffsetWord w bits → n ≤ bits
 large_by_magnitude w k n e not_so bits x =
     let p = cut_parts w k bits x e in
     let numeral : IsNumeral 10 (take k w) = subst (IsNumeral 10) (sym p.0) x.number in
     let same : digits_value 10 (take k w) ≡ digits_value 10 x.magnitude = ap (digits_value 10) p.0 in
     let large : n ≤ digits_value 10 (take k w) = not_lt _ _ (λ lt. not_so (numeral, lt)) in
-    let whole : n ≤ digits_value 10 x.magnitude * x.unit_bits = product_large _ x.unit_bits n (omega arith) (unit_least x.unit x.unit_bits x.counts) in
+    let whole : n ≤ digits_value 10 x.magnitude * x.unit_bits =
+    product_large _ x.unit_bits n (omega arith) (unit_least x.unit x.unit_bits x.counts) in
     omega (arith, x.product)
   where
     not_lt : (a b : ℕ) → ¬ (a < b) → b ≤ a
     not_lt a b h = omega arith
 
-pub large_by_unit : (w : List ℕ) (k n : ℕ) → position (λ byte. byte == 35) w ≡ Some k → ((b : ℕ) → ¬ (IsUnit (drop (k + 1) w) b)) → (bits : ℕ) → IsOffsetWord w bits → n ≤ bits
+pub large_by_unit : (w : List ℕ) (k n : ℕ) → position (λ byte. byte == 35) w ≡ Some k →
+    ((b : ℕ) → ¬ (IsUnit (drop (k + 1) w) b)) → (bits : ℕ) → IsOffsetWord w bits → n ≤ bits
 large_by_unit w k n e not_so bits x =
     absurd (not_so x.unit_bits (subst (λ s. IsUnit s x.unit_bits) (sym (cut_parts w k bits x e).1) x.counts))
 
-pub large_by_product : (w : List ℕ) (k m u n : ℕ) → position (λ byte. byte == 35) w ≡ Some k → m ≡ digits_value 10 (take k w) → IsUnit (drop (k + 1) w) u → n ≤ m * u → (bits : ℕ) → IsOffsetWord w bits → n ≤ bits
+pub large_by_product : (w : List ℕ) (k m u n : ℕ) → position (λ byte. byte == 35) w ≡ Some k →
+    m ≡ digits_value 10 (take k w) → IsUnit (drop (k + 1) w) u → n ≤ m * u → (bits : ℕ) → IsOffsetWord w bits → n ≤ bits
 large_by_product w k m u n e is unit large bits x =
     let p = cut_parts w k bits x e in
     let magnitude : m ≡ digits_value 10 x.magnitude = is ∙ ap (digits_value 10) p.0 in
     let named : u ≡ x.unit_bits = unit_same x.unit u x.unit_bits (subst (λ s. IsUnit s u) p.1 unit) x.counts in
-    subst (λ b. n ≤ b) x.product (subst (λ y. n ≤ digits_value 10 x.magnitude * y) named (subst (λ y. n ≤ y * u) magnitude large))
+    subst (λ b. n ≤ b) x.product
+    (subst (λ y. n ≤ digits_value 10 x.magnitude * y) named (subst (λ y. n ≤ y * u) magnitude large))
 
 -- and if it is a number
-pub word_from_parts : (w : List ℕ) (k m u : ℕ) → position (λ byte. byte == 35) w ≡ Some k → IsNumeral 10 (take k w) → m ≡ digits_value 10 (take k w) → IsUnit (drop (k + 1) w) u → IsOffsetWord w (m * u)
+pub word_from_parts : (w : List ℕ) (k m u : ℕ) → position (λ byte. byte == 35) w ≡ Some k → IsNumeral 10 (take k w) →
+    m ≡ digits_value 10 (take k w) → IsUnit (drop (k + 1) w) u → IsOffsetWord w (m * u)
 word_from_parts w k m u e numeral is unit = record {
   magnitude = take k w;
   unit = drop (k + 1) w;
@@ -143,16 +152,22 @@ word_from_parts w k m u e numeral is unit = record {
   product = ap (λ y. y * u) (sym is);
 }
 
-pub word_where_some : (w : List ℕ) (k m u n : ℕ) (r : Option ℕ) → position (λ byte. byte == 35) w ≡ Some k → IsNumeral 10 (take k w) → m ≡ digits_value 10 (take k w) → IsUnit (drop (k + 1) w) u → SomeIff r (m * u < n) (m * u) → IfSome r (IsOffsetWord w)
+pub word_where_some : (w : List ℕ) (k m u n : ℕ) (r : Option ℕ) → position (λ byte. byte == 35) w ≡ Some k →
+    IsNumeral 10 (take k w) → m ≡ digits_value 10 (take k w) → IsUnit (drop (k + 1) w) u →
+    SomeIff r (m * u < n) (m * u) → IfSome r (IsOffsetWord w)
 word_where_some w k m u n None e numeral is unit h = tt
-word_where_some w k m u n (Some x) e numeral is unit h = subst (IsOffsetWord w) (sym h.1) (word_from_parts w k m u e numeral is unit)
+word_where_some w k m u n (Some x) e numeral is unit h =
+    subst (IsOffsetWord w) (sym h.1) (word_from_parts w k m u e numeral is unit)
 
-pub large_where_none : (w : List ℕ) (k m u n : ℕ) (r : Option ℕ) → position (λ byte. byte == 35) w ≡ Some k → m ≡ digits_value 10 (take k w) → IsUnit (drop (k + 1) w) u → SomeIff r (m * u < n) (m * u) → IfNone r ((bits : ℕ) → IsOffsetWord w bits → n ≤ bits)
+pub large_where_none : (w : List ℕ) (k m u n : ℕ) (r : Option ℕ) → position (λ byte. byte == 35) w ≡ Some k →
+    m ≡ digits_value 10 (take k w) → IsUnit (drop (k + 1) w) u → SomeIff r (m * u < n) (m * u) →
+    IfNone r ((bits : ℕ) → IsOffsetWord w bits → n ≤ bits)
 large_where_none w k m u n None e is unit h = large_by_product w k m u n e is unit (omega arith)
 large_where_none w k m u n (Some x) e is unit h = tt
 
 -- what holds at an error that was made a `None`
-pub at_no_ok : {T E : Type 0} (r : Result T E) (P : T → Type 0) (Q : Type 0) → result_ok r ≡ None → MatchResult r P (λ _. Q) → Q
+pub at_no_ok : {T E : Type 0} (r : Result T E) (P : T → Type 0) (Q : Type 0) → result_ok r ≡ None →
+    MatchResult r P (λ _. Q) → Q
 at_no_ok (Ok x) P Q e h = absurd (none-some _ (sym e))
 at_no_ok (Err x) P Q e h = h
 
@@ -164,5 +179,7 @@ one_offset w a b x y =
     let q = cut_parts w (length x.magnitude) b y at in
     let m : x.magnitude ≡ y.magnitude = sym p.0 ∙ q.0 in
     let u : x.unit ≡ y.unit = sym p.1 ∙ q.1 in
-    let n : x.unit_bits ≡ y.unit_bits = unit_same y.unit x.unit_bits y.unit_bits (subst (λ t. IsUnit t x.unit_bits) u x.counts) y.counts in
-    sym x.product ∙ (ap (λ t. digits_value 10 t * x.unit_bits) m ∙ (ap (λ t. digits_value 10 y.magnitude * t) n ∙ y.product))
+    let n : x.unit_bits ≡ y.unit_bits =
+    unit_same y.unit x.unit_bits y.unit_bits (subst (λ t. IsUnit t x.unit_bits) u x.counts) y.counts in
+    sym x.product
+    ∙ (ap (λ t. digits_value 10 t * x.unit_bits) m ∙ (ap (λ t. digits_value 10 y.magnitude * t) n ∙ y.product))

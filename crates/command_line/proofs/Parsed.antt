@@ -20,27 +20,35 @@ is_free_program : (choices : Choices) → is_simple_and_free (the_program choice
 unfolding clap_on_literals
 is_free_program choices = refl
 
-taken_by : (r : Result ArgMatches Error) (app program : App) (line : List (List ℕ)) → app ≡ program → is_simple program ≡ true → is_simple_and_free program ≡ true
+taken_by : (r : Result ArgMatches Error) (app program : App) (line : List (List ℕ)) → app ≡ program
+    → is_simple program ≡ true → is_simple_and_free program ≡ true
     → IfOk r (HasMatchesOf app line) → (is_simple_and_free app ≡ true → FailsBy (fault_of app line) r)
     → IfOk r (λ m. (fault_of program line ≡ []) × (subcommand_rows_of m ≡ subcommand_of program line))
-taken_by (Ok m) app program line same simple free found fails =
-    (ap (λ a. fault_of a line) (sym same) ∙ fails (ap is_simple_and_free same ∙ free), (found (ap is_simple same ∙ simple)).1 ∙ ap (λ a. subcommand_of a line) same)
+taken_by (Ok m) app program line same simple free found fails = (
+  ap (λ a. fault_of a line) (sym same) ∙ fails (ap is_simple_and_free same ∙ free),
+  (found (ap is_simple same ∙ simple)).1 ∙ ap (λ a. subcommand_of a line) same,
+)
 taken_by (Err e) app program line same simple free found fails = tt
 
-failed_by : (r : Result ArgMatches Error) (app program : App) (line : List (List ℕ)) → app ≡ program → is_simple_and_free program ≡ true
+failed_by : (r : Result ArgMatches Error) (app program : App) (line : List (List ℕ)) → app ≡ program
+    → is_simple_and_free program ≡ true
     → (is_simple_and_free app ≡ true → FailsBy (fault_of app line) r) → IfErr r (HasKind (fault_of program line))
 failed_by (Ok m) app program line same free fails = tt
 failed_by (Err e) app program line same free fails =
     subst (λ a. HasKind (fault_of a line) e) same (fails (ap is_simple_and_free same ∙ free))
 
-pub finds : (r : Result ArgMatches Error) (command : Command) (choices : Choices) (line : List (List ℕ)) → AreChoices choices → IsApp (the_program choices) command
-    → IfOk r (HasMatchesOf (app_of command) line) → (is_simple_and_free (app_of command) ≡ true → FailsBy (fault_of (app_of command) line) r)
+pub finds : (r : Result ArgMatches Error) (command : Command) (choices : Choices) (line : List (List ℕ))
+    → AreChoices choices → IsApp (the_program choices) command
+    → IfOk r (HasMatchesOf (app_of command) line)
+    → (is_simple_and_free (app_of command) ≡ true → FailsBy (fault_of (app_of command) line) r)
     → IfOk r (Finds line)
 finds r command choices line listed is found fails = IfOk-weaker r _ _
     (λ m h. record { choices = choices; listed = listed; taken = h.0; found = h.1 })
-    (taken_by r (app_of command) (the_program choices) line is.reads (is_simple_program choices) (is_free_program choices) found fails)
+    (taken_by r (app_of command) (the_program choices) line is.reads (is_simple_program choices)
+    (is_free_program choices) found fails)
 
-pub fails : (r : Result ArgMatches Error) (command : Command) (choices : Choices) (line : List (List ℕ)) → AreChoices choices → IsApp (the_program choices) command
+pub fails : (r : Result ArgMatches Error) (command : Command) (choices : Choices) (line : List (List ℕ))
+    → AreChoices choices → IsApp (the_program choices) command
     → (is_simple_and_free (app_of command) ≡ true → FailsBy (fault_of (app_of command) line) r) → IfErr r (Fails line)
 fails r command choices line listed is failing = IfErr-weaker r _ _
     (λ e h. record { choices = choices; listed = listed; kind = h })

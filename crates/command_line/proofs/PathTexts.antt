@@ -26,12 +26,14 @@ HasNoMark (byte ∷ bytes) = (is_mark byte ≡ false) × HasNoMark bytes
 both_ways : (byte : ℕ) → is_mark byte ≡ true → is_mark byte ≡ false → ⊥
 both_ways byte e f = cc
 
-pub cut_same : (a b t u : List ℕ) → HasNoMark a → HasNoMark b → MayFollow t → MayFollow u → a ++ t ≡ b ++ u → (a ≡ b) × (t ≡ u)
+pub cut_same : (a b t u : List ℕ) → HasNoMark a → HasNoMark b → MayFollow t → MayFollow u →
+    a ++ t ≡ b ++ u → (a ≡ b) × (t ≡ u)
 cut_same [] [] t u na nb ft fu e = (refl, e)
 cut_same [] (y ∷ b) [] u na nb ft fu e = cc
 cut_same [] (y ∷ b) (x ∷ t) u na nb ft fu e = absurd (both_ways y (subst (λ b. is_mark b ≡ true) (head_same e) ft) nb.0)
 cut_same (x ∷ a) [] t [] na nb ft fu e = cc
-cut_same (x ∷ a) [] t (y ∷ u) na nb ft fu e = absurd (both_ways x (subst (λ b. is_mark b ≡ true) (sym (head_same e)) fu) na.0)
+cut_same (x ∷ a) [] t (y ∷ u) na nb ft fu e =
+    absurd (both_ways x (subst (λ b. is_mark b ≡ true) (sym (head_same e)) fu) na.0)
 cut_same (x ∷ a) (y ∷ b) t u na nb ft fu e =
     let r = cut_same a b t u na.1 nb.1 ft fu (tail_same e) in
     (ap (λ z. z ∷ a) (head_same e) ∙ ap (λ z. y ∷ z) r.0, r.1)
@@ -81,12 +83,14 @@ body_no_mark (ToField []) h = absurd h
 body_no_mark (ToField (byte ∷ bytes)) h = name_no_mark (byte ∷ bytes) h.1
 body_no_mark (ToNameless place) h = digits_no_mark (decimal place) (decimal_is_IsNumeral place h).0.1
 body_no_mark (ToElement place) h =
-    no_mark_append (decimal place) (codes "]") (digits_no_mark (decimal place) (decimal_is_IsNumeral place h).0.1) (refl, tt)
+    no_mark_append (decimal place) (codes "]")
+    (digits_no_mark (decimal place) (decimal_is_IsNumeral place h).0.1) (refl, tt)
 
 pub body_some : (step : PathStep) → IsStep step → body_of step ≢ []
 body_some (ToField []) h e = absurd h
 body_some (ToField (byte ∷ bytes)) h e = cc
-body_some (ToNameless place) h e = let some : 0 < length (decimal place) = (decimal_is_IsNumeral place h).0.0 in omega (arith, ap length e)
+body_some (ToNameless place) h e =
+    let some : 0 < length (decimal place) = (decimal_is_IsNumeral place h).0.0 in omega (arith, ap length e)
 body_some (ToElement place) h e = ends (decimal place) e
   where
     ends : (a : List ℕ) → a ++ codes "]" ≢ []
@@ -107,37 +111,47 @@ name_no_digits (byte ∷ bytes) digits h n e =
 
 pub step_same : (a b : PathStep) → IsStep a → IsStep b → step_text a ≡ step_text b → a ≡ b
 step_same (ToField n) (ToField m) h k e = ap ToField (tail_same e)
-step_same (ToField n) (ToNameless q) h k e = absurd (name_no_digits n (decimal q) h (decimal_is_IsNumeral q k).0 (tail_same e))
+step_same (ToField n) (ToNameless q) h k e =
+    absurd (name_no_digits n (decimal q) h (decimal_is_IsNumeral q k).0 (tail_same e))
 step_same (ToField n) (ToElement q) h k e = absurd (let f : ◌≡◌ {A = ℕ} 46 91 = head_same e in omega arith)
-step_same (ToNameless p) (ToField m) h k e = absurd (name_no_digits m (decimal p) k (decimal_is_IsNumeral p h).0 (sym (tail_same e)))
+step_same (ToNameless p) (ToField m) h k e =
+    absurd (name_no_digits m (decimal p) k (decimal_is_IsNumeral p h).0 (sym (tail_same e)))
 step_same (ToNameless p) (ToNameless q) h k e = ap ToNameless (decimal_same p q h k (tail_same e))
 step_same (ToNameless p) (ToElement q) h k e = absurd (let f : ◌≡◌ {A = ℕ} 46 91 = head_same e in omega arith)
 step_same (ToElement p) (ToField m) h k e = absurd (let f : ◌≡◌ {A = ℕ} 91 46 = head_same e in omega arith)
 step_same (ToElement p) (ToNameless q) h k e = absurd (let f : ◌≡◌ {A = ℕ} 91 46 = head_same e in omega arith)
-step_same (ToElement p) (ToElement q) h k e = ap ToElement (decimal_same p q h k (append_cancel_right (decimal p) (decimal q) (codes "]") (tail_same e)))
+step_same (ToElement p) (ToElement q) h k e =
+    ap ToElement (decimal_same p q h k (append_cancel_right (decimal p) (decimal q) (codes "]") (tail_same e)))
 
 -- ---- where the next step begins
 
-pub rest_is : (text : List ℕ) (done : ℕ) → done ≤ length text → take (length text - done) (drop done text) ≡ drop done text
+pub rest_is : (text : List ℕ) (done : ℕ) → done ≤ length text →
+    take (length text - done) (drop done text) ≡ drop done text
 rest_is text done le = take_all (length text - done) (drop done text) (omega (arith, length-drop done text))
 
 -- the first mark after the first byte
-pub within_some : (text rest : List ℕ) (place : ℕ) → 0 < length text → rest ≡ drop 1 text → IsFirstMark rest place → (k : ℕ) → 0 < k → k < place + 1 → is_mark (slice_index text k) ≡ false
+pub within_some : (text rest : List ℕ) (place : ℕ) → 0 < length text → rest ≡ drop 1 text → IsFirstMark rest place →
+    (k : ℕ) → 0 < k → k < place + 1 → is_mark (slice_index text k) ≡ false
 within_some [] rest place some is first k low high = absurd (omega (arith, some))
 within_some (x ∷ text) rest place some is first zero low high = absurd (omega (arith, low))
-within_some (x ∷ text) rest place some is first (suc k) low high = subst (λ bytes. is_mark (slice_index bytes k) ≡ false) is (first.2 k (omega (arith, high)))
+within_some (x ∷ text) rest place some is first (suc k) low high =
+    subst (λ bytes. is_mark (slice_index bytes k) ≡ false) is (first.2 k (omega (arith, high)))
 
-pub within_none : (text rest : List ℕ) → 0 < length text → rest ≡ drop 1 text → EachIndex rest (λ k. is_mark (slice_index rest k) ≡ false) → (k : ℕ) → 0 < k → k < length text → is_mark (slice_index text k) ≡ false
+pub within_none : (text rest : List ℕ) → 0 < length text → rest ≡ drop 1 text →
+    EachIndex rest (λ k. is_mark (slice_index rest k) ≡ false) → (k : ℕ) → 0 < k → k < length text →
+    is_mark (slice_index text k) ≡ false
 within_none [] rest some is none k low high = absurd (omega (arith, some))
 within_none (x ∷ text) rest some is none zero low high = absurd (omega (arith, low))
 within_none (x ∷ text) rest some is none (suc k) low high =
     subst (λ bytes. is_mark (slice_index bytes k) ≡ false) is (none k (omega (arith, high, ap length is)))
 
-pub next_some : (text rest : List ℕ) (place : ℕ) → 0 < length text → rest ≡ drop 1 text → IsFirstMark rest place → MayFollow (drop (place + 1) text)
+pub next_some : (text rest : List ℕ) (place : ℕ) → 0 < length text → rest ≡ drop 1 text → IsFirstMark rest place →
+    MayFollow (drop (place + 1) text)
 next_some [] rest place some is first = absurd (omega (arith, some))
 next_some (x ∷ text) rest place some is first =
     let at = drop_more rest place 0 first.0 in
-    let e : drop (place + 1) (x ∷ text) ≡ drop place rest = ap (λ n. drop n (x ∷ text)) (add-one place) ∙ ap (drop place) (sym is) in
+    let e : drop (place + 1) (x ∷ text) ≡ drop place rest =
+    ap (λ n. drop n (x ∷ text)) (add-one place) ∙ ap (drop place) (sym is) in
     subst MayFollow (sym (e ∙ at)) first.1
 
 -- ---- names and numbers
@@ -146,7 +160,8 @@ name_bytes : (bytes : List ℕ) → EachIndex bytes (λ k. is_name_byte (slice_i
 name_bytes [] h = tt
 name_bytes (byte ∷ bytes) h = (h 0 (omega arith), name_bytes bytes (λ k lt. h (suc k) (omega (arith, lt))))
 
-each_name_byte : (bytes : List ℕ) → AreNameBytes bytes → EachIndex bytes (λ k. is_name_byte (slice_index bytes k) ≡ true)
+each_name_byte : (bytes : List ℕ) → AreNameBytes bytes →
+    EachIndex bytes (λ k. is_name_byte (slice_index bytes k) ≡ true)
 each_name_byte [] h k lt = absurd (omega (arith, lt))
 each_name_byte (byte ∷ bytes) h zero lt = h.0
 each_name_byte (byte ∷ bytes) h (suc k) lt = each_name_byte bytes h.1 k (omega (arith, lt))
@@ -154,7 +169,8 @@ each_name_byte (byte ∷ bytes) h (suc k) lt = each_name_byte bytes h.1 k (omega
 pub name_from_bytes : (bytes : List ℕ) (first : ℕ) (rest : List ℕ) → bytes ≡ first ∷ rest → is_ascii_digit first ≡ false
     → EachIndex bytes (λ k. is_name_byte (slice_index bytes k) ≡ true) → IsName bytes
 name_from_bytes [] first rest e digit h = cc
-name_from_bytes (byte ∷ bytes) first rest e digit h = (subst (λ b. is_ascii_digit b ≡ false) (sym (head_same e)) digit, name_bytes (byte ∷ bytes) h)
+name_from_bytes (byte ∷ bytes) first rest e digit h =
+    (subst (λ b. is_ascii_digit b ≡ false) (sym (head_same e)) digit, name_bytes (byte ∷ bytes) h)
 
 pub bytes_from_name : (bytes : List ℕ) → IsName bytes → EachIndex bytes (λ k. is_name_byte (slice_index bytes k) ≡ true)
 bytes_from_name [] h = absurd h
@@ -163,7 +179,8 @@ bytes_from_name (byte ∷ bytes) h = each_name_byte (byte ∷ bytes) h.1
 abbrev IsSmallNumeral : List ℕ → Type 0
 IsSmallNumeral digits = IsNumeral 10 digits × (digits_value 10 digits < 2 ^ 64)
 
-pub no_decimal : (digits : List ℕ) → ¬ (IsNumeral 10 digits × (digits_value 10 digits < 2 ^ 64)) → (n : ℕ) → n < 2 ^ 64 → decimal n ≢ digits
+pub no_decimal : (digits : List ℕ) → ¬ (IsNumeral 10 digits × (digits_value 10 digits < 2 ^ 64)) → (n : ℕ) →
+    n < 2 ^ 64 → decimal n ≢ digits
 no_decimal digits h n lt e =
     let d = decimal_is_IsNumeral n lt in
     h (subst IsSmallNumeral e (d.0, subst (λ k. k < 2 ^ 64) (sym d.1) lt))
@@ -175,18 +192,21 @@ value_of_decimal digits n lt e = sym (decimal_is_IsNumeral n lt).1 ∙ ap (digit
 -- ---- what isn't a step
 
 -- neither a name nor a number follows the dot
-pub no_field : (name : List ℕ) → ¬ (IsName name) → ((place : ℕ) → place < 2 ^ 64 → decimal place ≢ name) → (step : PathStep) → ¬ (IsStepText (codes "." ++ name) step)
+pub no_field : (name : List ℕ) → ¬ (IsName name) → ((place : ℕ) → place < 2 ^ 64 → decimal place ≢ name) →
+    (step : PathStep) → ¬ (IsStepText (codes "." ++ name) step)
 no_field name not_name not_place (ToField n) h = not_name (subst IsName (tail_same h.1) h.0)
 no_field name not_name not_place (ToNameless p) h = not_place p h.0 (tail_same h.1)
 no_field name not_name not_place (ToElement p) h = let f : ◌≡◌ {A = ℕ} 91 46 = head_same h.1 in omega arith
 
 -- no number with a bracket after it follows the bracket
-pub no_element : (place : List ℕ) → ((p : ℕ) → p < 2 ^ 64 → decimal p ++ codes "]" ≢ place) → (step : PathStep) → ¬ (IsStepText (codes "[" ++ place) step)
+pub no_element : (place : List ℕ) → ((p : ℕ) → p < 2 ^ 64 → decimal p ++ codes "]" ≢ place) → (step : PathStep) →
+    ¬ (IsStepText (codes "[" ++ place) step)
 no_element place not_place (ToField n) h = let f : ◌≡◌ {A = ℕ} 46 91 = head_same h.1 in omega arith
 no_element place not_place (ToNameless p) h = let f : ◌≡◌ {A = ℕ} 46 91 = head_same h.1 in omega arith
 no_element place not_place (ToElement p) h = not_place p h.0 (tail_same h.1)
 
 -- a text without a mark at its front is no step
 pub no_step : (text : List ℕ) → ¬ (MayFollow text) ⊎ (text ≡ []) → (step : PathStep) → ¬ (IsStepText text step)
-no_step text (inl other) step h = other (subst MayFollow h.1 (subst MayFollow (sym (text_is step)) (first_is_mark step)))
+no_step text (inl other) step h =
+    other (subst MayFollow h.1 (subst MayFollow (sym (text_is step)) (first_is_mark step)))
 no_step text (inr is) step h = let f : first_of step ∷ body_of step ≡ [] = sym (text_is step) ∙ h.1 ∙ is in cc

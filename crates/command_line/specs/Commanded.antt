@@ -48,7 +48,8 @@ pub record AnswersIn (command mode : List ℕ) (form : AnswerForm) : Type 0 wher
 
 -- a dump of which no size was given
 abbrev pub has_no_size : (command : List ℕ) → Found → Bool
-has_no_size command found = bytes_eq command (codes "dump") && (not (is_given found (codes "size")) && not (is_given found (codes "length")))
+has_no_size command found =
+    bytes_eq command (codes "dump") && (not (is_given found (codes "size")) && not (is_given found (codes "length")))
 
 -- what a command requests by the matches of its arguments
 pub record AsksOf (command : List ℕ) (found : Found) (asked : Asked) : Type 0 where
@@ -112,7 +113,8 @@ pub record FindsNone (line : List (List ℕ)) : Type 0 where
 
 -- a tie is broken, or the ties are kept and an argument is wrong
 abbrev pub IsMisread : (command : List ℕ) → Found → Type 0
-IsMisread command found = (keeps_ties command found ≡ false) ⊎ ((keeps_ties command found ≡ true) × Misread command found)
+IsMisread command found =
+    (keeps_ties command found ≡ false) ⊎ ((keeps_ties command found ≡ true) × Misread command found)
 
 abbrev pub IsMisplaced : (command : List ℕ) → Found → Type 0
 IsMisplaced command found = (keeps_ties command found ≡ true) × Misplaced command found

@@ -1,4 +1,5 @@
--- The commands and their arguments, as the parser reads them: without the ties between arguments and without help texts.
+-- The commands and their arguments, as the parser reads them: without the ties between arguments and without help
+-- texts.
 use Rattle.std.specs.Borrow.{Bor}
 use Rattle.std.specs.Prelude.{◌≡◌, true, false, ℕ, List, [], ◌∷◌, ◌++◌, Some, codes}
 use Rattle.clap.specs.Walk.{Rule, Text, rule_of, texts}
@@ -55,7 +56,8 @@ count_rule name letter = record (option_rule name) { short = Some letter }
 
 -- FILE of `each`: any number of words
 abbrev pub files_rule : Rule
-files_rule = record (new_rule (codes "FILE")) { range = Some (record { start_inclusive = 0; end_inclusive = 18446744073709551615 }) }
+files_rule = record (new_rule
+    (codes "FILE")) { range = Some (record { start_inclusive = 0; end_inclusive = 18446744073709551615 }) }
 
 module _ (choices : Choices) where
   abbrev pub endian_rule : Rule
@@ -123,18 +125,22 @@ command_of name rules = record { top = record (new_shape name) { rules = rules }
 module _ (choices : Choices) where
   abbrev pub map_command : App
   map_command = command_of (codes "map")
-      (mapping_rules choices (repeated get_rule) ++ (option_rule (codes "rows") ∷ flag_rule (codes "header") ∷ absent_rule choices ∷ [])
+      (mapping_rules choices (repeated get_rule)
+      ++ (option_rule (codes "rows") ∷ flag_rule (codes "header") ∷ absent_rule choices ∷ [])
       ++ style_rules choices (mode_rule choices) ++ why_rule ∷ [] ++ pickle_rules ++ argument_rule (codes "FILE") ∷ [])
 
   abbrev pub show_command : App
   show_command = command_of (codes "show")
-      (mapping_rules choices get_rule ++ (default_rule (codes "elements") (codes "16") ∷ default_rule (codes "depth") (codes "6") ∷ color_rule choices ∷ [])
+      (mapping_rules choices get_rule ++ (default_rule (codes "elements") (codes "16")
+      ∷ default_rule (codes "depth") (codes "6") ∷ color_rule choices ∷ [])
       ++ pickle_rules ++ argument_rule (codes "FILE") ∷ [])
 
   abbrev pub each_command : App
   each_command = command_of (codes "each")
-      (mapping_rules choices (repeated get_rule) ++ absent_rule choices ∷ [] ++ style_rules choices (line_mode_rule choices)
-      ++ (why_rule ∷ flag_rule (codes "flush") ∷ option_rule (codes "files0-from") ∷ []) ++ pickle_rules ++ files_rule ∷ [])
+      (mapping_rules choices (repeated get_rule) ++ absent_rule choices ∷ []
+      ++ style_rules choices (line_mode_rule choices)
+      ++ (why_rule ∷ flag_rule (codes "flush") ∷ option_rule (codes "files0-from") ∷ [])
+      ++ pickle_rules ++ files_rule ∷ [])
 
   abbrev pub bound_command : App
   bound_command = command_of (codes "bound")
@@ -151,18 +157,24 @@ abbrev pub formats_command : App
 formats_command = command_of (codes "formats") []
 
 abbrev pub dump_command : App
-dump_command = command_of (codes "dump") (default_rule (codes "from") (codes "0#B") ∷ default_rule (codes "size") (codes "128#B")
-    ∷ count_rule (codes "skip") 115 ∷ count_rule (codes "length") 110 ∷ flag_rule (codes "no-ruler") ∷ argument_rule (codes "FILE") ∷ [])
+dump_command =
+    command_of (codes "dump") (default_rule (codes "from") (codes "0#B") ∷ default_rule (codes "size") (codes "128#B")
+    ∷ count_rule (codes "skip") 115 ∷ count_rule (codes "length") 110 ∷ flag_rule (codes "no-ruler")
+    ∷ argument_rule (codes "FILE") ∷ [])
 
 -- the program before it has commands
 abbrev pub without_commands : App
-without_commands = record { top = record (new_shape (codes "poke_batch")) { has_version = true; subcommand_required = true }; subs = [] }
+without_commands = record {
+  top = record (new_shape (codes "poke_batch")) { has_version = true; subcommand_required = true };
+  subs = [];
+}
 
 -- the program: its commands, of which one must be given
 abbrev pub the_program : Choices → App
 the_program choices = record {
   top = record (new_shape (codes "poke_batch")) { is_leaf = false; has_version = true; subcommand_required = true };
-  subs = (map_command choices).top ∷ (show_command choices).top ∷ (each_command choices).top ∷ (bound_command choices).top
+  subs =
+      (map_command choices).top ∷ (show_command choices).top ∷ (each_command choices).top ∷ (bound_command choices).top
       ∷ (check_command choices).top ∷ (types_command choices).top ∷ formats_command.top ∷ dump_command.top ∷ [];
 }
 

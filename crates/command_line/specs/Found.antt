@@ -75,7 +75,15 @@ pub record HasTerms (found : Found) (choice : Choice) (default : Option ℕ) (te
   pub selection : Selects found choice terms.selection
 
 abbrev pub no_terms : Terms
-no_terms = record { whole = false; most_output = None; part = None; most_slots = None; style = plain; look = None; selection = None }
+no_terms = record {
+  whole = false;
+  most_output = None;
+  part = None;
+  most_slots = None;
+  style = plain;
+  look = None;
+  selection = None;
+}
 
 -- where a mapping starts
 abbrev pub StartsAt : Found → Start → Type 0
@@ -91,7 +99,8 @@ pub record AsksMapping (found : Found) (start : Start) (order : Order) (limit : 
 
 -- the words of a mapping are what its arguments request
 abbrev pub AsksMappingOf : Found → MappingWords → Type 0
-AsksMappingOf found words = AsksMapping found words.start words.order words.limit (string_bytes words.pickle) (string_bytes words.name)
+AsksMappingOf found words =
+    AsksMapping found words.start words.order words.limit (string_bytes words.pickle) (string_bytes words.name)
 
 -- the most bytes that are read of a file without a length, if such a file is read
 abbrev pub Spools : Found → Option ℕ → Type 0
@@ -117,11 +126,12 @@ NamesFiles found (EndedByZero path) = first_value found (codes "files0-from") �
 abbrev pub ReportsIn : Found → FaultForm → Type 0
 ReportsIn found faults = NamesFaults (word_in found (codes "faults")) faults
 
--- how a value is written: printed in a mode, beside the form of refusals and faults, or shown with colors and with so many
--- levels of parts, 6 by default
+-- how a value is written: printed in a mode, beside the form of refusals and faults, or shown with colors and with so
+-- many levels of parts, 6 by default
 abbrev pub IsInForm : Found → Form → Type 0
 IsInForm found (Printed mode faults) = IsInMode found mode × ReportsIn found faults
-IsInForm found (Shown color depth) = NamesColor (word_in found (codes "color")) color × NamesElementsOr (Some 6) (first_value found (codes "depth")) depth
+IsInForm found (Shown color depth) = NamesColor (word_in found (codes "color")) color
+    × NamesElementsOr (Some 6) (first_value found (codes "depth")) depth
 
 -- the most elements of an array that are written by default: all, or 16 for the eye
 abbrev pub elements_by_default : Form → Option ℕ
@@ -145,7 +155,8 @@ choice_of (Printed mode faults) (Files names flush) = Columns
 
 -- a request is what arguments request
 pub record AsksRequest (found : Found) (request : Request) : Type 0 where
-  pub mapping : AsksMapping found request.start request.order request.limit (string_bytes request.pickle) (string_bytes request.name)
+  pub mapping : AsksMapping found request.start request.order request.limit (string_bytes request.pickle)
+      (string_bytes request.name)
   pub spools : Spools found request.spool
   pub terms : HasTerms found (choice_of request.form request.over) (elements_by_default request.form) request.terms
   pub form : IsInForm found request.form
@@ -162,13 +173,17 @@ DumpsBytes found size = NamesBytes (first_value found (codes "length")) (word_in
 
 -- a job is what the arguments of its command request
 abbrev pub Asks : Found → Job → Type 0
-Asks found (Map at order limit mode pickle name file) = AsksMapping found (Bit at) order limit (string_bytes pickle) (string_bytes name)
-    × IsInMode found mode × ReportsIn found Text × Spools found None × ShowsProgress found false × HasTerms found Parts None no_terms
+Asks found (Map at order limit mode pickle name file) =
+    AsksMapping found (Bit at) order limit (string_bytes pickle) (string_bytes name)
+    × IsInMode found mode × ReportsIn found Text × Spools found None × ShowsProgress found false
+    × HasTerms found Parts None no_terms
     × (string_bytes file ≡ word_in found (codes "FILE"))
 Asks found (job.Request request) = AsksRequest found request
-Asks found (Bound pickle name bits) = AsksBound found (string_bytes pickle) (string_bytes name) bits × FlagIn (one_text found (codes "text")) false
+Asks found (Bound pickle name bits) =
+    AsksBound found (string_bytes pickle) (string_bytes name) bits × FlagIn (one_text found (codes "text")) false
 Asks found (BoundText pickle name bits mode style) = AsksBound found (string_bytes pickle) (string_bytes name) bits
-    × FlagIn (one_text found (codes "text")) true × NamesModeIfAny (first_value found (codes "mode")) mode × NamesStyle found None style
+    × FlagIn (one_text found (codes "text")) true × NamesModeIfAny (first_value found (codes "mode")) mode
+    × NamesStyle found None style
 Asks found (Check pickle) = string_bytes pickle ≡ word_in found (codes "PICKLE")
 Asks found (Types pickle) = string_bytes pickle ≡ word_in found (codes "PICKLE")
 Asks found Formats = Unit {0}
@@ -195,8 +210,10 @@ IsJobOf command (BoundText pickle name bits mode style) = command ≡ Some (code
 IsJobOf command (Types pickle) = command ≡ Some (codes "types")
 IsJobOf command Formats = command ≡ Some (codes "formats")
 IsJobOf command (Dump from size ruler file) = command ≡ Some (codes "dump")
-IsJobOf command (Check pickle) = IsOther command (codes "map") × IsOther command (codes "show") × IsOther command (codes "each")
-    × IsOther command (codes "bound") × IsOther command (codes "types") × IsOther command (codes "formats") × IsOther command (codes "dump")
+IsJobOf command (Check pickle) =
+    IsOther command (codes "map") × IsOther command (codes "show") × IsOther command (codes "each")
+    × IsOther command (codes "bound") × IsOther command (codes "types") × IsOther command (codes "formats")
+    × IsOther command (codes "dump")
 
 -- the arguments of a mapping name no start
 abbrev pub StartsNowhere : Found → Type 0
@@ -209,4 +226,5 @@ IsNoRange found = IsNoBytes (first_value found (codes "skip")) (word_in found (c
 
 -- the arguments of a bound have something else than a number where one belongs
 abbrev pub IsNoBound : Found → Type 0
-IsNoBound found = IsNoNumberIfAny (first_value found (codes "BITS")) ⊎ IsNoElementsIfAny (first_value found (codes "elements"))
+IsNoBound found =
+    IsNoNumberIfAny (first_value found (codes "BITS")) ⊎ IsNoElementsIfAny (first_value found (codes "elements"))

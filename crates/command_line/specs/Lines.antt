@@ -8,7 +8,8 @@ use Rattle.command_line.specs.declared.words.line.Place.TheVariants as place
 -- `help` with a request for help as its last word, which the parser would take for the name of a command
 abbrev pub asks_help_of_help : List (List ℕ) → Bool
 asks_help_of_help words = nat_lt 1 (length words) && (bytes_eq (slice_index_or words 0 []) (codes "help")
-    && (bytes_eq (slice_index_or words (length words - 1) []) (codes "-h") || bytes_eq (slice_index_or words (length words - 1) []) (codes "--help")))
+    && (bytes_eq (slice_index_or words (length words - 1) []) (codes "-h")
+    || bytes_eq (slice_index_or words (length words - 1) []) (codes "--help")))
 
 abbrev pub without_help_of_help : List (List ℕ) → List (List ℕ)
 without_help_of_help words = if asks_help_of_help words then take (length words - 1) words else words
@@ -20,7 +21,8 @@ begins_with_minus (byte ∷ bytes) = byte == 45
 
 -- where the words are after one more: after `--byte`, after `--`, or elsewhere
 abbrev pub place_after : Place → List ℕ → Place
-place_after place.Options word = if bytes_eq word (codes "--") then place.Rest else if bytes_eq word (codes "--byte") then place.Byte else place.Options
+place_after place.Options word = if bytes_eq word (codes "--") then place.Rest else if bytes_eq word (codes "--byte")
+    then place.Byte else place.Options
 place_after place.Byte word = place.Options
 place_after place.Rest word = place.Rest
 

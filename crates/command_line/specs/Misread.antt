@@ -39,7 +39,8 @@ AnyWord IsSuch (word ∷ words) = IsSuch word ⊎ AnyWord IsSuch words
 
 -- a text isn't the pattern of one path
 abbrev pub IsNoOnePath : List ℕ → Type 0
-IsNoOnePath word = IsNoPattern word ⊎ ((patterns : List Pattern) × ArePatterns (word ∷ []) patterns × (is_one_path patterns ≡ false))
+IsNoOnePath word =
+    IsNoPattern word ⊎ ((patterns : List Pattern) × ArePatterns (word ∷ []) patterns × (is_one_path patterns ≡ false))
 
 -- rows have no such pattern, no such columns, or no such mode
 pub data MisreadRows (found : Found) (pattern : List ℕ) (words : List (List ℕ)) : Type 0 where
@@ -59,7 +60,8 @@ pub data MisreadColumns (words : List (List ℕ)) : Type 0 where
 -- the parts that are requested are none, by what a command offers
 abbrev pub MisreadSelection : Found → Choice → Type 0
 MisreadSelection found choice.Part = ⊥
-MisreadSelection found choice.Parts = MisreadParts found (first_value found (codes "rows")) (words_in found (codes "get"))
+MisreadSelection found choice.Parts =
+    MisreadParts found (first_value found (codes "rows")) (words_in found (codes "get"))
 MisreadSelection found choice.Columns = MisreadColumns (words_in found (codes "get"))
 
 -- an option of a mapping is wrong

@@ -5,8 +5,8 @@ use Rattle.command_line.specs.declared.pattern.PatternStep.{PatternStep}
 use Rattle.command_line.specs.declared.pattern.PatternStep.TheVariants.{Exact, Elements, Fields}
 use Rattle.command_line.specs.Paths.{PathStep, IsStep, step_text, step_of, steps_of}
 
--- a step from a value to some of its parts: the part to which a step of a path leads, the elements of an array from a place
--- on and before another, all those without places, or all fields
+-- a step from a value to some of its parts: the part to which a step of a path leads, the elements of an array from a
+-- place on and before another, all those without places, or all fields
 pub data PatternPart : Type 0 where
   ToOne : (step : PathStep) → PatternPart
   ToElements : (from end : Option ℕ) → PatternPart

@@ -33,7 +33,8 @@ abbrev pub ArePatterns : List (List ℕ) → List Pattern → Type 0
 ArePatterns [] [] = Unit {0}
 ArePatterns [] (pattern ∷ patterns) = ⊥
 ArePatterns (word ∷ words) [] = ⊥
-ArePatterns (word ∷ words) (pattern ∷ patterns) = IsPattern word (parts_of pattern.steps.items) × ArePatterns words patterns
+ArePatterns (word ∷ words) (pattern ∷ patterns) =
+    IsPattern word (parts_of pattern.steps.items) × ArePatterns words patterns
 
 -- a text is the path of a column, which it names
 abbrev pub IsColumn : List ℕ → Column → Type 0
@@ -78,7 +79,8 @@ is_plain absent.Empty patterns = false
 
 -- what `map` prints without rows: the parts to which the patterns lead that the texts are, but for a plain path
 abbrev pub IsShapeOfParts : List (List ℕ) → Absent → Shape → Type 0
-IsShapeOfParts words absent (shape.Parts patterns) = ArePatterns words patterns.items × (is_plain absent patterns.items ≡ false)
+IsShapeOfParts words absent (shape.Parts patterns) =
+    ArePatterns words patterns.items × (is_plain absent patterns.items ≡ false)
 IsShapeOfParts words absent (shape.Rows rows) = ⊥
 
 abbrev pub SelectsParts : List (List ℕ) → Absent → Option Selection → Type 0
@@ -93,11 +95,13 @@ IsLonePath (word ∷ more ∷ words) given patterns = ⊥
 
 abbrev pub IsShapeOfColumns : List (List ℕ) → Absent → Shape → Type 0
 IsShapeOfColumns words absent (shape.Parts patterns) = IsLonePath words absent patterns.items
-IsShapeOfColumns words absent (shape.Rows rows) = (1 < length words) × (rows.pattern.steps.items ≡ []) × AreColumns words rows.columns.items × (rows.header ≡ false)
+IsShapeOfColumns words absent (shape.Rows rows) =
+    (1 < length words) × (rows.pattern.steps.items ≡ []) × AreColumns words rows.columns.items × (rows.header ≡ false)
 
 abbrev pub SelectsColumns : List (List ℕ) → Absent → Option Selection → Type 0
 SelectsColumns words absent None = IsOneAtMost words absent
-SelectsColumns words absent (Some selection) = (selection.absent ≡ absent) × IsShapeOfColumns words absent selection.shape
+SelectsColumns words absent (Some selection) =
+    (selection.absent ≡ absent) × IsShapeOfColumns words absent selection.shape
 
 -- what `map` prints: rows if a pattern of rows is given
 abbrev pub IsShapeOfRows : Found → (pattern : List ℕ) → Shape → Type 0
@@ -106,7 +110,8 @@ IsShapeOfRows found pattern (shape.Rows rows) = NamesRows found pattern (words_i
 
 abbrev pub SelectsRows : Found → (pattern : List ℕ) → Absent → Option Selection → Type 0
 SelectsRows found pattern absent None = ⊥
-SelectsRows found pattern absent (Some selection) = (selection.absent ≡ absent) × IsShapeOfRows found pattern selection.shape
+SelectsRows found pattern absent (Some selection) =
+    (selection.absent ≡ absent) × IsShapeOfRows found pattern selection.shape
 
 abbrev pub SelectsAny : Found → (rows : Option (List ℕ)) → Absent → Option Selection → Type 0
 SelectsAny found None absent selection = SelectsParts (words_in found (codes "get")) absent selection

@@ -7,7 +7,8 @@ is_mark byte = (byte == 46) || (byte == 91)
 
 -- the place of the first byte that begins a step
 abbrev pub IsFirstMark : List ℕ → ℕ → Type 0
-IsFirstMark bytes place = (place < length bytes) × (is_mark (slice_index bytes place) ≡ true) × ((k : ℕ) → k < place → is_mark (slice_index bytes k) ≡ false)
+IsFirstMark bytes place = (place < length bytes) × (is_mark (slice_index bytes place) ≡ true)
+    × ((k : ℕ) → k < place → is_mark (slice_index bytes k) ≡ false)
 
 -- after a step there is nothing, or the next one begins
 abbrev pub MayFollow : List ℕ → Type 0

@@ -32,7 +32,8 @@ keeps_map_ties found = are_apart found (codes "byte") (codes "at")
     && (needs found (codes "rows") (codes "get") && needs found (codes "header") (codes "rows"))
 
 abbrev pub keeps_each_ties : Found → Bool
-keeps_each_ties found = are_apart found (codes "byte") (codes "at") && is_either_given found (codes "FILE") (codes "files0-from")
+keeps_each_ties found =
+    are_apart found (codes "byte") (codes "at") && is_either_given found (codes "FILE") (codes "files0-from")
 
 abbrev pub keeps_bound_ties : Found → Bool
 keeps_bound_ties found = needs found (codes "mode") (codes "text") && (needs found (codes "numbers") (codes "text")

@@ -14,7 +14,8 @@ IsCheckOf name job = ⊥
 
 -- the same, without an explanation of a refusal, in words, and of no dump
 abbrev pub IsBareCheckOf : List ℕ → Asked → Type 0
-IsBareCheckOf name asked = IsCheckOf name asked.job × (asked.why ≡ false) × (asked.default_size ≡ false) × (asked.answer ≡ answer.Text)
+IsBareCheckOf name asked =
+    IsCheckOf name asked.job × (asked.why ≡ false) × (asked.default_size ≡ false) × (asked.answer ≡ answer.Text)
 
 -- `tree`, `json` and `lines` name their modes, any other text is the mode `flat`
 abbrev pub NamesMode : List ℕ → Mode → Type 0

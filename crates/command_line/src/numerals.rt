@@ -8,7 +8,8 @@ const TOO_MANY_BYTES: u64 = 1 << 61;
 
 /// The value of decimal digits, if it is below 2^64. There is no sign before them.
 pub fn decimal(digits: &[u8]) -> Option<u64>
-    ensures { SomeIff result (IsNumeral 10 digits.now × (digits_value 10 digits.now < 2 ^ 64)) (digits_value 10 digits.now) }
+    ensures { SomeIff result
+        (IsNumeral 10 digits.now × (digits_value 10 digits.now < 2 ^ 64)) (digits_value 10 digits.now) }
 {
     number(digits, 10)
 }
@@ -52,7 +53,8 @@ fn count(word: &[u8]) -> Option<u64>
 fn number(digits: &[u8], base: u32) -> Option<u64>
     requires least { 2 ≤ base }
     requires most { base ≤ 36 }
-    ensures { SomeIff result (IsNumeral base digits.now × (digits_value base digits.now < 2 ^ 64)) (digits_value base digits.now) }
+    ensures { SomeIff result
+        (IsNumeral base digits.now × (digits_value base digits.now < 2 ^ 64)) (digits_value base digits.now) }
 {
     if digits.first() == Some(&b'+') {
         return None;

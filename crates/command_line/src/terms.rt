@@ -29,7 +29,15 @@ pub struct Terms {
 impl Terms {
     /// Terms that every value meets, and the plain style.
     pub fn none() -> Terms
-        ensures { result ≡ record { whole = false; most_output = None; part = None; most_slots = None; style = plain; look = None; selection = None } }
+        ensures { result ≡ record {
+          whole = false;
+          most_output = None;
+          part = None;
+          most_slots = None;
+          style = plain;
+          look = None;
+          selection = None;
+        } }
     {
         Terms {
             whole: false,

@@ -154,7 +154,8 @@ pub fn read_words(alloc: Global, words: Vec<String>) -> Result<Job, WordFault>
 /// Reads the arguments, without the program's name, as a job, and whether `--why` is among them. Without arguments the
 /// job is a check of standard input, `-`, without `--why`.
 pub fn read_asked(alloc: Global, words: Vec<String>) -> Result<Asked, WordFault>
-    ensures empty { words.items ≡ [] → MatchResult result (IsBareCheckOf (codes "-")) (λ fault. fault ≡ WordFault.Memory) }
+    ensures empty { words.items ≡ [] →
+        MatchResult result (IsBareCheckOf (codes "-")) (λ fault. fault ≡ WordFault.Memory) }
     ensures asks { words.items ≢ [] → IfOk result (IsAskedBy (command_line (map string_bytes words.items))) }
     ensures fails { words.items ≢ [] → IfErr result (FailsTo (command_line (map string_bytes words.items))) }
 {
@@ -207,7 +208,8 @@ fn read_tied(
 ) -> Result<Asked, WordFault>
     ensures tied { OnOk result (keeps_ties command.now (found_of found.now) ≡ true) }
     ensures asks { IfOk result (AsksOf command.now (found_of found.now)) }
-    ensures misread { IfErr result (FailsFor (IsMisread command.now (found_of found.now)) (IsMisplaced command.now (found_of found.now))) }
+    ensures misread { IfErr result
+        (FailsFor (IsMisread command.now (found_of found.now)) (IsMisplaced command.now (found_of found.now))) }
 {
     if !keeps_ties(command, found) {
         return Err(WordFault::Usage(usage_of(alloc, words)?));
@@ -217,7 +219,8 @@ fn read_tied(
 
 fn read_found(alloc: Global, command: &str, found: &ArgMatches<'_>) -> Result<Asked, WordFault>
     ensures asks { IfOk result (AsksOf command.now (found_of found.now)) }
-    ensures misread { IfErr result (FailsFor (Misread command.now (found_of found.now)) (Misplaced command.now (found_of found.now))) }
+    ensures misread { IfErr result
+        (FailsFor (Misread command.now (found_of found.now)) (Misplaced command.now (found_of found.now))) }
 {
     Ok(Asked {
         job: read_command(alloc, command, found)?,
@@ -301,7 +304,8 @@ fn text_of(alloc: Global, error: &clap::Error) -> Result<String, AllocError> {
 fn read_command(alloc: Global, command: &str, found: &ArgMatches<'_>) -> Result<Job, WordFault>
     ensures asks { IfOk result (Asks (found_of found.now)) }
     ensures command { IfOk result (IsJobOf (Some command.now)) }
-    ensures misread { IfErr result (FailsFor (Misread command.now (found_of found.now)) (Misplaced command.now (found_of found.now))) }
+    ensures misread { IfErr result
+        (FailsFor (Misread command.now (found_of found.now)) (Misplaced command.now (found_of found.now))) }
 {
     match command {
         "map" => read_map(alloc, found),
@@ -319,7 +323,8 @@ fn read_map(alloc: Global, found: &ArgMatches<'_>) -> Result<Job, WordFault>
     ensures asks { IfOk result (Asks (found_of found.now)) }
     ensures command { IfOk result (IsJobOf (Some (codes "map"))) }
     ensures offset { IfErr result (λ fault. fault ≡ WordFault.Offset → StartsNowhere (found_of found.now)) }
-    ensures misread { IfErr result (FailsFor (MisreadRequest (found_of found.now) Choice.Parts) (StartsNowhere (found_of found.now))) }
+    ensures misread { IfErr result
+        (FailsFor (MisreadRequest (found_of found.now) Choice.Parts) (StartsNowhere (found_of found.now))) }
 {
     let terms = terms_of(alloc, found, Choice::Parts, None)?;
     let spool = spool_of(alloc, found)?;
@@ -357,7 +362,8 @@ fn read_show(alloc: Global, found: &ArgMatches<'_>) -> Result<Job, WordFault>
     ensures asks { IfOk result (Asks (found_of found.now)) }
     ensures command { IfOk result (IsJobOf (Some (codes "show"))) }
     ensures offset { IfErr result (λ fault. fault ≡ WordFault.Offset → StartsNowhere (found_of found.now)) }
-    ensures misread { IfErr result (FailsFor (MisreadRequest (found_of found.now) Choice.Part) (StartsNowhere (found_of found.now))) }
+    ensures misread { IfErr result
+        (FailsFor (MisreadRequest (found_of found.now) Choice.Part) (StartsNowhere (found_of found.now))) }
 {
     let mapping = mapping_words(alloc, found)?;
     let spool = spool_of(alloc, found)?;
@@ -385,7 +391,8 @@ fn read_each(alloc: Global, found: &ArgMatches<'_>) -> Result<Job, WordFault>
     ensures asks { IfOk result (Asks (found_of found.now)) }
     ensures command { IfOk result (IsJobOf (Some (codes "each"))) }
     ensures offset { IfErr result (λ fault. fault ≡ WordFault.Offset → StartsNowhere (found_of found.now)) }
-    ensures misread { IfErr result (FailsFor (MisreadRequest (found_of found.now) Choice.Columns) (StartsNowhere (found_of found.now))) }
+    ensures misread { IfErr result
+        (FailsFor (MisreadRequest (found_of found.now) Choice.Columns) (StartsNowhere (found_of found.now))) }
 {
     let mapping = mapping_words(alloc, found)?;
     let spool = spool_of(alloc, found)?;

@@ -26,21 +26,31 @@ use Rattle.fault_parts.specs.Somehow.{Somehow}
 use Rattle.fault_location.specs.Ways.{OnBits, Comes, Settled}
 
 -- a plan that was followed to its end over known bits
-pub followed_means : {world : World} {limit : ℕ} (bits : List ℕ) (ty : PokeType) (order : Order) (levels : Levels) (s : ℕ) {k j k' j' : ℕ} {state state' : State} {r : Result Value FaultAt} → world.known ≡ Some bits →
-    Follows world limit (plan (length bits) ty order levels s) k j state k' j' state' (Done r) → Somehow (Means bits ty order levels s r)
+pub followed_means : {world : World} {limit : ℕ} (bits : List ℕ) (ty : PokeType) (order : Order) (levels : Levels)
+    (s : ℕ) {k j k' j' : ℕ} {state state' : State} {r : Result Value FaultAt} → world.known ≡ Some bits →
+    Follows world limit (plan (length bits) ty order levels s) k j state k' j' state' (Done r) →
+    Somehow (Means bits ty order levels s r)
 followed_means bits ty order levels s known h =
     let l = walk_leaves bits known h.walk in
     let e = rw h.ends.0 at l.result in
     let m = plan_means bits ty order levels s in
     record { steps = _; made = _; holds = rw e at m }
 
-module _ (nodes : List Node) (space : SpaceView) (meter meter' : Meter) (store store' : Held) (at : ℕ) (order : Order) (s : ℕ) (whole : IsWhole space) where
+module _ (nodes : List Node) (space : SpaceView) (meter meter' : Meter) (store store' : Held) (at : ℕ) (order : Order)
+    (s : ℕ) (whole : IsWhole space) where
   pub comes_mapped : (result : Result ℕ Stop) → Maps nodes space meter meter' store store' (as_type at order s) result →
-      OnBits space (λ bits. Comes (Means bits (type_of nodes at) order (levels nodes store) s) (levels nodes store) (levels nodes store') result)
+      OnBits space (λ bits. Comes (Means bits (type_of nodes at) order (levels nodes store) s) (levels nodes store)
+      (levels nodes store') result)
   comes_mapped (Ok end) h bytes e =
       let len = ap (λ n. 8 * n) (sym (whole bytes e)) ∙ sym (length-bits_of bytes) in
       let follows = rw len at h.follows in
-      record { value = h.value; keeps = h.kept; ends = h.ends; means = followed_means (bits_of bytes) (type_of nodes at) order (levels nodes store) s (ap (option_map bits_of) e) follows }
+      record {
+        value = h.value;
+        keeps = h.kept;
+        ends = h.ends;
+        means = followed_means (bits_of bytes) (type_of nodes at) order (levels nodes store) s
+            (ap (option_map bits_of) e) follows;
+      }
   comes_mapped (Err (Fault kind place)) h bytes e =
       let len = ap (λ n. 8 * n) (sym (whole bytes e)) ∙ sym (length-bits_of bytes) in
       let follows = rw len at h in
@@ -50,7 +60,8 @@ module _ (nodes : List Node) (space : SpaceView) (meter meter' : Meter) (store s
   comes_mapped (Err Memory) h bytes e = tt
 
 -- a clause that settled
-pub settled : {A : Type 0} (limit before after steps : ℕ) (result : Result A Stop) (o : Result A FaultAt) → Settles limit before after result o steps → Settled result o
+pub settled : {A : Type 0} (limit before after steps : ℕ) (result : Result A Stop) (o : Result A FaultAt) →
+    Settles limit before after result o steps → Settled result o
 settled limit before after steps (Ok x) o h = h.0
 settled limit before after steps (Err (Fault kind place)) o h = h.0
 settled limit before after steps (Err Limit) o h = tt
@@ -58,7 +69,10 @@ settled limit before after steps (Err Device) o h = tt
 settled limit before after steps (Err Memory) o h = tt
 
 -- the frames around the innermost one, after a mapping
-pub outer_mapped : (nodes : List Node) (space : SpaceView) (meter meter' : Meter) (store store' : Held) (planned : Planned Value) (result : Result ℕ Stop) → Maps nodes space meter meter' store store' planned result →
-    OnErr result (levels nodes store' ≡ levels nodes store) → outer_of (levels nodes store') ≡ outer_of (levels nodes store)
-outer_mapped nodes space meter meter' store store' planned (Ok end) h same = ap outer_of h.kept ∙ outer_pushed (levels nodes store) (Some h.value)
+pub outer_mapped : (nodes : List Node) (space : SpaceView) (meter meter' : Meter) (store store' : Held)
+    (planned : Planned Value) (result : Result ℕ Stop) → Maps nodes space meter meter' store store' planned result →
+    OnErr result (levels nodes store' ≡ levels nodes store) →
+    outer_of (levels nodes store') ≡ outer_of (levels nodes store)
+outer_mapped nodes space meter meter' store store' planned (Ok end) h same =
+    ap outer_of h.kept ∙ outer_pushed (levels nodes store) (Some h.value)
 outer_mapped nodes space meter meter' store store' planned (Err stop) h same = ap outer_of same

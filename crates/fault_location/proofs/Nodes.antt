@@ -23,7 +23,9 @@ pub record IntegralNode (nodes : List Node) (at levels : ℕ) (number : IntegerT
   pub width : IsWidth number
   pub few : levels ≤ 64
 
-pub integral_node : (nodes : List Node) → IsTable nodes → (at : ℕ) → at < length nodes → (levels : ℕ) → levels + depth (type_of nodes at) ≤ 65 → (other : Node) (name : Option Name) (number : IntegerType) (fields : Vec Part Global) →
+pub integral_node : (nodes : List Node) → IsTable nodes → (at : ℕ) → at < length nodes → (levels : ℕ) →
+    levels + depth (type_of nodes at) ≤ 65 →
+    (other : Node) (name : Option Name) (number : IntegerType) (fields : Vec Part Global) →
     (get_or nodes at other).shape ≡ shape.Integral name number fields → IntegralNode nodes at levels number fields.items
 unfolding parts_depth
 integral_node nodes table at inside levels held other name number fields is =
@@ -44,7 +46,9 @@ pub record StructNode (nodes : List Node) (at levels : ℕ) (pinned : Bool) (fie
   pub fields_are : All (IsFieldOf nodes (levels + 1)) fields
   pub few : levels ≤ 64
 
-pub struct_node : (nodes : List Node) → IsTable nodes → (at : ℕ) → at < length nodes → (levels : ℕ) → levels + depth (type_of nodes at) ≤ 65 → (other : Node) (name : Option Name) (pinned : Bool) (fields : Vec Field Global) →
+pub struct_node : (nodes : List Node) → IsTable nodes → (at : ℕ) → at < length nodes → (levels : ℕ) →
+    levels + depth (type_of nodes at) ≤ 65 →
+    (other : Node) (name : Option Name) (pinned : Bool) (fields : Vec Field Global) →
     (get_or nodes at other).shape ≡ shape.Struct name pinned fields → StructNode nodes at levels pinned fields.items
 unfolding fields_depth
 struct_node nodes table at inside levels held other name pinned fields is =
@@ -63,7 +67,8 @@ pub record UnionNode (nodes : List Node) (at levels : ℕ) (alternatives : List 
   pub alternatives_are : All (IsPartOf nodes (levels + 1)) alternatives
   pub few : levels ≤ 64
 
-pub union_node : (nodes : List Node) → IsTable nodes → (at : ℕ) → at < length nodes → (levels : ℕ) → levels + depth (type_of nodes at) ≤ 65 → (other : Node) (name : Option Name) (alternatives : Vec Part Global) →
+pub union_node : (nodes : List Node) → IsTable nodes → (at : ℕ) → at < length nodes → (levels : ℕ) →
+    levels + depth (type_of nodes at) ≤ 65 → (other : Node) (name : Option Name) (alternatives : Vec Part Global) →
     (get_or nodes at other).shape ≡ shape.Union name alternatives → UnionNode nodes at levels alternatives.items
 unfolding parts_depth
 union_node nodes table at inside levels held other name alternatives is =
@@ -72,7 +77,8 @@ union_node nodes table at inside levels held other name alternatives is =
     let deep = rw (opened_as nodes table at inside other _ is) at held in
     record {
       type_is = union_opened nodes table at inside other name alternatives alternatives.items is refl;
-      alternatives_are = parts_within nodes at inside (levels + 1) alternatives.items below sound.0 (omega (arith, deep));
+      alternatives_are =
+          parts_within nodes at inside (levels + 1) alternatives.items below sound.0 (omega (arith, deep));
       few = omega (arith, deep);
     }
 
@@ -83,7 +89,8 @@ pub record ArrayNode (nodes : List Node) (at levels element : ℕ) (bound : Boun
   pub deep : levels + 1 + depth (type_of nodes element) ≤ 65
   pub sound : IsSoundBound (bound_of bound)
 
-pub array_node : (nodes : List Node) → IsTable nodes → (at : ℕ) → at < length nodes → (levels : ℕ) → levels + depth (type_of nodes at) ≤ 65 → (other : Node) (element : ℕ) (bound : Bound) →
+pub array_node : (nodes : List Node) → IsTable nodes → (at : ℕ) → at < length nodes → (levels : ℕ) →
+    levels + depth (type_of nodes at) ≤ 65 → (other : Node) (element : ℕ) (bound : Bound) →
     (get_or nodes at other).shape ≡ shape.Array element bound → ArrayNode nodes at levels element bound
 unfolding depth
 array_node nodes table at inside levels held other element bound is =

@@ -22,7 +22,8 @@ use Rattle.fault_location.specs.Sites.{StopsNumber}
 use Rattle.fault_parts.specs.Somehow.{Somehow}
 
 module _ (bits : List ℕ) where
-  result_then : {A B : Type 0} (p : Plan A) (f : A → Plan B) → result_of bits (and_then p f) ≡ result_of bits (f (result_of bits p))
+  result_then : {A B : Type 0} (p : Plan A) (f : A → Plan B) →
+      result_of bits (and_then p f) ≡ result_of bits (f (result_of bits p))
   result_then (Ended a) f = refl
   result_then (Tick p) f = result_then p f
   result_then (Made count move levels p) f = result_then p f
@@ -33,30 +34,40 @@ module _ (bits : List ℕ) where
   result_after (suc n) a = result_after n a
 
   -- what the result of a plan gives
-  pub goes_on : {A B F : Type 0} (p : Plan (Result A F)) (f : A → Plan (Result B F)) (a : A) → result_of bits p ≡ Ok a → result_of bits (then_ok p f) ≡ result_of bits (f a)
+  pub goes_on : {A B F : Type 0} (p : Plan (Result A F)) (f : A → Plan (Result B F)) (a : A) → result_of bits p ≡ Ok a →
+      result_of bits (then_ok p f) ≡ result_of bits (f a)
   unfolding then_ok
   goes_on p f a e = result_then p (on_value f) ∙ ap (λ r. result_of bits (on_value f r)) e
 
-  pub goes_wrong : {A B F : Type 0} (p : Plan (Result A F)) (f : A → Plan (Result B F)) (x : F) → result_of bits p ≡ Err x → result_of bits (then_ok p f) ≡ Err x
+  pub goes_wrong : {A B F : Type 0} (p : Plan (Result A F)) (f : A → Plan (Result B F)) (x : F) →
+      result_of bits p ≡ Err x → result_of bits (then_ok p f) ≡ Err x
   unfolding then_ok
   goes_wrong p f x e = result_then p (on_value f) ∙ ap (λ r. result_of bits (on_value f r)) e
 
   -- what is built in a frame, by its own result
-  in_frame : {A F : Type 0} (outer : Levels) (p : Plan (Result A F)) (r : Result A F) → result_of bits p ≡ r → result_of bits (framed outer p) ≡ r
+  in_frame : {A F : Type 0} (outer : Levels) (p : Plan (Result A F)) (r : Result A F) → result_of bits p ≡ r →
+      result_of bits (framed outer p) ≡ r
   unfolding framed
-  in_frame {A} {F} outer p r e = result_then p (leave_frame outer) ∙ ap (λ x. result_of bits (leave_frame outer x)) e ∙ left r
+  in_frame {A} {F} outer p r e =
+      result_then p (leave_frame outer) ∙ ap (λ x. result_of bits (leave_frame outer x)) e ∙ left r
     where
       left : (x : Result A F) → result_of bits (leave_frame outer x) ≡ x
       left (Ok a) = refl
       left (Err f) = refl
 
-  constrained_goes : (c : Option Term) (levels : Levels) (s : ℕ) (v : Value) → constraint c (pushed levels (Some v)) s ≡ Ok tt → result_of bits (constrained c levels s v) ≡ Ok v
+  constrained_goes : (c : Option Term) (levels : Levels) (s : ℕ) (v : Value) →
+      constraint c (pushed levels (Some v)) s ≡ Ok tt → result_of bits (constrained c levels s v) ≡ Ok v
   unfolding constrained
-  constrained_goes c levels s v e = goes_on (after (clause_steps c (pushed levels (Some v))) (constraint c (pushed levels (Some v)) s)) (λ u. Ended (Ok v)) tt (result_after (clause_steps c (pushed levels (Some v))) _ ∙ e)
+  constrained_goes c levels s v e =
+      goes_on (after (clause_steps c (pushed levels (Some v))) (constraint c (pushed levels (Some v)) s))
+      (λ u. Ended (Ok v)) tt (result_after (clause_steps c (pushed levels (Some v))) _ ∙ e)
 
-  constrained_wrong : (c : Option Term) (levels : Levels) (s : ℕ) (v : Value) (f : FaultAt) → constraint c (pushed levels (Some v)) s ≡ Err f → result_of bits (constrained c levels s v) ≡ Err f
+  constrained_wrong : (c : Option Term) (levels : Levels) (s : ℕ) (v : Value) (f : FaultAt) →
+      constraint c (pushed levels (Some v)) s ≡ Err f → result_of bits (constrained c levels s v) ≡ Err f
   unfolding constrained
-  constrained_wrong c levels s v f e = goes_wrong (after (clause_steps c (pushed levels (Some v))) (constraint c (pushed levels (Some v)) s)) (λ u. Ended (Ok v)) f (result_after (clause_steps c (pushed levels (Some v))) _ ∙ e)
+  constrained_wrong c levels s v f e =
+      goes_wrong (after (clause_steps c (pushed levels (Some v))) (constraint c (pushed levels (Some v)) s))
+      (λ u. Ended (Ok v)) f (result_after (clause_steps c (pushed levels (Some v))) _ ∙ e)
 
   abbrev Number : PokeType → ℕ → Levels → ℕ → Result Value FaultAt → Type 0
   Number ty n levels s r = Somehow (NumberMeans ty n levels s r)
@@ -65,20 +76,28 @@ module _ (bits : List ℕ) where
   Digits parts n left levels s r = Somehow (DigitsMean parts n left levels s r)
 
   -- an integral struct, by the result of its fields
-  of_fields : (name : Naming) (type : IntegerType) (fields : Parts) (n : ℕ) (levels : Levels) (s : ℕ) (r : Result Levels FaultAt) → result_of bits (digits_plan fields n type.width (opened levels) s) ≡ r →
-      Digits fields n type.width (opened levels) s r → Number (IntegralOf name type fields) n levels s (result_of bits (number_plan (IntegralOf name type fields) n levels s))
+  of_fields : (name : Naming) (type : IntegerType) (fields : Parts) (n : ℕ) (levels : Levels) (s : ℕ)
+      (r : Result Levels FaultAt) → result_of bits (digits_plan fields n type.width (opened levels) s) ≡ r →
+      Digits fields n type.width (opened levels) s r →
+      Number (IntegralOf name type fields) n levels s
+      (result_of bits (number_plan (IntegralOf name type fields) n levels s))
   unfolding number_plan
   of_fields name type fields n levels s (Ok inside) e m =
-      let whole = then_ok (digits_plan fields n type.width (opened levels) s) (closes Closes (struct_value name (part_names fields) s (s + type.width))) in
-      let is = in_frame levels whole _ (goes_on (digits_plan fields n type.width (opened levels) s) (closes Closes (struct_value name (part_names fields) s (s + type.width))) inside e) in
+      let whole = then_ok (digits_plan fields n type.width (opened levels) s)
+      (closes Closes (struct_value name (part_names fields) s (s + type.width))) in
+      let is = in_frame levels whole _ (goes_on (digits_plan fields n type.width (opened levels) s)
+      (closes Closes (struct_value name (part_names fields) s (s + type.width))) inside e) in
       rw is (record { steps = _; made = _; holds = integral m.holds })
   of_fields name type fields n levels s (Err f) e m =
-      let whole = then_ok (digits_plan fields n type.width (opened levels) s) (closes Closes (struct_value name (part_names fields) s (s + type.width))) in
-      let is = in_frame levels whole _ (goes_wrong (digits_plan fields n type.width (opened levels) s) (closes Closes (struct_value name (part_names fields) s (s + type.width))) f e) in
+      let whole = then_ok (digits_plan fields n type.width (opened levels) s)
+      (closes Closes (struct_value name (part_names fields) s (s + type.width))) in
+      let is = in_frame levels whole _ (goes_wrong (digits_plan fields n type.width (opened levels) s)
+      (closes Closes (struct_value name (part_names fields) s (s + type.width))) f e) in
       rw is (record { steps = _; made = _; holds = integral_fault m.holds })
 
   -- the fields of an integral struct, by the result of the first one
-  module _ (name : Naming) (order : Option ByteOrder) (ty : PokeType) (c : Option Term) (rest : Parts) (n left : ℕ) (levels : Levels) (s : ℕ) where
+  module _ (name : Naming) (order : Option ByteOrder) (ty : PokeType) (c : Option Term) (rest : Parts) (n left : ℕ)
+      (levels : Levels) (s : ℕ) where
     abbrev cut : ℕ
     cut = first_digits n left (width_in (number_type ty))
 
@@ -86,22 +105,28 @@ module _ (bits : List ℕ) where
     behind v = digits_plan rest n (left - width_in (number_type ty)) (pushed levels (Some v)) s
 
     abbrev Whole : Type 0
-    Whole = Digits (PartThen name order ty c rest) n left levels s (result_of bits (digits_plan (PartThen name order ty c rest) n left levels s))
+    Whole = Digits (PartThen name order ty c rest) n left levels s
+        (result_of bits (digits_plan (PartThen name order ty c rest) n left levels s))
 
-    of_constraint : (v : Value) → result_of bits (number_plan ty cut levels s) ≡ Ok v → Number ty cut levels s (Ok v) → Digits rest n (left - width_in (number_type ty)) (pushed levels (Some v)) s (result_of bits (behind v)) →
+    of_constraint : (v : Value) → result_of bits (number_plan ty cut levels s) ≡ Ok v → Number ty cut levels s (Ok v) →
+        Digits rest n (left - width_in (number_type ty)) (pushed levels (Some v)) s (result_of bits (behind v)) →
         (o : Result (Unit {0}) FaultAt) → constraint c (pushed levels (Some v)) s ≡ o → Whole
     unfolding digits_plan
     of_constraint v e m more (Ok u) holds =
-        let checked = goes_on (Tick (number_plan ty cut levels s)) (constrained c levels s) v e ∙ constrained_goes c levels s v holds in
+        let checked = goes_on (Tick (number_plan ty cut levels s)) (constrained c levels s) v e
+        ∙ constrained_goes c levels s v holds in
         let is = goes_on (then_ok (Tick (number_plan ty cut levels s)) (constrained c levels s)) behind v checked in
         rw is (record { steps = _; made = _; holds = next_digits m.holds holds more.holds })
     of_constraint v e m more (Err f) holds =
-        let checked = goes_on (Tick (number_plan ty cut levels s)) (constrained c levels s) v e ∙ constrained_wrong c levels s v f holds in
+        let checked = goes_on (Tick (number_plan ty cut levels s)) (constrained c levels s) v e
+        ∙ constrained_wrong c levels s v f holds in
         let is = goes_wrong (then_ok (Tick (number_plan ty cut levels s)) (constrained c levels s)) behind f checked in
         rw is (record { steps = _; made = _; holds = digits_refused m.holds holds })
 
-    of_first : (r : Result Value FaultAt) → result_of bits (number_plan ty cut levels s) ≡ r → Number ty cut levels s r →
-        ((v : Value) → Digits rest n (left - width_in (number_type ty)) (pushed levels (Some v)) s (result_of bits (behind v))) → Whole
+    of_first : (r : Result Value FaultAt) → result_of bits (number_plan ty cut levels s) ≡ r →
+        Number ty cut levels s r →
+        ((v : Value) →
+        Digits rest n (left - width_in (number_type ty)) (pushed levels (Some v)) s (result_of bits (behind v))) → Whole
     unfolding digits_plan
     of_first (Ok v) e m more = of_constraint v e m (more v) _ refl
     of_first (Err f) e m more =
@@ -112,23 +137,28 @@ module _ (bits : List ℕ) where
   mutual
     unfolding number_plan digits_plan
 
-    pub number_planned : (ty : PokeType) (n : ℕ) (levels : Levels) (s : ℕ) → Number ty n levels s (result_of bits (number_plan ty n levels s))
+    pub number_planned : (ty : PokeType) (n : ℕ) (levels : Levels) (s : ℕ) →
+        Number ty n levels s (result_of bits (number_plan ty n levels s))
     number_planned (IntegerOf type) n levels s = record { steps = _; made = _; holds = integer }
     number_planned (OffsetOf type unit) n levels s = record { steps = _; made = _; holds = offset }
     number_planned StringOf n levels s = record { steps = _; made = _; holds = no_number refl }
     number_planned (ArrayOf element bound) n levels s = record { steps = _; made = _; holds = no_number refl }
     number_planned (StructOf name pinned _) n levels s = record { steps = _; made = _; holds = no_number refl }
-    number_planned (IntegralOf name type fields) n levels s = of_fields name type fields n levels s _ refl (digits_planned fields n type.width (opened levels) s)
+    number_planned (IntegralOf name type fields) n levels s =
+        of_fields name type fields n levels s _ refl (digits_planned fields n type.width (opened levels) s)
     number_planned (UnionOf name alternatives) n levels s = record { steps = _; made = _; holds = no_number refl }
 
-    pub digits_planned : (parts : Parts) (n left : ℕ) (levels : Levels) (s : ℕ) → Digits parts n left levels s (result_of bits (digits_plan parts n left levels s))
+    pub digits_planned : (parts : Parts) (n left : ℕ) (levels : Levels) (s : ℕ) →
+        Digits parts n left levels s (result_of bits (digits_plan parts n left levels s))
     digits_planned NoParts n left levels s = record { steps = _; made = _; holds = no_digits }
     digits_planned (PartThen name order ty c rest) n left levels s =
-        of_first name order ty c rest n left levels s _ refl (number_planned ty (first_digits n left (width_in (number_type ty))) levels s)
+        of_first name order ty c rest n left levels s _ refl
+        (number_planned ty (first_digits n left (width_in (number_type ty))) levels s)
         (λ v. digits_planned rest n (left - width_in (number_type ty)) (pushed levels (Some v)) s)
 
 -- a number that was placed is stored as it means
-pub number_kept : (nodes : List Node) (meter meter' : Meter) (store store' : Held) (ty : PokeType) (n s : ℕ) (result : Result (Unit {0}) Stop) → Places nodes meter meter' store store' ty n s result →
+pub number_kept : (nodes : List Node) (meter meter' : Meter) (store store' : Held) (ty : PokeType) (n s : ℕ)
+    (result : Result (Unit {0}) Stop) → Places nodes meter meter' store store' ty n s result →
     IfOk result (λ u. KeepsNumber ty n s (levels nodes store) (levels nodes store'))
 number_kept nodes meter meter' store store' ty n s (Ok u) h =
     let one = h (Some []) in
@@ -139,8 +169,10 @@ number_kept nodes meter meter' store store' ty n s (Ok u) h =
 number_kept nodes meter meter' store store' ty n s (Err stop) h = tt
 
 -- a number that was stopped means the fault
-pub number_stopped : (nodes : List Node) (meter meter' : Meter) (store store' : Held) (ty : PokeType) (n s : ℕ) (result : Result (Unit {0}) Stop) → Places nodes meter meter' store store' ty n s result →
-    OnErr result (levels nodes store' ≡ levels nodes store) → IfErr result (StopsNumber ty n s (levels nodes store) (levels nodes store'))
+pub number_stopped : (nodes : List Node) (meter meter' : Meter) (store store' : Held) (ty : PokeType) (n s : ℕ)
+    (result : Result (Unit {0}) Stop) → Places nodes meter meter' store store' ty n s result →
+    OnErr result (levels nodes store' ≡ levels nodes store) →
+    IfErr result (StopsNumber ty n s (levels nodes store) (levels nodes store'))
 number_stopped nodes meter meter' store store' ty n s (Ok u) h same = tt
 number_stopped nodes meter meter' store store' ty n s (Err (Fault kind place)) h same =
     let stopped = h (Some []) in

@@ -32,7 +32,8 @@ ArisesFrom type order start fault path bits = Arises bits type order no_values s
 
 -- the constraint of a part refuses it with the fault
 abbrev pub Refuses : Part → MapFault → Held → Type 0
-Refuses part fault store = (nodes : List Node) → constraint (constraint_of part) (levels nodes store) part.inner.start ≡ Err (fault_of fault)
+Refuses part fault store =
+    (nodes : List Node) → constraint (constraint_of part) (levels nodes store) part.inner.start ≡ Err (fault_of fault)
 
 module _ (checker : Checker) where
   -- the fault arises in a part, with its constraint, at the end of a path
@@ -56,24 +57,28 @@ module _ (old new : Checker) where
   -- a type was entered at a place
   abbrev pub EntersType : Inner → (place : ℕ) → MapFault → Entered → (bits : List ℕ) → Type 0
   EntersType inner place fault entered bits =
-      Enters bits old.nodes.now (frames_after old new) place (fault_of fault) (InType bits old.nodes.now (frames_of old) inner (fault_of fault)) entered
+      Enters bits old.nodes.now (frames_after old new) place (fault_of fault)
+      (InType bits old.nodes.now (frames_of old) inner (fault_of fault)) entered
 
   -- the fields of a struct were entered at a place
   abbrev pub EntersStruct : StructStart → List Field → (place : ℕ) → MapFault → Entered → (bits : List ℕ) → Type 0
   EntersStruct whole fields place fault entered bits =
       Enters bits old.nodes.now (frames_after old new) place (fault_of fault)
-      (FieldsArise bits whole.pinned whole.start whole.order (open_fields (type_of old.nodes.now) fields) (frames_of old) (fault_of fault)) entered
+      (FieldsArise bits whole.pinned whole.start whole.order (open_fields (type_of old.nodes.now) fields)
+      (frames_of old) (fault_of fault)) entered
 
   -- the alternatives of a union were entered at a place
   abbrev pub EntersUnion : UnionStart → List Alternative → (place : ℕ) → MapFault → Entered → (bits : List ℕ) → Type 0
   EntersUnion whole alternatives place fault entered bits =
       Enters bits old.nodes.now (frames_after old new) place (fault_of fault)
-      (AlternativesArise bits whole.order (open_parts (type_of old.nodes.now) alternatives) (frames_of old) whole.start (fault_of fault)) entered
+      (AlternativesArise bits whole.order (open_parts (type_of old.nodes.now) alternatives) (frames_of old) whole.start
+      (fault_of fault)) entered
 
   -- a field was entered, after those that are absent or values
   abbrev pub EntersOne : StructStart → Field → (behind : ℕ) → MapFault → Entered → Type 0
   EntersOne whole field behind fault entered =
-      EntersField old.nodes.now whole.pinned whole.start whole.order field (frames_of old) behind (fault_of fault) entered
+      EntersField old.nodes.now whole.pinned whole.start whole.order field (frames_of old) behind
+      (fault_of fault) entered
 
   -- a type was mapped
   abbrev pub MapsType : Inner → Result ℕ Stop → (bits : List ℕ) → Type 0
@@ -91,9 +96,11 @@ abbrev pub Checks : Option Term → Held → (place : ℕ) → Result (Unit {0})
 Checks clause store place result = (nodes : List Node) → Settled result (constraint clause (levels nodes store) place)
 
 abbrev pub TellsThere : Option (Box Resolved Global) → Held → (start : ℕ) → Result Bool Stop → Type 0
-TellsThere clause store start result = (nodes : List Node) → Settled result (condition (optional_term clause) (levels nodes store) start)
+TellsThere clause store start result =
+    (nodes : List Node) → Settled result (condition (optional_term clause) (levels nodes store) start)
 
 -- a field's start was found by its label
 abbrev pub FindsStart : StructStart → Option (Box Resolved Global) → Held → (behind : ℕ) → Result ℕ Stop → Type 0
 FindsStart whole label store behind result =
-    (nodes : List Node) → Settled result (field_start whole.pinned (optional_term label) (levels nodes store) whole.start behind)
+    (nodes : List Node) →
+    Settled result (field_start whole.pinned (optional_term label) (levels nodes store) whole.start behind)

@@ -30,7 +30,9 @@ pub record RefusesNumber (nodes : List Node) (number s : ℕ) (p : Part) (levels
   pub refused : constraint (optional_term p.constraint) (pushed levels (Some value)) s ≡ Err f
 
 -- the fields before a place were stored, and so many binary digits of the number are left
-pub record ReachesNumber (nodes : List Node) (n s : ℕ) (fields : List Part) (width : ℕ) (levels : Levels) (place : ℕ) (levels' : Levels) (left : ℕ) : Type 0 where
+pub record ReachesNumber (nodes : List Node) (n s : ℕ) (fields : List Part) (width : ℕ) (levels : Levels) (place : ℕ)
+    (levels' : Levels) (left : ℕ) : Type 0 where
   pub inside : place < length fields
   pub few : left ≤ 64
-  pub before : DigitsBefore n s (open_parts (type_of nodes) fields) width levels place (open_parts (type_of nodes) (drop place fields)) left levels'
+  pub before : DigitsBefore n s (open_parts (type_of nodes) fields) width levels place
+      (open_parts (type_of nodes) (drop place fields)) left levels'

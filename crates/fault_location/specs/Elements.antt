@@ -23,7 +23,8 @@ use Rattle.value_store.specs.Slots.{levels}
 
 -- the elements of an array up to one are values
 abbrev pub ElementsTo : List ℕ → PokeType → Order → (s : ℕ) → Extent → (levels levels' : Levels) → (n end : ℕ) → Type 0
-ElementsTo bits ty order s extent levels levels' n end = Somehow (Elements bits ty order s extent 0 levels s n levels' end)
+ElementsTo bits ty order s extent levels levels' n end =
+    Somehow (Elements bits ty order s extent 0 levels s n levels' end)
 
 -- a type is a value without bits
 pub record HasNoBits (bits : List ℕ) (ty : PokeType) (order : Order) (levels : Levels) (at : ℕ) : Type 0 where
@@ -38,7 +39,8 @@ IsEmpty bits ty element levels levels' entered.There = HasNoBits bits ty element
 IsEmpty bits ty element levels levels' entered.Nowhere = Unit {0}
 
 -- the elements of an array are values and end past its size
-pub record Outgrows (bits : List ℕ) (ty : PokeType) (order : Order) (s : ℕ) (extent : Extent) (levels : Levels) : Type 0 where
+pub record Outgrows (bits : List ℕ) (ty : PokeType) (order : Order) (s : ℕ) (extent : Extent)
+    (levels : Levels) : Type 0 where
   pub inside : Levels
   pub count : ℕ
   pub end : ℕ
@@ -51,28 +53,33 @@ module _ (checker : Checker) where
   -- the fault arises in the array at the end of a path
   abbrev pub ArrayHas : Array → MapFault → Path → (bits : List ℕ) → Type 0
   ArrayHas array fault path bits =
-      Arises bits (ArrayOf (type_of checker.nodes.now array.element) (bound_of array.bound.now)) array.order (frames_of checker) array.start (fault_of fault) path
+      Arises bits (ArrayOf (type_of checker.nodes.now array.element) (bound_of array.bound.now)) array.order
+      (frames_of checker) array.start (fault_of fault) path
 
   -- the elements of an array end past its size
   abbrev pub OutgrowsSize : ArrayElements → (bits : List ℕ) → Type 0
-  OutgrowsSize all bits = Outgrows bits (type_of checker.nodes.now all.element) all.order all.start all.extent (frames_of checker)
+  OutgrowsSize all bits =
+      Outgrows bits (type_of checker.nodes.now all.element) all.order all.start all.extent (frames_of checker)
 
 module _ (old new : Checker) where
   -- an array was entered at a place
   abbrev pub EntersArray : Array → (place : ℕ) → MapFault → Entered → (bits : List ℕ) → Type 0
   EntersArray array place fault entered bits =
-      Enters bits old.nodes.now (frames_after old new) place (fault_of fault) (λ path. ArrayHas old array fault path bits) entered
+      Enters bits old.nodes.now (frames_after old new) place (fault_of fault)
+      (λ path. ArrayHas old array fault path bits) entered
 
   -- its elements were entered at a place
   abbrev pub EntersElements : ArrayElements → (place : ℕ) → MapFault → Entered → (bits : List ℕ) → Type 0
   EntersElements all place fault entered bits =
       Enters bits old.nodes.now (frames_after old new) place (fault_of fault)
-      (ElementsArise bits (type_of old.nodes.now all.element) all.order all.start all.extent (frames_of old) (fault_of fault)) entered
+      (ElementsArise bits (type_of old.nodes.now all.element) all.order all.start all.extent (frames_of old)
+      (fault_of fault)) entered
 
   -- so many elements were stored, if the call returns their end
   abbrev pub StoresElements : ArrayElements → (count : ℕ) → Option ℕ → (bits : List ℕ) → Type 0
   StoresElements all count end bits =
-      IfSome end (ElementsTo bits (type_of old.nodes.now all.element) all.order all.start all.extent (frames_of old) (frames_after old new) count)
+      IfSome end (ElementsTo bits (type_of old.nodes.now all.element) all.order all.start all.extent (frames_of old)
+      (frames_after old new) count)
 
   -- an element was found to be without bits, or is entered
   abbrev pub FindsEmpty : Inner → Entered → (bits : List ℕ) → Type 0

@@ -23,11 +23,14 @@ pub record IsMadeOf (inner : Inner) (clause : Option Term) (part : Part) : Type 
 
 -- it is a field of a struct, or an alternative of a union, in the byte order around it
 abbrev pub IsFieldPart : Field → Order → (start : ℕ) → Part → Type 0
-IsFieldPart field order start part = IsMadeOf (record { node = field.node; order = ordered field.order order; start = start }) (optional_term field.constraint) part
+IsFieldPart field order start part =
+    IsMadeOf (record { node = field.node; order = ordered field.order order; start = start })
+    (optional_term field.constraint) part
 
 abbrev pub IsAlternativePart : Alternative → UnionStart → Part → Type 0
 IsAlternativePart alternative whole part =
-    IsMadeOf (record { node = alternative.node; order = ordered alternative.order whole.order; start = whole.start }) (optional_term alternative.constraint) part
+    IsMadeOf (record { node = alternative.node; order = ordered alternative.order whole.order; start = whole.start })
+    (optional_term alternative.constraint) part
 
 -- a struct and a union that are a type
 abbrev pub struct_at : Inner → (pinned : Bool) → StructStart

@@ -88,21 +88,25 @@ pub record IsPart (nodes : List Node) (levels : ℕ) (part : Part) : Type 0 wher
 -- a field of a table, and fields after it
 abbrev pub field_then : List Node → Field → Fields → Fields
 field_then nodes f rest =
-    FieldThen (name_of f.name) f.order (type_of nodes f.node) (optional_term f.constraint) (optional_term f.label) (optional_term f.condition) rest
+    FieldThen (name_of f.name) f.order (type_of nodes f.node) (optional_term f.constraint) (optional_term f.label)
+    (optional_term f.condition) rest
 
 -- an alternative of a table, or a field of an integral struct, and others after it
 abbrev pub part_then : List Node → Alternative → Parts → Parts
 part_then nodes p rest = PartThen (name_of p.name) p.order (type_of nodes p.node) (optional_term p.constraint) rest
 
 -- a field was passed: those before it and it are absent or values
-abbrev pub PassesField : List ℕ → List Node → (pinned : Bool) → (s : ℕ) → Order → Field → (levels levels' : Levels) → (behind behind' : ℕ) → Type 0
+abbrev pub PassesField : List ℕ → List Node → (pinned : Bool) → (s : ℕ) → Order → Field → (levels levels' : Levels) →
+    (behind behind' : ℕ) → Type 0
 PassesField bits nodes pinned s order f levels levels' behind behind' =
-    (fields rest : Fields) (first : Levels) (i : ℕ) → FieldsBefore bits pinned s order fields first i (field_then nodes f rest) levels behind
+    (fields rest : Fields) (first : Levels) (i : ℕ)
+    → FieldsBefore bits pinned s order fields first i (field_then nodes f rest) levels behind
     → FieldsBefore bits pinned s order fields first (i + 1) rest levels' behind'
 
 -- the fault arises in a part, with its constraint, at the end of a path
 abbrev pub InPart : List ℕ → List Node → Levels → Part → FaultAt → Path → Type 0
-InPart bits nodes levels part f path = PartArises bits (type_of nodes part.inner.node) (constraint_of part) part.inner.order levels part.inner.start f path
+InPart bits nodes levels part f path =
+    PartArises bits (type_of nodes part.inner.node) (constraint_of part) part.inner.order levels part.inner.start f path
 
 -- the fault arises at the end of a path in the type itself
 abbrev pub InType : List ℕ → List Node → Levels → Inner → FaultAt → Path → Type 0
@@ -110,12 +114,14 @@ InType bits nodes levels inner f path = Arises bits (type_of nodes inner.node) i
 
 -- the type means the fault
 abbrev pub HasFault : List ℕ → List Node → Levels → Inner → FaultAt → Type 0
-HasFault bits nodes levels inner f = Somehow (Means bits (type_of nodes inner.node) inner.order levels inner.start (Err f))
+HasFault bits nodes levels inner f =
+    Somehow (Means bits (type_of nodes inner.node) inner.order levels inner.start (Err f))
 
 -- What one step of a path found: the goal follows for each path on from here where the fault arises in the entered
 -- part, or for this place alone.
 abbrev pub Enters : List ℕ → List Node → Levels → (place : ℕ) → FaultAt → (Path → Type 0) → Entered → Type 0
-Enters bits nodes levels place f Goal (entered.Part next) = (path : Path) → InPart bits nodes levels next f path → Goal (place ∷ path)
+Enters bits nodes levels place f Goal (entered.Part next) =
+    (path : Path) → InPart bits nodes levels next f path → Goal (place ∷ path)
 Enters bits nodes levels place f Goal entered.There = Goal (place ∷ [])
 Enters bits nodes levels place f Goal entered.Nowhere = Unit {0}
 
@@ -130,9 +136,11 @@ abbrev pub GoesOnAs : Alternative → Entered → Type 0
 GoesOnAs p entered = (nodes : List Node) (levels : ℕ) → IsPartOf nodes levels p → GoesOn nodes levels entered
 
 -- a field was entered, after i fields that are absent or values
-abbrev pub EntersField : List Node → (pinned : Bool) → (s : ℕ) → Order → Field → Levels → (behind : ℕ) → FaultAt → Entered → Type 0
+abbrev pub EntersField : List Node → (pinned : Bool) → (s : ℕ) → Order → Field → Levels → (behind : ℕ) →
+    FaultAt → Entered → Type 0
 EntersField nodes pinned s order f levels behind fault entered =
-    (bits : List ℕ) (fields rest : Fields) (first : Levels) (i : ℕ) → FieldsBefore bits pinned s order fields first i (field_then nodes f rest) levels behind
+    (bits : List ℕ) (fields rest : Fields) (first : Levels) (i : ℕ)
+    → FieldsBefore bits pinned s order fields first i (field_then nodes f rest) levels behind
     → Enters bits nodes levels i fault (FieldsArise bits pinned s order fields first fault) entered
 
 -- an alternative doesn't match
@@ -144,7 +152,8 @@ Misses bits nodes p order levels s =
 -- an alternative was entered, after i that don't match
 abbrev pub EntersAlternative : Order → Alternative → (s : ℕ) → FaultAt → Entered → Type 0
 EntersAlternative order p s fault entered =
-    (bits : List ℕ) (nodes : List Node) (levels : Levels) (alternatives rest : Parts) (i : ℕ) → MissesBefore bits order alternatives levels s i (part_then nodes p rest)
+    (bits : List ℕ) (nodes : List Node) (levels : Levels) (alternatives rest : Parts) (i : ℕ)
+    → MissesBefore bits order alternatives levels s i (part_then nodes p rest)
     → Enters bits nodes levels i fault (AlternativesArise bits order alternatives levels s fault) entered
 
 -- a stop is the fault

@@ -29,7 +29,8 @@ impl Checker<'_> {
         requires fresh { IsFresh self.old }
         ensures frame { Frame (S.view space.old) (S.view space.new) self.old self.new }
         ensures goes_on { GoesOn self.old.nodes.now (level_count self.new.store.now) result }
-        ensures is { OnBits (S.view space.old) (EntersUnion self.old self.new whole alternatives.now place fault result) }
+        ensures is { OnBits (S.view space.old)
+            (EntersUnion self.old self.new whole alternatives.now place fault result) }
     {
         for (index, alternative) in alternatives.iter().enumerate() {
             if index == place {
@@ -55,7 +56,8 @@ impl Checker<'_> {
         ensures depth { DepthStays self.old self.new }
         ensures goes_on { IfOk result (MayFollow self.old) }
         ensures is { IfFound (S.view space.old) (FindsAlternative self.old self.new whole alternatives.now) result }
-        ensures spends { SearchesUnion (S.view space.old) (S.view space.new) self.old self.new whole alternatives.now result }
+        ensures spends { SearchesUnion (S.view space.old) (S.view space.new) self.old self.new whole
+            alternatives.now result }
     {
         for (place, alternative) in alternatives.iter().enumerate() {
             match self.try_alternative(whole, alternative, space)? {
@@ -85,7 +87,8 @@ impl Checker<'_> {
         ensures depth { DepthStays self.old self.new }
         ensures same { IfOk result (LeavesLevels self.old self.new) }
         ensures is { IfFound (S.view space.old) (TriesAlternative self.old self.new whole alternative.now) result }
-        ensures spends { SearchesOne (S.view space.old) (S.view space.new) self.old self.new whole alternative.now result }
+        ensures spends { SearchesOne (S.view space.old) (S.view space.new) self.old self.new whole
+            alternative.now result }
     {
         match self.try_part(alternative_part(alternative, whole), space)? {
             Tried::Passed(_) => Ok(Attempt::Fits),

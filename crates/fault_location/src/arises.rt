@@ -39,7 +39,8 @@ pub fn arises<S: Space>(
     requires known { IsInTable table.now id }
     requires empty { store.old ≡ emptied store.old }
     ensures leaves { Leaves (S.view space.old) (S.view space.new) meter.old meter.new }
-    ensures is { IsTrue result → OnBits (S.view space.old) (ArisesFrom (type_named table.now id) order start fault path.now) }
+    ensures is { IsTrue result →
+        OnBits (S.view space.old) (ArisesFrom (type_named table.now id) order start fault path.now) }
     ensures emptied { store.new ≡ emptied store.new }
 {
     let found = find_there(
@@ -79,7 +80,8 @@ pub fn find_there<S: Space, W: Watch>(
     requires known { IsInTable table.now id }
     requires empty { store.old ≡ emptied store.old }
     ensures leaves { Leaves (S.view space.old) (S.view space.new) meter.old meter.new }
-    ensures is { IsTrue result → OnBits (S.view space.old) (ArisesFrom (type_named table.now id) order start fault path.now) }
+    ensures is { IsTrue result →
+        OnBits (S.view space.old) (ArisesFrom (type_named table.now id) order start fault path.now) }
 {
     let whole = Inner {
         node: id.node,

@@ -89,7 +89,8 @@ impl Checker<'_> {
         ensures depth { DepthStays self.old self.new }
         ensures goes_on { IfOk result (MayFollow self.old) }
         ensures is { IfFound (S.view space.old) (FindsField self.old self.new whole fields.now) result }
-        ensures spends { SearchesStruct (S.view space.old) (S.view space.new) self.old self.new whole fields.now result }
+        ensures spends { SearchesStruct (S.view space.old) (S.view space.new) self.old self.new
+            whole fields.now result }
     {
         let mut behind = whole.start;
         for (place, field) in fields.iter().enumerate() {
@@ -116,7 +117,8 @@ impl Checker<'_> {
         requires field { IsFieldIn self.old field.now }
         ensures frame { Frame (S.view space.old) (S.view space.new) self.old self.new }
         ensures is { IfFound (S.view space.old) (TriesField self.old self.new whole field.now behind) result }
-        ensures spends { SearchesField (S.view space.old) (S.view space.new) self.old self.new whole field.now behind result }
+        ensures spends { SearchesField (S.view space.old) (S.view space.new) self.old self.new whole
+            field.now behind result }
         ensures depth { DepthStays self.old self.new }
     {
         match is_there(&field.condition, whole.start, self.meter, self.store) {

@@ -38,8 +38,10 @@ pub fn find_part<S: Space>(
     requires known { IsInTable table.now id }
     requires empty { store.old ≡ emptied store.old }
     ensures leaves { Leaves (S.view space.old) (S.view space.new) meter.old meter.new }
-    ensures is { IfOk result (λ path. OnBits (S.view space.old) (FindsPart (type_named table.now id) order start path.items)) }
-    ensures ended { IfErr result (EndsSearch (type_named table.now id) order start (S.view space.old) (S.view space.new) meter.old) }
+    ensures is { IfOk result
+        (λ path. OnBits (S.view space.old) (FindsPart (type_named table.now id) order start path.items)) }
+    ensures ended { IfErr result
+        (EndsSearch (type_named table.now id) order start (S.view space.old) (S.view space.new) meter.old) }
     ensures emptied { store.new ≡ emptied store.new }
 {
     let mut path = Vec::new(alloc);

@@ -19,9 +19,11 @@ Path = List ℕ
 
 -- The first i fields of an integral struct at s are values whose constraints hold. They lead from all its fields,
 -- `width` binary digits and these frames to the fields, digits and frames after them.
-pub data DigitsBefore (n s : ℕ) (fields : Parts) (width : ℕ) (levels : Levels) : (i : ℕ) → Parts → (left : ℕ) → Levels → Type 0 where
+pub data DigitsBefore (n s : ℕ) (fields : Parts) (width : ℕ) (levels : Levels) : (i : ℕ) → Parts → (left : ℕ) →
+    Levels → Type 0 where
   no_digits_before : DigitsBefore n s fields width levels 0 fields width levels
-  digits_before : {name : Naming} {order : Option ByteOrder} {ty : PokeType} {c : Option Term} {rest : Parts} {i left k j : ℕ} {inside : Levels} {v : Value}
+  digits_before : {name : Naming} {order : Option ByteOrder} {ty : PokeType} {c : Option Term} {rest : Parts}
+      {i left k j : ℕ} {inside : Levels} {v : Value}
       → DigitsBefore n s fields width levels i (PartThen name order ty c rest) left inside
       → NumberMeans ty (first_digits n left (width_in (number_type ty))) inside s (Ok v) k j
       → constraint c (pushed inside (Some v)) s ≡ Ok tt
@@ -36,33 +38,39 @@ mutual
         → number_type ty ≡ None
         → NumberArises ty n levels s (fault.Absent, s) []
     -- a field of an integral struct
-    in_digits : {name : Naming} {type : IntegerType} {fields : Parts} {n : ℕ} {levels : Levels} {s : ℕ} {f : FaultAt} {path : Path}
+    in_digits : {name : Naming} {type : IntegerType} {fields : Parts} {n : ℕ} {levels : Levels} {s : ℕ}
+        {f : FaultAt} {path : Path}
         → DigitsArise fields n type.width (opened levels) s f path
         → NumberArises (IntegralOf name type fields) n levels s f path
 
   -- The fault of the fields of an integral struct arises in one of them, after i fields that are values.
   pub data DigitsArise : Parts → (n width : ℕ) → Levels → (s : ℕ) → FaultAt → Path → Type 0 where
     -- its constraint is 0 or has a fault
-    digits_constraint : {name : Naming} {order : Option ByteOrder} {ty : PokeType} {c : Option Term} {fields rest : Parts} {n width s i left k j : ℕ} {levels inside : Levels} {v : Value} {f : FaultAt}
+    digits_constraint : {name : Naming} {order : Option ByteOrder} {ty : PokeType} {c : Option Term}
+        {fields rest : Parts} {n width s i left k j : ℕ} {levels inside : Levels} {v : Value} {f : FaultAt}
         → DigitsBefore n s fields width levels i (PartThen name order ty c rest) left inside
         → NumberMeans ty (first_digits n left (width_in (number_type ty))) inside s (Ok v) k j
         → constraint c (pushed inside (Some v)) s ≡ Err f
         → DigitsArise fields n width levels s f (i ∷ [])
     -- it has a fault itself
-    digits_inside : {name : Naming} {order : Option ByteOrder} {ty : PokeType} {c : Option Term} {fields rest : Parts} {n width s i left : ℕ} {levels inside : Levels} {f : FaultAt} {path : Path}
+    digits_inside : {name : Naming} {order : Option ByteOrder} {ty : PokeType} {c : Option Term} {fields rest : Parts}
+        {n width s i left : ℕ} {levels inside : Levels} {f : FaultAt} {path : Path}
         → DigitsBefore n s fields width levels i (PartThen name order ty c rest) left inside
         → NumberArises ty (first_digits n left (width_in (number_type ty))) inside s f path
         → DigitsArise fields n width levels s f (i ∷ path)
 
 -- The first i fields of a struct at s are absent, or values whose constraints hold. They lead from all its fields and
 -- these frames to the fields and frames after them; the last present field ended at `behind`.
-pub data FieldsBefore (bits : List ℕ) (pinned : Bool) (s : ℕ) (order : Order) (fields : Fields) (levels : Levels) : (i : ℕ) → Fields → Levels → (behind : ℕ) → Type 0 where
+pub data FieldsBefore (bits : List ℕ) (pinned : Bool) (s : ℕ) (order : Order) (fields : Fields)
+    (levels : Levels) : (i : ℕ) → Fields → Levels → (behind : ℕ) → Type 0 where
   no_field_before : FieldsBefore bits pinned s order fields levels 0 fields levels s
-  absent_before : {name : Naming} {set : Option ByteOrder} {ty : PokeType} {c label when : Option Term} {rest : Fields} {i behind : ℕ} {inside : Levels}
+  absent_before : {name : Naming} {set : Option ByteOrder} {ty : PokeType} {c label when : Option Term} {rest : Fields}
+      {i behind : ℕ} {inside : Levels}
       → FieldsBefore bits pinned s order fields levels i (FieldThen name set ty c label when rest) inside behind
       → condition when inside s ≡ Ok false
       → FieldsBefore bits pinned s order fields levels (i + 1) rest (pushed inside None) behind
-  value_before : {name : Naming} {set : Option ByteOrder} {ty : PokeType} {c label when : Option Term} {rest : Fields} {i behind p k j : ℕ} {inside : Levels} {v : Value}
+  value_before : {name : Naming} {set : Option ByteOrder} {ty : PokeType} {c label when : Option Term} {rest : Fields}
+      {i behind p k j : ℕ} {inside : Levels} {v : Value}
       → FieldsBefore bits pinned s order fields levels i (FieldThen name set ty c label when rest) inside behind
       → condition when inside s ≡ Ok true
       → field_start pinned label inside s behind ≡ Ok p
@@ -70,9 +78,11 @@ pub data FieldsBefore (bits : List ℕ) (pinned : Bool) (s : ℕ) (order : Order
       → FieldsBefore bits pinned s order fields levels (i + 1) rest (pushed inside (Some v)) (end_of v)
 
 -- The first i alternatives of a union at s don't match. They lead from all its alternatives to those after them.
-pub data MissesBefore (bits : List ℕ) (order : Order) (alternatives : Parts) (levels : Levels) (s : ℕ) : (i : ℕ) → Parts → Type 0 where
+pub data MissesBefore (bits : List ℕ) (order : Order) (alternatives : Parts) (levels : Levels) (s : ℕ) : (i : ℕ) →
+    Parts → Type 0 where
   no_miss_before : MissesBefore bits order alternatives levels s 0 alternatives
-  miss_before : {name : Naming} {set : Option ByteOrder} {ty : PokeType} {c : Option Term} {rest : Parts} {i k j : ℕ} {f : FaultAt}
+  miss_before : {name : Naming} {set : Option ByteOrder} {ty : PokeType} {c : Option Term} {rest : Parts}
+      {i k j : ℕ} {f : FaultAt}
       → MissesBefore bits order alternatives levels s i (PartThen name set ty c rest)
       → PartMeans bits ty c (ordered set order) levels s (Err f) k j
       → misses f.0 ≡ true
@@ -103,25 +113,29 @@ mutual
         → extent_of bound levels s ≡ Err f
         → Arises bits (ArrayOf ty bound) order levels s f []
     -- an array, or one of its elements
-    in_array : {ty : PokeType} {bound : Bound} {order : Order} {extent : Extent} {levels : Levels} {s : ℕ} {f : FaultAt} {path : Path}
+    in_array : {ty : PokeType} {bound : Bound} {order : Order} {extent : Extent} {levels : Levels} {s : ℕ}
+        {f : FaultAt} {path : Path}
         → s ≤ length bits
         → extent_of bound levels s ≡ Ok extent
         → ElementsArise bits ty order s extent (opened levels) f path
         → Arises bits (ArrayOf ty bound) order levels s f path
     -- a field of a struct
-    in_struct : {name : Naming} {pinned : Bool} {fields : Fields} {order : Order} {levels : Levels} {s : ℕ} {f : FaultAt} {path : Path}
+    in_struct : {name : Naming} {pinned : Bool} {fields : Fields} {order : Order} {levels : Levels} {s : ℕ}
+        {f : FaultAt} {path : Path}
         → s ≤ length bits
         → FieldsArise bits pinned s order fields (opened levels) f path
         → Arises bits (StructOf name pinned fields) order levels s f path
     -- a field of an integral struct, all of whose bits are in the file
-    in_number : {ty : PokeType} {type : IntegerType} {order : Order} {levels : Levels} {s : ℕ} {f : FaultAt} {path : Path}
+    in_number : {ty : PokeType} {type : IntegerType} {order : Order} {levels : Levels} {s : ℕ}
+        {f : FaultAt} {path : Path}
         → s ≤ length bits
         → number_type ty ≡ Some type
         → s + type.width ≤ length bits
         → NumberArises ty (number_at bits order s type.width) levels s f path
         → Arises bits ty order levels s f path
     -- a union, or one of its alternatives
-    in_union : {name : Naming} {alternatives : Parts} {order : Order} {levels : Levels} {s : ℕ} {f : FaultAt} {path : Path}
+    in_union : {name : Naming} {alternatives : Parts} {order : Order} {levels : Levels} {s : ℕ}
+        {f : FaultAt} {path : Path}
         → s ≤ length bits
         → AlternativesArise bits order alternatives (opened levels) s f path
         → Arises bits (UnionOf name alternatives) order levels s f path
@@ -135,14 +149,16 @@ mutual
         → is_met extent s pn ≡ false
         → ElementsArise bits ty order s extent levels (fault.Bounds, s) []
     -- an element is due and takes no bits, after n that are values
-    of_no_bits : {ty : PokeType} {order : Order} {extent : Extent} {levels inside : Levels} {s n pn k j k' j' : ℕ} {v : Value}
+    of_no_bits : {ty : PokeType} {order : Order} {extent : Extent} {levels inside : Levels}
+        {s n pn k j k' j' : ℕ} {v : Value}
         → Elements bits ty order s extent 0 levels s n inside pn k j
         → is_due extent (length bits) s n pn ≡ true
         → Means bits ty order inside pn (Ok v) k' j'
         → end_of v ≡ pn
         → ElementsArise bits ty order s extent levels (fault.NoBits, pn) (n ∷ [])
     -- one is due and has a fault before which the array doesn't end, after n that are values
-    in_element : {ty : PokeType} {order : Order} {extent : Extent} {levels inside : Levels} {s n pn k j : ℕ} {f : FaultAt} {path : Path}
+    in_element : {ty : PokeType} {order : Order} {extent : Extent} {levels inside : Levels} {s n pn k j : ℕ}
+        {f : FaultAt} {path : Path}
         → Elements bits ty order s extent 0 levels s n inside pn k j
         → is_due extent (length bits) s n pn ≡ true
         → ends_before extent f.0 ≡ false
@@ -150,9 +166,11 @@ mutual
         → ElementsArise bits ty order s extent levels f (n ∷ path)
 
   -- The fault of a field or an alternative, with its constraint, arises in the part of it to which the path leads.
-  pub data PartArises (bits : List ℕ) : PokeType → Option Term → Order → Levels → (s : ℕ) → FaultAt → Path → Type 0 where
+  pub data PartArises (bits : List ℕ) : PokeType → Option Term → Order → Levels → (s : ℕ) →
+      FaultAt → Path → Type 0 where
     -- it is a value whose constraint is 0 or has a fault
-    constraint_of_part : {ty : PokeType} {c : Option Term} {order : Order} {levels : Levels} {s k j : ℕ} {v : Value} {f : FaultAt}
+    constraint_of_part : {ty : PokeType} {c : Option Term} {order : Order} {levels : Levels} {s k j : ℕ}
+        {v : Value} {f : FaultAt}
         → Means bits ty order levels s (Ok v) k j
         → constraint c (pushed levels (Some v)) s ≡ Err f
         → PartArises bits ty c order levels s f []
@@ -162,20 +180,26 @@ mutual
         → PartArises bits ty c order levels s f path
 
   -- The fault of the fields of a struct at s arises in one of them, after i fields that are absent or values.
-  pub data FieldsArise (bits : List ℕ) : (pinned : Bool) → (s : ℕ) → Order → Fields → Levels → FaultAt → Path → Type 0 where
+  pub data FieldsArise (bits : List ℕ) : (pinned : Bool) → (s : ℕ) → Order → Fields → Levels →
+      FaultAt → Path → Type 0 where
     -- its condition has a fault
-    condition_of_field : {pinned : Bool} {name : Naming} {set : Option ByteOrder} {ty : PokeType} {c label when : Option Term} {fields rest : Fields} {order : Order} {s i behind : ℕ} {levels inside : Levels} {f : FaultAt}
+    condition_of_field : {pinned : Bool} {name : Naming} {set : Option ByteOrder} {ty : PokeType}
+        {c label when : Option Term} {fields rest : Fields} {order : Order} {s i behind : ℕ}
+        {levels inside : Levels} {f : FaultAt}
         → FieldsBefore bits pinned s order fields levels i (FieldThen name set ty c label when rest) inside behind
         → condition when inside s ≡ Err f
         → FieldsArise bits pinned s order fields levels f (i ∷ [])
     -- its label has a fault or is negative
-    label_of_field : {pinned : Bool} {name : Naming} {set : Option ByteOrder} {ty : PokeType} {c label when : Option Term} {fields rest : Fields} {order : Order} {s i behind : ℕ} {levels inside : Levels} {f : FaultAt}
+    label_of_field : {pinned : Bool} {name : Naming} {set : Option ByteOrder} {ty : PokeType}
+        {c label when : Option Term} {fields rest : Fields} {order : Order} {s i behind : ℕ}
+        {levels inside : Levels} {f : FaultAt}
         → FieldsBefore bits pinned s order fields levels i (FieldThen name set ty c label when rest) inside behind
         → condition when inside s ≡ Ok true
         → field_start pinned label inside s behind ≡ Err f
         → FieldsArise bits pinned s order fields levels f (i ∷ [])
     -- it has a fault, or its constraint is 0
-    in_field : {pinned : Bool} {name : Naming} {set : Option ByteOrder} {ty : PokeType} {c label when : Option Term} {fields rest : Fields} {order : Order} {s i behind p : ℕ} {levels inside : Levels} {f : FaultAt} {path : Path}
+    in_field : {pinned : Bool} {name : Naming} {set : Option ByteOrder} {ty : PokeType} {c label when : Option Term}
+        {fields rest : Fields} {order : Order} {s i behind p : ℕ} {levels inside : Levels} {f : FaultAt} {path : Path}
         → FieldsBefore bits pinned s order fields levels i (FieldThen name set ty c label when rest) inside behind
         → condition when inside s ≡ Ok true
         → field_start pinned label inside s behind ≡ Ok p
@@ -189,7 +213,8 @@ mutual
         → MissesBefore bits order alternatives levels s i NoParts
         → AlternativesArise bits order alternatives levels s (fault.Constraint, s) []
     -- one has a fault that ends the union, after i that don't match
-    in_alternative : {name : Naming} {set : Option ByteOrder} {ty : PokeType} {c : Option Term} {alternatives rest : Parts} {order : Order} {levels : Levels} {s i : ℕ} {f : FaultAt} {path : Path}
+    in_alternative : {name : Naming} {set : Option ByteOrder} {ty : PokeType} {c : Option Term}
+        {alternatives rest : Parts} {order : Order} {levels : Levels} {s i : ℕ} {f : FaultAt} {path : Path}
         → MissesBefore bits order alternatives levels s i (PartThen name set ty c rest)
         → misses f.0 ≡ false
         → PartArises bits ty c (ordered set order) levels s f path

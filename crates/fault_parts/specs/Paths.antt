@@ -40,14 +40,18 @@ abbrev mutual
   digits_path NoParts n left levels s = []
   digits_path (PartThen name order ty c rest) n left levels s =
       by_outcome (result_of [] (number_plan ty (first_digits n left (width_in (number_type ty))) levels s))
-      (λ v. checked_path c levels s v (λ f. 0 ∷ []) (next (digits_path rest n (left - width_in (number_type ty)) (pushed levels (Some v)) s)))
+      (λ v. checked_path c levels s v (λ f. 0 ∷ [])
+      (next (digits_path rest n (left - width_in (number_type ty)) (pushed levels (Some v)) s)))
       (λ f. 0 ∷ number_path ty (first_digits n left (width_in (number_type ty))) levels s)
 
 -- the elements of an array from s, after the first i; at most n are tried
-abbrev pub elements_path : (result : Levels → ℕ → Result Value FaultAt) → (path : Levels → ℕ → Path) → (m s : ℕ) → Extent → (n i : ℕ) → Levels → (place : ℕ) → Path
+abbrev pub elements_path : (result : Levels → ℕ → Result Value FaultAt) → (path : Levels → ℕ → Path) → (m s : ℕ) →
+    Extent → (n i : ℕ) → Levels → (place : ℕ) → Path
 elements_path result path m s extent zero i levels place = []
 elements_path result path m s extent (suc n) i levels place =
-    if is_due extent m s i place then by_outcome (result levels place) (λ v. if nat_eq (end_of v) place then i ∷ [] else elements_path result path m s extent n (i + 1) (pushed levels (Some v)) (end_of v)) (λ f. if ends_before extent f.0 then [] else i ∷ path levels place)
+    if is_due extent m s i place then by_outcome (result levels place) (λ v. if nat_eq (end_of v) place then i ∷ []
+    else elements_path result path m s extent n (i + 1) (pushed levels (Some v)) (end_of v))
+    (λ f. if ends_before extent f.0 then [] else i ∷ path levels place)
     else []
 
 -- inside the file
@@ -60,11 +64,16 @@ abbrev mutual
   path_of bits (OffsetOf type unit) order levels s = []
   path_of bits StringOf order levels s = []
   path_of bits (ArrayOf ty bound) order levels s =
-      from_inside (length bits) s (by_outcome (extent_of bound levels s) (λ extent. elements_path (λ inside p. result_of bits (plan (length bits) ty order inside p)) (path_of bits ty order) (length bits) s extent (suc (length bits)) 0 (opened levels) s) (λ f. []))
-  path_of bits (StructOf name pinned fields) order levels s = from_inside (length bits) s (fields_path bits pinned s fields order (opened levels) s)
+      from_inside (length bits) s (by_outcome (extent_of bound levels s) (λ extent.
+      elements_path (λ inside p. result_of bits (plan (length bits) ty order inside p)) (path_of bits ty order)
+      (length bits) s extent (suc (length bits)) 0 (opened levels) s) (λ f. []))
+  path_of bits (StructOf name pinned fields) order levels s =
+      from_inside (length bits) s (fields_path bits pinned s fields order (opened levels) s)
   path_of bits (IntegralOf name type fields) order levels s =
-      from_inside (length bits) (s + type.width) (digits_path fields (number_at bits order s type.width) type.width (opened levels) s)
-  path_of bits (UnionOf name alternatives) order levels s = from_inside (length bits) s (alternatives_path bits alternatives order (opened levels) s)
+      from_inside (length bits)
+      (s + type.width) (digits_path fields (number_at bits order s type.width) type.width (opened levels) s)
+  path_of bits (UnionOf name alternatives) order levels s =
+      from_inside (length bits) s (alternatives_path bits alternatives order (opened levels) s)
 
   pub fields_path : List ℕ → (pinned : Bool) → (s : ℕ) → Fields → Order → Levels → (behind : ℕ) → Path
   fields_path bits pinned s NoFields order levels behind = []
@@ -72,7 +81,8 @@ abbrev mutual
       by_outcome (condition when levels s)
       (λ there. if there then by_outcome (field_start pinned label levels s behind)
       (λ p. by_outcome (result_of bits (plan (length bits) ty (ordered set order) levels p))
-      (λ v. checked_path c levels p v (λ f. 0 ∷ []) (next (fields_path bits pinned s rest order (pushed levels (Some v)) (end_of v))))
+      (λ v. checked_path c levels p v (λ f. 0 ∷ [])
+      (next (fields_path bits pinned s rest order (pushed levels (Some v)) (end_of v))))
       (λ f. 0 ∷ path_of bits ty (ordered set order) levels p))
       (λ f. 0 ∷ [])
       else next (fields_path bits pinned s rest order (pushed levels None) behind))
@@ -82,5 +92,7 @@ abbrev mutual
   alternatives_path bits NoParts order levels s = []
   alternatives_path bits (PartThen name set ty c rest) order levels s =
       by_outcome (result_of bits (plan (length bits) ty (ordered set order) levels s))
-      (λ v. checked_path c levels s v (λ f. if misses f.0 then next (alternatives_path bits rest order levels s) else 0 ∷ []) [])
-      (λ f. if misses f.0 then next (alternatives_path bits rest order levels s) else 0 ∷ path_of bits ty (ordered set order) levels s)
+      (λ v. checked_path c levels s v
+      (λ f. if misses f.0 then next (alternatives_path bits rest order levels s) else 0 ∷ []) [])
+      (λ f. if misses f.0 then next (alternatives_path bits rest order levels s)
+      else 0 ∷ path_of bits ty (ordered set order) levels s)

@@ -15,8 +15,10 @@ use Rattle.fault_report.specs.Why.{Run, FailsRead, IsOutcomeOf, itself, TellsWhy
 
 -- a mapping that ends with another fault than the run
 module _ (run : Run) (type : PokeType) where
-  by_kind : (kind : MapFaultKind) (at : ℕ) → HasFault run.space type run.ask (record { kind = kind; at = at }) → FailsRead run (record { kind = kind; at = at }) → kind ≢ faults.Memory
-      → (IsOutcomeOf run.ask.start run.terms.most_slots (record { kind = kind; at = at }) run.outcome → ⊥) → TellsWhy run type []
+  by_kind : (kind : MapFaultKind) (at : ℕ) → HasFault run.space type run.ask (record { kind = kind; at = at })
+      → FailsRead run (record { kind = kind; at = at }) → kind ≢ faults.Memory
+      → (IsOutcomeOf run.ask.start run.terms.most_slots (record { kind = kind; at = at }) run.outcome → ⊥)
+      → TellsWhy run type []
   by_kind faults.End at has fails memory other = another_fault has refl other
   by_kind faults.Constraint at has fails memory other = another_fault has refl other
   by_kind faults.Bounds at has fails memory other = another_fault has refl other
@@ -29,12 +31,15 @@ module _ (run : Run) (type : PokeType) where
   by_kind faults.Device at has fails memory other = failed_read (fails refl)
   by_kind faults.Memory at has fails memory other = absurd (memory refl)
 
-  pub stopped_otherwise : (fault : MapFault) → HasFault run.space type run.ask fault → FailsRead run fault → fault.kind ≢ faults.Memory
+  pub stopped_otherwise : (fault : MapFault) → HasFault run.space type run.ask fault → FailsRead run fault
+      → fault.kind ≢ faults.Memory
       → (IsOutcomeOf run.ask.start run.terms.most_slots fault run.outcome → ⊥) → TellsWhy run type []
   stopped_otherwise fault has fails memory other = by_kind fault.kind fault.at has fails memory other
 
 -- a fault with exit status 1 has its own line, in each store
-fixed_line : (start : ℕ) (kind : MapFaultKind) (at : ℕ) → outcome_status (Fault (record { kind = kind; at = at })) ≡ Faulty → fixed_saying start kind at ≡ fault_saying kind at
+fixed_line : (start : ℕ) (kind : MapFaultKind) (at : ℕ) →
+    outcome_status (Fault (record { kind = kind; at = at })) ≡ Faulty →
+    fixed_saying start kind at ≡ fault_saying kind at
 fixed_line start faults.End at e = refl
 fixed_line start faults.Constraint at e = refl
 fixed_line start faults.Bounds at e = refl
@@ -47,12 +52,14 @@ fixed_line start faults.Limit at e = refl
 fixed_line start faults.Device at e = refl
 fixed_line start faults.Memory at e = cc
 
-pub own_line : (most : Option ℕ) (start : ℕ) (fault : MapFault) → outcome_status (Fault fault) ≡ Faulty → end_saying most start fault.kind fault.at ≡ outcome_saying (Fault fault)
+pub own_line : (most : Option ℕ) (start : ℕ) (fault : MapFault) → outcome_status (Fault fault) ≡ Faulty →
+    end_saying most start fault.kind fault.at ≡ outcome_saying (Fault fault)
 own_line None start fault e = refl
 own_line (Some slots) start fault e = fixed_line start fault.kind fault.at e
 
 -- a fault isn't the outcome of another
-pub not_own : (start : ℕ) (most : Option ℕ) (fault told : MapFault) → (told ≡ fault → ⊥) → IsOutcomeOf start most fault (Fault told) → ⊥
+pub not_own : (start : ℕ) (most : Option ℕ) (fault told : MapFault) → (told ≡ fault → ⊥) →
+    IsOutcomeOf start most fault (Fault told) → ⊥
 not_own start most fault told differs (itself e) = differs refl
 
 pub both_true : {a b : Bool} → a ≡ true → b ≡ true → a && b ≡ true

@@ -26,7 +26,8 @@ HasFault space type ask fault = (bytes : List ℕ) → space.bytes ≡ Some byte
 -- A fault of a type is that of the part to which these places lead: if the bytes of the space are known, it arises
 -- there. A fault that ends a run, such as Limit, arises in no part; it is reported for the part at which the run was.
 pub data IsFaultAt (space : SpaceView) (type : PokeType) (ask : Ask) (fault : MapFault) (places : List ℕ) : Type 0 where
-  arises_there : OnBits space (λ bits. Arises bits type ask.order no_values ask.start (fault_of fault) places) → IsFaultAt space type ask fault places
+  arises_there : OnBits space (λ bits. Arises bits type ask.order no_values ask.start (fault_of fault) places) →
+      IsFaultAt space type ask fault places
   ended_there : EndsRun fault.kind → IsFaultAt space type ask fault places
 
 -- the most steps that the search for a part takes: four times those that the run may take
@@ -35,7 +36,8 @@ search_limit ask = min (ask.limit * 4) (2 ^ 64 - 1)
 
 -- why the search for the part with a fault ended before it was found: it takes more steps than it may, or a read failed
 pub data CutsSearch (space space' : SpaceView) (type : PokeType) (ask : Ask) (bits : List ℕ) : Type 0 where
-  takes_more : search_limit ask < search_of bits type ask.order no_values ask.start → CutsSearch space space' type ask bits
+  takes_more : search_limit ask < search_of bits type ask.order no_values ask.start →
+      CutsSearch space space' type ask bits
   failed_read : HasRisen space.failures space'.failures → CutsSearch space space' type ask bits
 
 -- Why no part is known that has a fault: the fault ends a run, and arises in no part; or, if the bytes of the space are

@@ -44,7 +44,8 @@ step_text (UnionOf _ _) name place = field_step name place
 -- these places, one for each step, lead from a type to a part of it; and the text of the steps
 pub data LeadsTo : PokeType → (places : List ℕ) → (steps : List ℕ) → PokeType → Type 0 where
   here : {type : PokeType} → LeadsTo type [] [] type
-  further : {type found : PokeType} {part : TypePart} {places steps : List ℕ} (place : ℕ) → part_at type place ≡ Some part → LeadsTo part.type places steps found
+  further : {type found : PokeType} {part : TypePart} {places steps : List ℕ} (place : ℕ)
+      → part_at type place ≡ Some part → LeadsTo part.type places steps found
       → LeadsTo type (place ∷ places) (step_text type part.name place ++ steps) found
 
 -- they lead from the type to some part of it

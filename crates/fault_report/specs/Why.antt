@@ -53,11 +53,13 @@ pub data TellsArrays (type : PokeType) : List ℕ → Type 0 where
   one_more : {lines line : List ℕ} → TellsArrays type lines → TellsArray type line → TellsArrays type (lines ++ line)
   uncounted : {lines : List ℕ} (count : List ℕ) → TellsArrays type lines
       → TellsArrays type (lines ++ (codes "  " ++ (count ++ codes " ended early before these\n")))
-  planned : {lines : List ℕ} (count : List ℕ) → TellsArrays type lines → TellsArrays type (lines ++ (codes "  " ++ (count ++ planned_ending)))
+  planned : {lines : List ℕ} (count : List ℕ) → TellsArrays type lines →
+      TellsArrays type (lines ++ (codes "  " ++ (count ++ planned_ending)))
 
 -- a line on how far the path to the requested part leads
 pub data TellsMissing (text : Text) : Type 0 where
-  tells_missing : (path rest : List ℕ) → text.bytes.items ≡ codes "  " ++ (path ++ (codes " is there" ++ rest)) → TellsMissing text
+  tells_missing : (path rest : List ℕ) →
+      text.bytes.items ≡ codes "  " ++ (path ++ (codes " is there" ++ rest)) → TellsMissing text
 
 -- a line on what is left behind the value
 pub data TellsRoom (text : Text) : Type 0 where
@@ -65,7 +67,8 @@ pub data TellsRoom (text : Text) : Type 0 where
 
 -- a line on how many bytes the text of the value has
 pub data TellsSize (text : Text) : Type 0 where
-  tells_size : (count : List ℕ) → text.bytes.items ≡ codes "  the text has " ++ (count ++ (codes " bytes\n" ++ [])) → TellsSize text
+  tells_size : (count : List ℕ) →
+      text.bytes.items ≡ codes "  the text has " ++ (count ++ (codes " bytes\n" ++ [])) → TellsSize text
 
 -- the same; or that the value lacks the requested part
 pub data TellsOutput (terms : Terms) (text : Text) : Type 0 where
@@ -76,8 +79,10 @@ pub data TellsOutput (terms : Terms) (text : Text) : Type 0 where
 -- part.
 pub data TellsTerm (terms : Terms) : Outcome → Text → Type 0 where
   tells_done : {text : Text} → text.bytes.items ≡ [] → TellsTerm terms Done text
-  tells_part : {path : Path} {text : Text} → terms.part ≡ Some path → TellsMissing text → TellsTerm terms NoSuchPart text
-  tells_selected : {selection : Selection} {text : Text} → terms.selection ≡ Some selection → TellsTerm terms NoSuchPart text
+  tells_part : {path : Path} {text : Text} → terms.part ≡ Some path → TellsMissing text →
+      TellsTerm terms NoSuchPart text
+  tells_selected : {selection : Selection} {text : Text} → terms.selection ≡ Some selection →
+      TellsTerm terms NoSuchPart text
   requests_none : {text : Text} → terms.part ≡ None → terms.selection ≡ None → TellsTerm terms NoSuchPart text
   tells_left : {end : ℕ} {text : Text} → TellsRoom text → TellsTerm terms (Left end) text
   tells_output : {start : ℕ} {text : Text} → TellsOutput terms text → TellsTerm terms (Output start) text
@@ -101,12 +106,14 @@ pub record Run : Type 0 where
 
 -- the run that has these
 abbrev pub run_of : (space after : SpaceView) → Ask → Terms → Outcome → Run
-run_of space after ask terms outcome = record { space = space; after = after; ask = ask; terms = terms; outcome = outcome }
+run_of space after ask terms outcome =
+    record { space = space; after = after; ask = ask; terms = terms; outcome = outcome }
 
 -- lines on the part that has a fault of the run's type; or none, where it isn't found
 pub data TellsFault (run : Run) (type : PokeType) (fault : MapFault) : List ℕ → Type 0 where
   tells_unfound : IsUnfound run.space run.after type run.ask fault → TellsFault run type fault []
-  tells_fault : {places text : List ℕ} → IsFaultAt run.space type run.ask fault places → TellsPart type places text → TellsFault run type fault text
+  tells_fault : {places text : List ℕ} → IsFaultAt run.space type run.ask fault places → TellsPart type places text →
+      TellsFault run type fault text
 
 -- for the fault Device, a read of the file failed
 abbrev pub FailsRead : Run → MapFault → Type 0
@@ -116,7 +123,8 @@ FailsRead run fault = fault.kind ≡ faults.Device → HasRisen run.space.failur
 -- don't suffice
 pub data IsOutcomeOf (start : ℕ) (most : Option ℕ) (fault : MapFault) : Outcome → Type 0 where
   itself : fault_status fault.kind ≡ Faulty → IsOutcomeOf start most fault (Fault fault)
-  too_few_slots : {slots : ℕ} → most ≡ Some slots → fault.kind ≡ faults.Memory → IsOutcomeOf start most fault (Slots start)
+  too_few_slots : {slots : ℕ} → most ≡ Some slots → fault.kind ≡ faults.Memory →
+      IsOutcomeOf start most fault (Slots start)
 
 -- What is printed about a finished run: for a fault the part and the arrays, for a value the term that it fails to
 -- meet, if any, and the arrays. The outcome is that of the fault which the type has on the file's bits.
@@ -125,7 +133,8 @@ pub data IsOutcomeOf (start : ℕ) (most : Option ℕ) (fault : MapFault) : Outc
 -- which the outcome isn't, or by a read that failed.
 pub data TellsWhy (run : Run) (type : PokeType) : List ℕ → Type 0 where
   of_fault : {fault : MapFault} {part arrays : List ℕ} → HasFault run.space type run.ask fault
-      → end_saying run.terms.most_slots run.ask.start fault.kind fault.at ≡ outcome_saying run.outcome → outcome_status run.outcome ≡ Faulty
+      → end_saying run.terms.most_slots run.ask.start fault.kind fault.at ≡ outcome_saying run.outcome
+      → outcome_status run.outcome ≡ Faulty
       → TellsFault run type fault part → TellsArrays type arrays → TellsWhy run type (part ++ arrays)
   of_value : {term : Text} {arrays : List ℕ} → HasValue run.space type run.ask
       → TellsTerm run.terms run.outcome term → TellsArrays type arrays → TellsWhy run type (term.bytes.items ++ arrays)
@@ -137,23 +146,28 @@ pub data TellsWhy (run : Run) (type : PokeType) : List ℕ → Type 0 where
 -- the text is about a run's fault, if what is stored for it is right
 abbrev pub TellsOfPart : {E : Type 0} → PokeType → Option Part → Result Text E → Type 0
 TellsOfPart type kept made =
-    (run : Run) (fault : MapFault) → IsKept run.space run.after type run.ask fault kept → IfOk made (λ text. TellsFault run type fault text.bytes.items)
+    (run : Run) (fault : MapFault) → IsKept run.space run.after type run.ask fault kept →
+    IfOk made (λ text. TellsFault run type fault text.bytes.items)
 
 -- the text is about the run, if its type has this fault on the file's bytes, for which the right part is stored, and if
 -- a read failed for the fault Device
 abbrev pub TellsOfFault : {E : Type 0} → Run → Scene → MapFault → Option Part → Result (Vec ℕ Global) E → Type 0
 TellsOfFault run scene fault kept made =
-    HasFault run.space (scene_type scene) run.ask fault → IsKept run.space run.after (scene_type scene) run.ask fault kept → FailsRead run fault
+    HasFault run.space (scene_type scene) run.ask fault
+    → IsKept run.space run.after (scene_type scene) run.ask fault kept → FailsRead run fault
     → IfOk made (λ text. TellsWhy run (scene_type scene) text.items)
 
 -- the same, if its type has a value there
 abbrev pub TellsOfValue : {E : Type 0} → Run → Scene → Result (Vec ℕ Global) E → Type 0
-TellsOfValue run scene made = HasValue run.space (scene_type scene) run.ask → IfOk made (λ text. TellsWhy run (scene_type scene) text.items)
+TellsOfValue run scene made =
+    HasValue run.space (scene_type scene) run.ask → IfOk made (λ text. TellsWhy run (scene_type scene) text.items)
 
--- What is printed about a run from its pickle: the above for the type of the requested name. Nothing where the pickle is
--- refused, for more than want of memory, or has no such type.
+-- What is printed about a run from its pickle: the above for the type of the requested name. Nothing where the pickle
+-- is refused, for more than want of memory, or has no such type.
 pub data ExplainsRun (pickle : List ℕ) (run : Run) : List ℕ → Type 0 where
-  explains : {type : PokeType} {text : List ℕ} → IsAsked pickle run.ask.name.now type → TellsWhy run type text → ExplainsRun pickle run text
+  explains : {type : PokeType} {text : List ℕ} → IsAsked pickle run.ask.name.now type → TellsWhy run type text →
+      ExplainsRun pickle run text
   of_refused : {refusal : Refusal} → refusal ≢ Memory → Refuses pickle refusal → ExplainsRun pickle run []
-  of_no_type : {declarations : List DeclarationTree} {types : Names} → IsAccepted pickle declarations types → find_type run.ask.name.now types ≡ None
+  of_no_type : {declarations : List DeclarationTree} {types : Names} → IsAccepted pickle declarations types
+      → find_type run.ask.name.now types ≡ None
       → ExplainsRun pickle run []

@@ -51,7 +51,8 @@ impl TypeMapping<'_> {
     ) -> Result<Again, AllocError>
         requires known { IsKnown self }
         ensures fault { IfOk result (λ again. IfErr again.end (EndsWith (S.view space.old) self.entry)) }
-        ensures part { IfOk result (KeepsPart (S.view space.old) (S.view space.new) (mapped_type self.entry) self.entry.ask.now) }
+        ensures part { IfOk result
+            (KeepsPart (S.view space.old) (S.view space.new) (mapped_type self.entry) self.entry.ask.now) }
         ensures value { let has = HasValue (S.view space.old) (mapped_type self.entry) self.entry.ask.now in
             IfOk result (λ again. OnOk again.end has) }
         ensures device { let risen = HasRisen (S.view space.old).failures (S.view space.new).failures in

@@ -227,7 +227,8 @@ fn value_reasons(
 ) -> Result<Vec<u8>, AllocError>
     requires table { IsTable scene.now.nodes.now }
     requires root { scene.now.root < length scene.now.nodes.now }
-    ensures why { (space after : SpaceView) (ask : Ask) → TellsOfValue (run_of space after ask terms.now outcome) scene.now result }
+    ensures why { (space after : SpaceView) (ask : Ask) →
+        TellsOfValue (run_of space after ask terms.now outcome) scene.now result }
 {
     let Some(term) = term_text(scene.alloc, value, terms, mode, scene.bits, outcome)? else {
         return Ok(Vec::new(scene.alloc));
@@ -248,7 +249,8 @@ fn fault_reasons(
 ) -> Result<Vec<u8>, AllocError>
     requires table { IsTable scene.now.nodes.now }
     requires root { scene.now.root < length scene.now.nodes.now }
-    ensures why { (space after : SpaceView) → TellsOfFault (run_of space after ask.now terms.now outcome) scene.now fault kept.now.fault result }
+    ensures why { (space after : SpaceView) →
+        TellsOfFault (run_of space after ask.now terms.now outcome) scene.now fault kept.now.fault result }
 {
     if !is_outcome_of(outcome, ask.start, terms.most_slots, fault) {
         return none_stopped(scene.alloc, fault.kind);

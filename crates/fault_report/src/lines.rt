@@ -442,7 +442,8 @@ fn say_endings(scene: &Scene<'_, '_>, text: Text, endings: &Endings) -> Result<T
 
 /// The line that says how many more arrays ended early.
 fn more_line(scene: &Scene<'_, '_>, count: &[u8]) -> Result<Text, AllocError>
-    ensures { IfOk result (λ text. text.bytes.items ≡ codes "  " ++ (count.now ++ codes " ended early before these\n")) }
+    ensures { IfOk result
+        (λ text. text.bytes.items ≡ codes "  " ++ (count.now ++ codes " ended early before these\n")) }
 {
     laid(
         scene.alloc,

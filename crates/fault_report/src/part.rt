@@ -46,7 +46,8 @@ impl TypeMapping<'_> {
         requires known { IsKnown self }
         requires empty { store.old ≡ emptied store.old }
         requires meant { EndsWith (S.view space.old) self fault }
-        ensures part { let is = IsKept (S.view space.old) (S.view space.new) (mapped_type self.entry) self.entry.ask.now fault in
+        ensures part { let is =
+            IsKept (S.view space.old) (S.view space.new) (mapped_type self.entry) self.entry.ask.now fault in
             IfOk result is }
         ensures keeps { Keeps (S.view space.old) (S.view space.new) }
     {
@@ -118,7 +119,8 @@ impl TypeMapping<'_> {
         requires empty { store.old ≡ emptied store.old }
         requires meant { EndsWith (S.view space.old) self fault }
         requires of_type { EndsRun fault.kind → ⊥ }
-        ensures part { let is = IsKept (S.view space.old) (S.view space.new) (mapped_type self.entry) self.entry.ask.now fault in
+        ensures part { let is =
+            IsKept (S.view space.old) (S.view space.new) (mapped_type self.entry) self.entry.ask.now fault in
             IfOk result is }
         ensures keeps { Keeps (S.view space.old) (S.view space.new) }
     {
@@ -153,7 +155,8 @@ impl TypeMapping<'_> {
     ) -> bool
         requires known { IsKnown self }
         requires empty { store.old ≡ emptied store.old }
-        ensures at { let at = IsFaultAt (S.view space.old) (mapped_type self.entry) self.entry.ask.now fault places.now in
+        ensures at { let at =
+            IsFaultAt (S.view space.old) (mapped_type self.entry) self.entry.ask.now fault places.now in
             IsTrue result → at }
         ensures keeps { Keeps (S.view space.old) (S.view space.new) }
     {

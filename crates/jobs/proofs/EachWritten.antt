@@ -19,12 +19,16 @@ use Rattle.run_parts.specs.declared.status.Status.TheVariants.{Done}
 use Rattle.text_output.proofs.Parts.{Appends-keeps}
 
 -- before the first file
-pub none_written : (gives : Gives) (every : Every) (AreNames : List (List ℕ) → Type 0) (out : Option (List ℕ)) → AreNames [] → AppendsNamed gives every AreNames out out Done
-none_written gives every AreNames out are = record { names = []; are = are; lines = []; written = no_files; appends = Appends-nil out }
+pub none_written : (gives : Gives) (every : Every) (AreNames : List (List ℕ) → Type 0) (out : Option (List ℕ)) →
+    AreNames [] → AppendsNamed gives every AreNames out out Done
+none_written gives every AreNames out are =
+    record { names = []; are = are; lines = []; written = no_files; appends = Appends-nil out }
 
 -- after one more
-pub one_written : (gives : Gives) (every : Every) (AreNames AreMore : List (List ℕ) → Type 0) (name : List ℕ) (out out' out'' : Option (List ℕ)) (greatest status : Status)
-    → ((names : List (List ℕ)) → AreNames names → AreMore (names ++ name ∷ [])) → AppendsNamed gives every AreNames out out' greatest → AppendsFile gives every name out' out'' status
+pub one_written : (gives : Gives) (every : Every) (AreNames AreMore : List (List ℕ) → Type 0) (name : List ℕ)
+    (out out' out'' : Option (List ℕ)) (greatest status : Status)
+    → ((names : List (List ℕ)) → AreNames names → AreMore (names ++ name ∷ []))
+    → AppendsNamed gives every AreNames out out' greatest → AppendsFile gives every name out' out'' status
     → AppendsNamed gives every AreMore out out'' (greater greatest status)
 one_written gives every AreNames AreMore name out out' out'' greatest status more h file = record {
   names = h.names ++ name ∷ [];
@@ -35,8 +39,10 @@ one_written gives every AreNames AreMore name out out' out'' greatest status mor
 }
 
 -- nothing more is written
-pub kept_written : (gives : Gives) (every : Every) (AreNames : List (List ℕ) → Type 0) (out out' out'' : Option (List ℕ)) (greatest : Status)
-    → AppendsNamed gives every AreNames out out' greatest → Keeps out' out'' → AppendsNamed gives every AreNames out out'' greatest
+pub kept_written : (gives : Gives) (every : Every) (AreNames : List (List ℕ) → Type 0)
+    (out out' out'' : Option (List ℕ)) (greatest : Status)
+    → AppendsNamed gives every AreNames out out' greatest → Keeps out' out''
+    → AppendsNamed gives every AreNames out out'' greatest
 kept_written gives every AreNames out out' out'' greatest h keeps = record {
   names = h.names;
   are = h.are;
@@ -46,12 +52,16 @@ kept_written gives every AreNames out out' out'' greatest h keeps = record {
 }
 
 -- the same files, whose names are told in another way
-pub named_otherwise : (gives : Gives) (every : Every) (AreNames Are : List (List ℕ) → Type 0) (out out' : Option (List ℕ)) (greatest : Status)
-    → ((names : List (List ℕ)) → AreNames names → Are names) → AppendsNamed gives every AreNames out out' greatest → AppendsNamed gives every Are out out' greatest
-named_otherwise gives every AreNames Are out out' greatest other h = record { names = h.names; are = other h.names h.are; lines = h.lines; written = h.written; appends = h.appends }
+pub named_otherwise : (gives : Gives) (every : Every) (AreNames Are : List (List ℕ) → Type 0)
+    (out out' : Option (List ℕ)) (greatest : Status)
+    → ((names : List (List ℕ)) → AreNames names → Are names) → AppendsNamed gives every AreNames out out' greatest
+    → AppendsNamed gives every Are out out' greatest
+named_otherwise gives every AreNames Are out out' greatest other h =
+    record { names = h.names; are = other h.names h.are; lines = h.lines; written = h.written; appends = h.appends }
 
 -- one more word stands for one more name
-pub word_named : (IsName : (word name : List ℕ) → Type 0) (words : List (String Global)) (names : List (List ℕ)) (word : String Global) (name : List ℕ) → IsName (string_bytes word) name
+pub word_named : (IsName : (word name : List ℕ) → Type 0) (words : List (String Global)) (names : List (List ℕ))
+    (word : String Global) (name : List ℕ) → IsName (string_bytes word) name
     → AreNamed IsName words names → AreNamed IsName (words ++ word ∷ []) (names ++ name ∷ [])
 word_named IsName [] [] word name is h = (is, tt)
 word_named IsName [] (n ∷ names) word name is h = absurd h
@@ -63,18 +73,36 @@ prepend_none None = refl
 prepend_none (Some bytes) = refl
 
 -- a reader with an empty buffer has what the one in it has
-pub fresh_reader : {T A : Type 0} (remaining : T → Option (List ℕ)) (reader : BufReader T A) (inner : T) (size : ℕ) → reader_inner reader ≡ inner → reader_buffer reader ≡ [] → reader_capacity reader ≡ size
+pub fresh_reader : {T A : Type 0} (remaining : T → Option (List ℕ)) (reader : BufReader T A) (inner : T) (size : ℕ)
+    → reader_inner reader ≡ inner → reader_buffer reader ≡ [] → reader_capacity reader ≡ size
     → (size == 0) ≡ false → reader_remaining remaining reader ≡ remaining inner
 fresh_reader remaining reader inner size is none capacity some =
     ap (λ n. if n == 0 then None else prepend_known (reader_buffer reader) (remaining (reader_inner reader))) capacity
     ∙ ap (λ b. if b then None else prepend_known (reader_buffer reader) (remaining (reader_inner reader))) some
-    ∙ ap (λ bytes. prepend_known bytes (remaining (reader_inner reader))) none ∙ prepend_none (remaining (reader_inner reader)) ∙ ap remaining is
+    ∙ ap (λ bytes. prepend_known bytes (remaining (reader_inner reader))) none
+    ∙ prepend_none (remaining (reader_inner reader)) ∙ ap remaining is
 
 -- what every file's run is given, by what a request gives
-pub every_same : (request : Request) (why : Bool) (pickle : List ℕ) (aim : Aim) (spool : Option ℕ) (form : FileForm) → aim ≡ requested_aim request → spool ≡ request.spool
+pub every_same : (request : Request) (why : Bool) (pickle : List ℕ) (aim : Aim) (spool : Option ℕ) (form : FileForm)
+    → aim ≡ requested_aim request → spool ≡ request.spool
     → form ≡ file_form (form_mode request.form) (faults_in request.form)
-    → record { pickle = pickle; aim = aim; terms = request.terms; spool = spool; form = form; why = why } ≡ every_for request why pickle
+    → record { pickle = pickle; aim = aim; terms = request.terms; spool = spool; form = form; why = why }
+    ≡ every_for request why pickle
 every_same request why pickle aim spool form aims spools forms =
     ap (λ aim. record { pickle = pickle; aim = aim; terms = request.terms; spool = spool; form = form; why = why }) aims
-    ∙ ap (λ spool. record { pickle = pickle; aim = requested_aim request; terms = request.terms; spool = spool; form = form; why = why }) spools
-    ∙ ap (λ form. record { pickle = pickle; aim = requested_aim request; terms = request.terms; spool = request.spool; form = form; why = why }) forms
+    ∙ ap (λ spool. record {
+      pickle = pickle;
+      aim = requested_aim request;
+      terms = request.terms;
+      spool = spool;
+      form = form;
+      why = why;
+    }) spools
+    ∙ ap (λ form. record {
+      pickle = pickle;
+      aim = requested_aim request;
+      terms = request.terms;
+      spool = request.spool;
+      form = form;
+      why = why;
+    }) forms

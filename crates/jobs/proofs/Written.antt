@@ -24,9 +24,12 @@ adds_none true out = ([], record { taken = []; rest = []; appends = appends_none
 adds_none false out = Keeps-refl out
 
 -- reasons are written, whole or in part
-pub adds_text : {E : Type 0} (r : Result (Unit {0}) E) (out out' : Option (List ℕ)) (text : List ℕ) → OnOk r (Appends out out' text) → OnErr r (AppendsPart out out' text) → AddsIf true out out'
-adds_text (Ok u) out out' text whole part = (text, record { taken = text; rest = []; appends = whole; whole = append-nil text })
-adds_text (Err e) out out' text whole part = (text, record { taken = part.taken; rest = part.rest; appends = part.appends; whole = part.whole })
+pub adds_text : {E : Type 0} (r : Result (Unit {0}) E) (out out' : Option (List ℕ)) (text : List ℕ) →
+    OnOk r (Appends out out' text) → OnErr r (AppendsPart out out' text) → AddsIf true out out'
+adds_text (Ok u) out out' text whole part =
+    (text, record { taken = text; rest = []; appends = whole; whole = append-nil text })
+adds_text (Err e) out out' text whole part =
+    (text, record { taken = part.taken; rest = part.rest; appends = part.appends; whole = part.whole })
 
 -- reasons are written only where they are requested
 pub adds_where : (why : Bool) (out out' : Option (List ℕ)) → why ≡ true → AddsIf true out out' → AddsIf why out out'

@@ -21,7 +21,13 @@ pub record Aim : Type 0 where
   pub mode : Mode
 
 abbrev pub aim_of : Mapping → Aim
-aim_of mapping = record { name = mapping.name.now; start = mapping.start; order = mapping.order; limit = mapping.limit; mode = mapping.mode }
+aim_of mapping = record {
+  name = mapping.name.now;
+  start = mapping.start;
+  order = mapping.order;
+  limit = mapping.limit;
+  mode = mapping.mode;
+}
 
 -- that of a mapping which starts at a bit
 abbrev pub plain_aim : (name : List ℕ) (at : ℕ) → Order → (limit : ℕ) → Mode → Aim
@@ -33,7 +39,13 @@ form_mode (Printed mode faults) = mode
 form_mode (Shown color depth) = Flat
 
 abbrev pub requested_aim : Request → Aim
-requested_aim request = record { name = string_bytes request.name; start = request.start; order = request.order; limit = request.limit; mode = form_mode request.form }
+requested_aim request = record {
+  name = string_bytes request.name;
+  start = request.start;
+  order = request.order;
+  limit = request.limit;
+  mode = form_mode request.form;
+}
 
 -- what the run of an aim is given over a file of so many bytes
 pub record IsAskOf (aim : Aim) (length : ℕ) (ask : Ask) : Type 0 where

@@ -38,5 +38,6 @@ abbrev pub AppendsFile : Gives → Every → (name : List ℕ) → (out out' : O
 AppendsFile gives every name = AppendsRun (RunsFile gives every name) every name
 
 -- those of many files whose names are these
-abbrev pub AppendsNamed : Gives → Every → (AreNames : List (List ℕ) → Type 0) → (out out' : Option (List ℕ)) → (greatest : Status) → Type 0
+abbrev pub AppendsNamed : Gives → Every → (AreNames : List (List ℕ) → Type 0) → (out out' : Option (List ℕ)) →
+    (greatest : Status) → Type 0
 AppendsNamed gives every = AppendsFiles (WritesRuns gives every)

@@ -41,8 +41,8 @@ rank Outside = 3
 abbrev pub greater : Status → Status → Status
 greater a b = if nat_lt (rank a) (rank b) then b else a
 
--- what the run of every file is given: the pickle, what is mapped and under which terms, how many bytes of a file without
--- a length are read, the form of what is written, and whether reasons are requested
+-- what the run of every file is given: the pickle, what is mapped and under which terms, how many bytes of a file
+-- without a length are read, the form of what is written, and whether reasons are requested
 pub record Every : Type 0 where
   pub pickle : List ℕ
   pub aim : Aim
@@ -54,16 +54,19 @@ pub record Every : Type 0 where
 -- what is written of a file: its line, or its object with reasons, if they are requested
 abbrev pub IsFormed : FileForm → (why : Bool) → (name : List ℕ) → Outcome → (text line : List ℕ) → Type 0
 IsFormed (Line faults) why name ended text line = line ≡ file_line faults name ended text
-IsFormed Object why name ended text line = (reasons : List ℕ) × (why ≡ false → reasons ≡ []) × (line ≡ file_object name ended text reasons)
+IsFormed Object why name ended text line =
+    (reasons : List ℕ) × (why ≡ false → reasons ≡ []) × (line ≡ file_object name ended text reasons)
 
 -- how the run over an open file ends, and the text that it writes
 pub data RunsOver (every : Every) (file : SpaceView) : Outcome → (text : List ℕ) → Type 0 where
   starts_nowhere : start_bit every.aim.start file.len ≡ None → RunsOver every file outcome.Offset []
   runs : {after : SpaceView} {ask : Ask} {ended : Outcome} {text : List ℕ} → IsAskOf every.aim file.len ask
-      → EndsAs (MapsUnder every.pickle ask every.terms file after) ended (Some []) (Some text) → RunsOver every file (in_memory ended) text
+      → EndsAs (MapsUnder every.pickle ask every.terms file after) ended (Some []) (Some text)
+      → RunsOver every file (in_memory ended) text
 
 -- a line or an object is written of a run that is like this, with its exit status
-pub record WritesRun (Runs : Outcome → (text : List ℕ) → Type 0) (every : Every) (name : List ℕ) (status : Status) (line : List ℕ) : Type 0 where
+pub record WritesRun (Runs : Outcome → (text : List ℕ) → Type 0) (every : Every) (name : List ℕ) (status : Status)
+    (line : List ℕ) : Type 0 where
   pub ended : Outcome
   pub text : List ℕ
   pub run : Runs ended text
@@ -74,18 +77,23 @@ module _ (gives : Gives) where
   -- how the run of a file ends, and the text that it writes
   pub data RunsFile (every : Every) (name : List ℕ) : Outcome → (text : List ℕ) → Type 0 where
     no_text : ¬ (IsUtf8 name) → RunsFile every name (outcome.Failed failure.Open) []
-    unopened : {fault : FileFault} → gives.is_unopened name every.spool fault → RunsFile every name (outcome.Failed (failure_of fault)) []
+    unopened : {fault : FileFault} → gives.is_unopened name every.spool fault →
+        RunsFile every name (outcome.Failed (failure_of fault)) []
     no_cache : RunsFile every name (outcome.Failed failure.Memory) []
-    opened : {file : SpaceView} {ended : Outcome} {text : List ℕ} → gives.is_file name every.spool file → RunsOver every file ended text → RunsFile every name ended text
+    opened : {file : SpaceView} {ended : Outcome} {text : List ℕ} → gives.is_file name every.spool file →
+        RunsOver every file ended text → RunsFile every name ended text
 
   -- what is written of files, one after the other, with the greatest exit status
   pub data WritesRuns (every : Every) : (names : List (List ℕ)) → Status → (lines : List ℕ) → Type 0 where
     no_files : WritesRuns every [] Done []
-    one_more : {names : List (List ℕ)} {name lines line : List ℕ} {greatest status : Status} → WritesRuns every names greatest lines
-        → WritesRun (RunsFile every name) every name status line → WritesRuns every (names ++ name ∷ []) (greater greatest status) (lines ++ line)
+    one_more : {names : List (List ℕ)} {name lines line : List ℕ} {greatest status : Status}
+        → WritesRuns every names greatest lines
+        → WritesRun (RunsFile every name) every name status line
+        → WritesRuns every (names ++ name ∷ []) (greater greatest status) (lines ++ line)
 
 -- the run of a file is written after what is there
-pub record AppendsRun (Runs : Outcome → (text : List ℕ) → Type 0) (every : Every) (name : List ℕ) (out out' : Option (List ℕ)) (status : Status) : Type 0 where
+pub record AppendsRun (Runs : Outcome → (text : List ℕ) → Type 0) (every : Every) (name : List ℕ)
+    (out out' : Option (List ℕ)) (status : Status) : Type 0 where
   pub line : List ℕ
   pub written : WritesRun Runs every name status line
   pub appends : Appends out out' line
@@ -94,7 +102,8 @@ abbrev pub AppendsOver : SpaceView → Every → (name : List ℕ) → (out out'
 AppendsOver file every = AppendsRun (RunsOver every file) every
 
 -- what is written of many files whose names are these, one after the other, with the greatest exit status
-pub record AppendsFiles (Writes : (names : List (List ℕ)) → Status → (lines : List ℕ) → Type 0) (AreNames : List (List ℕ) → Type 0) (out out' : Option (List ℕ)) (greatest : Status) : Type 0 where
+pub record AppendsFiles (Writes : (names : List (List ℕ)) → Status → (lines : List ℕ) → Type 0)
+    (AreNames : List (List ℕ) → Type 0) (out out' : Option (List ℕ)) (greatest : Status) : Type 0 where
   pub names : List (List ℕ)
   pub are : AreNames names
   pub lines : List ℕ

@@ -31,7 +31,8 @@ StopsRange IsFile range out out' = StopsDump IsFile range.from range.size range.
 -- the mapping of a target, by what an opener gives
 abbrev pub MapsTarget : Gives → Target → (why : Bool) → (out out' : Option (List ℕ)) → Outcome → Type 0
 MapsTarget gives target =
-    MapsOver (gives.is_pickle target.pickle.now) (gives.is_file target.file.now target.mapping.spool) (aim_of target.mapping) target.terms.now
+    MapsOver (gives.is_pickle target.pickle.now) (gives.is_file target.file.now target.mapping.spool)
+    (aim_of target.mapping) target.terms.now
 
 -- the mapping over many files
 abbrev pub MapsMany : Gives → (why : Bool) → (out out' : Option (List ℕ)) → Many → Ending → Type 0

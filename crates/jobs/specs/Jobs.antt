@@ -49,7 +49,8 @@ use Rattle.run_parts.specs.declared.status.Status.TheVariants.{Done}
 use Rattle.text_bounds.specs.TextRuns.{TextBoundsAs}
 
 -- a run over the pickle that an argument names ends with what is right for its bytes
-pub record EndsOver (IsPickle : List ℕ → Type 0) (IsRight : (pickle : List ℕ) → Saying → Type 0) (out out' : Option (List ℕ)) (ended : Outcome) : Type 0 where
+pub record EndsOver (IsPickle : List ℕ → Type 0) (IsRight : (pickle : List ℕ) → Saying → Type 0)
+    (out out' : Option (List ℕ)) (ended : Outcome) : Type 0 where
   pub pickle : List ℕ
   pub given : IsPickle pickle
   pub ends : EndsAs (IsRight pickle) ended out out'
@@ -60,12 +61,14 @@ ending_of (Ok status) = Silent status
 ending_of (Err fault) = Run (outcome.Failed failure.Write)
 
 -- an answer in JSON is written whole, with its exit status, or in part, which a line reports
-pub data EndsInJson (Whole : Status → (out out' : Option (List ℕ)) → Type 0) (Part : (out out' : Option (List ℕ)) → Type 0) (out out' : Option (List ℕ)) : Ending → Type 0 where
+pub data EndsInJson (Whole : Status → (out out' : Option (List ℕ)) → Type 0)
+    (Part : (out out' : Option (List ℕ)) → Type 0) (out out' : Option (List ℕ)) : Ending → Type 0 where
   answered : {status : Status} → Whole status out out' → EndsInJson Whole Part out out' (Silent status)
   cut : Part out out' → EndsInJson Whole Part out out' (Run (outcome.Failed failure.Write))
 
 -- the answer of a check in JSON
-pub record ChecksOver (IsPickle : List ℕ → Type 0) (explains : Bool) (out out' : Option (List ℕ)) (ending : Ending) : Type 0 where
+pub record ChecksOver (IsPickle : List ℕ → Type 0) (explains : Bool) (out out' : Option (List ℕ))
+    (ending : Ending) : Type 0 where
   pub pickle : List ℕ
   pub given : IsPickle pickle
   pub ends : EndsInJson (Answers pickle explains) (AnswersPart pickle explains) out out' ending
@@ -84,26 +87,35 @@ report_text ended lines = codes "{" ++ (outcome_members ended ++ (notes_member l
 -- an outcome is reported in JSON; that of a writer that failed is left to its line
 pub data Reports (ended : Outcome) (lines : List ℕ) (out out' : Option (List ℕ)) : Ending → Type 0 where
   reported : Appends out out' (report_text ended lines) → Reports ended lines out out' (Silent (outcome_status ended))
-  report_cut : AppendsPart out out' (report_text ended lines) → Reports ended lines out out' (Run (outcome.Failed failure.Write))
+  report_cut : AppendsPart out out' (report_text ended lines) →
+      Reports ended lines out out' (Run (outcome.Failed failure.Write))
   left : ended ≡ outcome.Failed failure.Write → Keeps out out' → Reports ended lines out out' (Run ended)
 
 -- a list of types in JSON: an object for each, or what a check answers for a refused pickle
 pub data TypesEnd (pickle : List ℕ) (explains : Bool) (out out' : Option (List ℕ)) : Ending → Type 0 where
   listed : EndsAs (TypesInJson pickle) outcome.Done out out' → TypesEnd pickle explains out out' (Silent Done)
-  refused : {ending : Ending} {refusal : Refusal} {told : Option (List ℕ)} → EndsAs (TypesInJson pickle) (outcome.Refused refusal) out told
-      → (Refuses pickle refusal → EndsInJson (Answers pickle explains) (AnswersPart pickle explains) told out' ending) → TypesEnd pickle explains out out' ending
-  fails : {ended : Outcome} {ending : Ending} {told : Option (List ℕ)} → ended ≢ outcome.Done → ((refusal : Refusal) → ended ≢ outcome.Refused refusal)
-      → EndsAs (TypesInJson pickle) ended out told → Reports ended [] told out' ending → TypesEnd pickle explains out out' ending
+  refused : {ending : Ending} {refusal : Refusal} {told : Option (List ℕ)}
+      → EndsAs (TypesInJson pickle) (outcome.Refused refusal) out told
+      → (Refuses pickle refusal → EndsInJson (Answers pickle explains) (AnswersPart pickle explains) told out' ending)
+      → TypesEnd pickle explains out out' ending
+  fails : {ended : Outcome} {ending : Ending} {told : Option (List ℕ)} → ended ≢ outcome.Done
+      → ((refusal : Refusal) → ended ≢ outcome.Refused refusal)
+      → EndsAs (TypesInJson pickle) ended out told → Reports ended [] told out' ending
+      → TypesEnd pickle explains out out' ending
 
-pub record TypesOver (IsPickle : List ℕ → Type 0) (explains : Bool) (out out' : Option (List ℕ)) (ending : Ending) : Type 0 where
+pub record TypesOver (IsPickle : List ℕ → Type 0) (explains : Bool) (out out' : Option (List ℕ))
+    (ending : Ending) : Type 0 where
   pub pickle : List ℕ
   pub given : IsPickle pickle
   pub ends : TypesEnd pickle explains out out' ending
 
 -- how a mapping of a file ends: it is refused if it would start before the file's first byte
-pub data MapsFile (pickle : List ℕ) (aim : Aim) (terms : Terms) (file : SpaceView) (out out' : Option (List ℕ)) : Outcome → Type 0 where
-  starts_nowhere : start_bit aim.start file.len ≡ None → Keeps out out' → MapsFile pickle aim terms file out out' outcome.Offset
-  maps : {ended : Outcome} (ask : Ask) (after : SpaceView) → IsAskOf aim file.len ask → EndsAs (MapsUnder pickle ask terms file after) ended out out'
+pub data MapsFile (pickle : List ℕ) (aim : Aim) (terms : Terms) (file : SpaceView)
+    (out out' : Option (List ℕ)) : Outcome → Type 0 where
+  starts_nowhere : start_bit aim.start file.len ≡ None → Keeps out out' →
+      MapsFile pickle aim terms file out out' outcome.Offset
+  maps : {ended : Outcome} (ask : Ask) (after : SpaceView) → IsAskOf aim file.len ask
+      → EndsAs (MapsUnder pickle ask terms file after) ended out out'
       → MapsFile pickle aim terms file out out' ended
 
 -- reasons for the eye are added only if reasons are requested
@@ -112,7 +124,8 @@ AddsIf false out out' = Keeps out out'
 AddsIf true out out' = (text : List ℕ) × AppendsUpTo out out' text
 
 -- a mapping of a type of the pickle that an argument names over the file that another names
-pub record MapsOver (IsPickle : List ℕ → Type 0) (IsFile : SpaceView → Type 0) (aim : Aim) (terms : Terms) (why : Bool) (out out' : Option (List ℕ)) (ended : Outcome) : Type 0 where
+pub record MapsOver (IsPickle : List ℕ → Type 0) (IsFile : SpaceView → Type 0) (aim : Aim) (terms : Terms) (why : Bool)
+    (out out' : Option (List ℕ)) (ended : Outcome) : Type 0 where
   pub pickle : List ℕ
   pub given : IsPickle pickle
   pub file : SpaceView
@@ -122,26 +135,32 @@ pub record MapsOver (IsPickle : List ℕ → Type 0) (IsFile : SpaceView → Typ
   pub more : AddsIf why told out'
 
 -- a dump of the file that an argument names
-pub record DumpsOver (IsFile : SpaceView → Type 0) (from size : ℕ) (ruler : Bool) (out out' : Option (List ℕ)) : Type 0 where
+pub record DumpsOver (IsFile : SpaceView → Type 0) (from size : ℕ) (ruler : Bool)
+    (out out' : Option (List ℕ)) : Type 0 where
   pub file : SpaceView
   pub opened : IsFile file
   pub dumps : Dumps file out out' (λ bytes. dump_text bytes from size ruler)
 
 -- its first bytes, if it ended early
-pub record DumpsPartOver (IsFile : SpaceView → Type 0) (from size : ℕ) (ruler : Bool) (out out' : Option (List ℕ)) : Type 0 where
+pub record DumpsPartOver (IsFile : SpaceView → Type 0) (from size : ℕ) (ruler : Bool)
+    (out out' : Option (List ℕ)) : Type 0 where
   pub file : SpaceView
   pub opened : IsFile file
   pub dumps : DumpsPart file out out' (λ bytes. dump_text bytes from size ruler)
 
 -- what was written of a dump that ended early: nothing, or its first bytes
-abbrev pub StopsDump : (IsFile : SpaceView → Type 0) → (from size : ℕ) → (ruler : Bool) → (out out' : Option (List ℕ)) → Type 0
+abbrev pub StopsDump : (IsFile : SpaceView → Type 0) → (from size : ℕ) → (ruler : Bool) →
+    (out out' : Option (List ℕ)) → Type 0
 StopsDump IsFile from size ruler out out' = Keeps out out' ⊎ DumpsPartOver IsFile from size ruler out out'
 
--- how a mapping over many files ends: the pickle or the type is refused, each file has what is written of it, or a name or
--- an output fails
-pub data EndsEach (every : Every) (Done : (out out' : Option (List ℕ)) → Status → Type 0) (out out' : Option (List ℕ)) : Ending → Type 0 where
-  refused_each : {refusal : Refusal} → Refuses every.pickle refusal → Keeps out out' → EndsEach every Done out out' (Run (outcome.Refused refusal))
-  no_type : {declarations : List DeclarationTree} {types : Names} → IsAccepted every.pickle declarations types → find_type every.aim.name types ≡ None → Keeps out out'
+-- how a mapping over many files ends: the pickle or the type is refused, each file has what is written of it, or a name
+-- or an output fails
+pub data EndsEach (every : Every) (Done : (out out' : Option (List ℕ)) → Status → Type 0)
+    (out out' : Option (List ℕ)) : Ending → Type 0 where
+  refused_each : {refusal : Refusal} → Refuses every.pickle refusal → Keeps out out' →
+      EndsEach every Done out out' (Run (outcome.Refused refusal))
+  no_type : {declarations : List DeclarationTree} {types : Names} → IsAccepted every.pickle declarations types
+      → find_type every.aim.name types ≡ None → Keeps out out'
       → EndsEach every Done out out' (Run outcome.NoSuchType)
   each_done : {greatest : Status} → Done out out' greatest → EndsEach every Done out out' (Silent greatest)
   each_fails : (why : Failure) → EndsEach every Done out out' (Run (outcome.Failed why))
@@ -164,11 +183,13 @@ Ends Holds (Run ended) = Holds ended
 Ends Holds (Silent status) = ⊥
 
 -- the answer of a check, and a list of types, in a form; in JSON with reasons if they are requested
-abbrev pub ChecksIn : (IsPickle : List ℕ → Type 0) → (why : Bool) → (out out' : Option (List ℕ)) → AnswerForm → Ending → Type 0
+abbrev pub ChecksIn : (IsPickle : List ℕ → Type 0) → (why : Bool) → (out out' : Option (List ℕ)) →
+    AnswerForm → Ending → Type 0
 ChecksIn IsPickle why out out' answer.Text = Ends (EndsOver IsPickle ChecksAs out out')
 ChecksIn IsPickle why out out' answer.Json = ChecksOver IsPickle why out out'
 
-abbrev pub TypesIn : (IsPickle : List ℕ → Type 0) → (why : Bool) → (out out' : Option (List ℕ)) → AnswerForm → Ending → Type 0
+abbrev pub TypesIn : (IsPickle : List ℕ → Type 0) → (why : Bool) → (out out' : Option (List ℕ)) →
+    AnswerForm → Ending → Type 0
 TypesIn IsPickle why out out' answer.Text = Ends (EndsOver IsPickle TypesAs out out')
 TypesIn IsPickle why out out' answer.Json = TypesOver IsPickle why out out'
 
@@ -210,7 +231,8 @@ module _ (gives : Gives) (why : Bool) (out out' : Option (List ℕ)) where
   -- how the mapping of a request over many files ends
   abbrev pub EndsOfEach : Request → FileNames → (pickle : List ℕ) → Ending → Type 0
   EndsOfEach request names pickle =
-      EndsEach (every_for request why pickle) (AppendsFiles (WritesRuns gives (every_for request why pickle)) (AreNamesOf gives names)) out out'
+      EndsEach (every_for request why pickle)
+      (AppendsFiles (WritesRuns gives (every_for request why pickle)) (AreNamesOf gives names)) out out'
 
   -- a mapping of a type of the pickle that an argument names over many files
   pub record MapsEach (request : Request) (names : FileNames) (ending : Ending) : Type 0 where
@@ -220,20 +242,25 @@ module _ (gives : Gives) (why : Bool) (out out' : Option (List ℕ)) where
 
   abbrev pub MapsRequest : Request → Over → Ending → Type 0
   MapsRequest request (File file) =
-      Ends (MapsOver (gives.is_pickle (string_bytes request.pickle)) (gives.is_file (string_bytes file) request.spool) (requested_aim request) request.terms why out out')
+      Ends (MapsOver (gives.is_pickle (string_bytes request.pickle)) (gives.is_file (string_bytes file) request.spool)
+      (requested_aim request) request.terms why out out')
   MapsRequest request (Files names flush) = MapsEach request names
 
   abbrev pub DoesJob : Job → AnswerForm → Ending → Type 0
   DoesJob (job.Map at order limit mode pickle name file) form =
-      Ends (MapsOver (gives.is_pickle (string_bytes pickle)) (gives.is_file (string_bytes file) None) (plain_aim (string_bytes name) at order limit mode) no_terms why out out')
+      Ends (MapsOver (gives.is_pickle (string_bytes pickle)) (gives.is_file (string_bytes file) None)
+      (plain_aim (string_bytes name) at order limit mode) no_terms why out out')
   DoesJob (job.Request request) form = MapsRequest request request.over
-  DoesJob (job.Bound pickle name bits) form = Ends (EndsOver (gives.is_pickle (string_bytes pickle)) (λ bytes. BoundsAs bytes (string_bytes name) bits) out out')
+  DoesJob (job.Bound pickle name bits) form = Ends
+      (EndsOver (gives.is_pickle (string_bytes pickle)) (λ bytes. BoundsAs bytes (string_bytes name) bits) out out')
   DoesJob (job.BoundText pickle name bits mode style) form =
-      Ends (EndsOver (gives.is_pickle (string_bytes pickle)) (λ bytes. TextBoundsAs bytes (string_bytes name) bits style mode) out out')
+      Ends (EndsOver (gives.is_pickle (string_bytes pickle))
+      (λ bytes. TextBoundsAs bytes (string_bytes name) bits style mode) out out')
   DoesJob (job.Check pickle) form = ChecksIn (gives.is_pickle (string_bytes pickle)) why out out' form
   DoesJob (job.Types pickle) form = TypesIn (gives.is_pickle (string_bytes pickle)) why out out' form
   DoesJob job.Formats form = λ ending. ⊥
-  DoesJob (job.Dump from size ruler file) form = Ends (λ ended. (ended ≡ outcome.Done) × DumpsOver (gives.is_file (string_bytes file) None) from size ruler out out')
+  DoesJob (job.Dump from size ruler file) form = Ends
+      (λ ended. (ended ≡ outcome.Done) × DumpsOver (gives.is_file (string_bytes file) None) from size ruler out out')
 
   -- the list of formats is all that isn't done
   abbrev pub IsFormats : Job → Type 0
@@ -261,7 +288,8 @@ FailsRequest gives request (File file) = FailsMap gives (string_bytes request.pi
 FailsRequest gives request (Files names flush) = gives.is_unread (string_bytes request.pickle)
 
 abbrev pub FailsJob : Gives → Job → FileFault → Type 0
-FailsJob gives (job.Map at order limit mode pickle name file) = FailsMap gives (string_bytes pickle) (string_bytes file) None
+FailsJob gives (job.Map at order limit mode pickle name file) =
+    FailsMap gives (string_bytes pickle) (string_bytes file) None
 FailsJob gives (job.Request request) = FailsRequest gives request request.over
 FailsJob gives (job.Bound pickle name bits) = gives.is_unread (string_bytes pickle)
 FailsJob gives (job.BoundText pickle name bits mode style) = gives.is_unread (string_bytes pickle)

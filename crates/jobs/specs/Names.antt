@@ -16,7 +16,8 @@ pub record IsNextName (list : Option (List ℕ)) (name : List ℕ) (rest : Optio
 -- these names were read of a list, one after the other
 pub data ReadsNames (list : Option (List ℕ)) : (rest : Option (List ℕ)) → (names : List (List ℕ)) → Type 0 where
   none_read : ReadsNames list list []
-  one_read : {rest rest' : Option (List ℕ)} {names : List (List ℕ)} {name : List ℕ} → ReadsNames list rest names → IsNextName rest name rest'
+  one_read : {rest rest' : Option (List ℕ)} {names : List (List ℕ)} {name : List ℕ} → ReadsNames list rest names
+      → IsNextName rest name rest'
       → ReadsNames list rest' (names ++ name ∷ [])
 
 -- each word stands for a name

@@ -26,7 +26,8 @@ pub fn check_in_json<P: Opener, O: Write>(
     explains: bool,
     out: &mut O,
 ) -> Result<Ending, FileFault>
-    ensures ok { IfOk result (ChecksOver ((P.gives opener.now).is_pickle word.now) explains (O.contents out.old) (O.contents out.new)) }
+    ensures ok { IfOk result
+        (ChecksOver ((P.gives opener.now).is_pickle word.now) explains (O.contents out.old) (O.contents out.new)) }
     ensures err { OnErr result (Keeps (O.contents out.old) (O.contents out.new)) }
     ensures fault { IfErr result ((P.gives opener.now).is_unread word.now) }
 {
@@ -43,7 +44,8 @@ pub fn types_in_json<P: Opener, O: Write>(
     explains: bool,
     out: &mut O,
 ) -> Result<Ending, FileFault>
-    ensures ok { IfOk result (TypesOver ((P.gives opener.now).is_pickle word.now) explains (O.contents out.old) (O.contents out.new)) }
+    ensures ok { IfOk result
+        (TypesOver ((P.gives opener.now).is_pickle word.now) explains (O.contents out.old) (O.contents out.new)) }
     ensures err { OnErr result (Keeps (O.contents out.old) (O.contents out.new)) }
     ensures fault { IfErr result ((P.gives opener.now).is_unread word.now) }
 {

@@ -36,8 +36,10 @@ pub fn dump_file<P: Opener, O: Write>(
     note: &mut Vec<u8>,
 ) -> Result<Outcome, FileFault>
     ensures done { IfOk result (λ ended. ended ≡ Done) }
-    ensures ok { OnOk result (DumpsRange ((P.gives opener.now).is_file path.now None) range (O.contents out.old) (O.contents out.new)) }
-    ensures err { OnErr result (StopsRange ((P.gives opener.now).is_file path.now None) range (O.contents out.old) (O.contents out.new)) }
+    ensures ok { OnOk result
+        (DumpsRange ((P.gives opener.now).is_file path.now None) range (O.contents out.old) (O.contents out.new)) }
+    ensures err { OnErr result
+        (StopsRange ((P.gives opener.now).is_file path.now None) range (O.contents out.old) (O.contents out.new)) }
     ensures fault { IfErr result (FailsDump (P.gives opener.now) path.now) }
 {
     let mut space = Paged::new(alloc, opener.open(path, None, false)?)?;

@@ -40,7 +40,8 @@ pub fn map_files<P: Opener, A: Aside, O: Write>(
     aside: &mut A,
     why: &mut Why<'_>,
 ) -> Result<Ending, FileFault>
-    ensures ok { IfOk result (MapsMany (P.gives opener.now) why.old.asked (O.contents out.old) (O.contents out.new) many.entry) }
+    ensures ok { IfOk result
+        (MapsMany (P.gives opener.now) why.old.asked (O.contents out.old) (O.contents out.new) many.entry) }
     ensures err { OnErr result (Keeps (O.contents out.old) (O.contents out.new)) }
     ensures fault { IfErr result ((P.gives opener.now).is_unread (string_bytes many.entry.request.now.pickle)) }
 {
@@ -63,7 +64,8 @@ impl Many<'_> {
         out: &mut O,
         aside: &mut A,
     ) -> Ending
-        ensures { EndsMany (P.gives opener.now) explains (O.contents out.old) (O.contents out.new) self.entry pickle.now.bytes.items result }
+        ensures { EndsMany (P.gives opener.now) explains (O.contents out.old) (O.contents out.new) self.entry
+            pickle.now.bytes.items result }
     {
         let table = match accept(alloc, &pickle.bytes) {
             Ok(table) => table,
@@ -99,7 +101,8 @@ fn run_files<P: Opener, A: Aside, O: Write>(
     aside: &mut A,
 ) -> Result<Status, ListFault>
     requires typed { IsTyped typed }
-    ensures ok { IfOk result (AppendsNamed (P.gives opener.now) (every_of typed.entry) (AreNamesOf (P.gives opener.now) files.now)
+    ensures ok { IfOk result
+        (AppendsNamed (P.gives opener.now) (every_of typed.entry) (AreNamesOf (P.gives opener.now) files.now)
         (O.contents out.old) (O.contents out.new)) }
 {
     match files {
@@ -120,7 +123,8 @@ fn run_words<P: Opener, A: Aside, O: Write>(
     aside: &mut A,
 ) -> Result<Status, ListFault>
     requires typed { IsTyped typed }
-    ensures ok { IfOk result (AppendsNamed (P.gives opener.now) (every_of typed.entry) (AreNamed (P.gives opener.now).is_name words.now)
+    ensures ok { IfOk result
+        (AppendsNamed (P.gives opener.now) (every_of typed.entry) (AreNamed (P.gives opener.now).is_name words.now)
         (O.contents out.old) (O.contents out.new)) }
 {
     let mut kept = Kept::new(typed.alloc, typed.terms.most_slots)?;
@@ -142,7 +146,8 @@ fn run_list<P: Opener, L: Read + Drop, A: Aside, O: Write>(
     aside: &mut A,
 ) -> Result<Status, ListFault>
     requires typed { IsTyped typed }
-    ensures ok { IfOk result (AppendsNamed (P.gives opener.now) (every_of typed.entry) (AreListed (λ bytes. bytes ≡ L.remaining list))
+    ensures ok { IfOk result
+        (AppendsNamed (P.gives opener.now) (every_of typed.entry) (AreListed (λ bytes. bytes ≡ L.remaining list))
         (O.contents out.old) (O.contents out.new)) }
 {
     let Ok(mut list) = BufReader::new(typed.alloc, list) else {

@@ -88,7 +88,8 @@ pub fn run_name<P: Opener, A: Aside, O: Write>(
     requires typed { IsTyped typed }
     requires store { IsStoreOf typed.terms.now.most_slots kept.old.store }
     ensures store { IsStoreOf typed.entry.terms.now.most_slots kept.new.store }
-    ensures ok { IfOk result (AppendsFile (P.gives opener.now) (every_of typed.entry) name.now (O.contents out.old) (O.contents out.new)) }
+    ensures ok { IfOk result
+        (AppendsFile (P.gives opener.now) (every_of typed.entry) name.now (O.contents out.old) (O.contents out.new)) }
 {
     aside.show();
     let status = match open_named(opener, typed, name) {
@@ -109,7 +110,8 @@ fn open_named<P: Opener>(
     typed: Typed<'_>,
     name: &[u8],
 ) -> Result<Paged<P::Bytes>, FileFault>
-    ensures ok { IfOk result (λ space. (P.gives opener.now).is_file name.now typed.entry.mapping.spool (P.Bytes.view space)) }
+    ensures ok { IfOk result
+        (λ space. (P.gives opener.now).is_file name.now typed.entry.mapping.spool (P.Bytes.view space)) }
     ensures err { IfErr result (FailsNamed (P.gives opener.now) name.now typed.entry.mapping.spool) }
 {
     let Ok(path) = str::from_utf8(name) else {
@@ -138,7 +140,8 @@ fn put_unmapped<O: Write>(
     out: &mut O,
 ) -> Result<Status, WriteFault>
     ensures status { IfOk result (λ status. status ≡ outcome_status outcome) }
-    ensures ok { OnOk result (Appends (O.contents out.old) (O.contents out.new) (unmapped_text form name.now outcome lines.now)) }
+    ensures ok { OnOk result
+        (Appends (O.contents out.old) (O.contents out.new) (unmapped_text form name.now outcome lines.now)) }
 {
     match form {
         FileForm::Line(faults) => put_file_line(out, name, outcome, faults, b"")?,
@@ -157,7 +160,8 @@ fn run_unopened<P: Opener, A: Aside, O: Write>(
     out: &mut O,
 ) -> Result<Status, WriteFault>
     requires fails { FailsNamed (P.gives opener.now) name.now typed.mapping.spool fault }
-    ensures ok { IfOk result (AppendsFile (P.gives opener.now) (every_of typed.entry) name.now (O.contents out.old) (O.contents out.new)) }
+    ensures ok { IfOk result
+        (AppendsFile (P.gives opener.now) (every_of typed.entry) name.now (O.contents out.old) (O.contents out.new)) }
 {
     let lines = unopened_lines(opener, typed, name, fault);
     let outcome = Outcome::Failed(fault.failure());
@@ -201,7 +205,8 @@ fn run_space<S: Space, A: Aside, O: Write>(
     requires typed { IsTyped typed }
     requires store { IsStoreOf typed.terms.now.most_slots kept.old.store }
     ensures store { IsStoreOf typed.entry.terms.now.most_slots kept.new.store }
-    ensures ok { IfOk result (AppendsOver (S.view space.old) (every_of typed.entry) name.now (O.contents out.old) (O.contents out.new)) }
+    ensures ok { IfOk result
+        (AppendsOver (S.view space.old) (every_of typed.entry) name.now (O.contents out.old) (O.contents out.new)) }
 {
     let Some(ask) = typed.mapping.ask_in(space) else {
         return put_unmapped(typed.form, name, Outcome::Offset, b"", out);

@@ -54,7 +54,8 @@ impl From<WriteFault> for ListFault {
 /// Reads the next name of a list, without the byte 0 that ends it, which the last name may lack. Returns false at the
 /// list's end.
 pub fn read_name<L: BufRead>(list: &mut L, name: &mut Vec<u8>) -> Result<bool, ListFault>
-    ensures next { IfOk result (λ more. more ≡ true → IsNextName (L.remaining list.old) name.new.items (L.remaining list.new)) }
+    ensures next { IfOk result
+        (λ more. more ≡ true → IsNextName (L.remaining list.old) name.new.items (L.remaining list.new)) }
     ensures end { IfOk result (λ more. more ≡ false → IsAtEnd (L.remaining list.old)) }
 {
     name.clear();

@@ -54,7 +54,8 @@ pub fn map_file<P: Opener, O: Write>(
     out: &mut O,
     why: &mut Why<'_>,
 ) -> Result<Outcome, FileFault>
-    ensures ok { IfOk result (MapsTarget (P.gives opener.now) target.entry why.old.asked (O.contents out.old) (O.contents out.new)) }
+    ensures ok { IfOk result
+        (MapsTarget (P.gives opener.now) target.entry why.old.asked (O.contents out.old) (O.contents out.new)) }
     ensures err { OnErr result (Keeps (O.contents out.old) (O.contents out.new)) }
     ensures fault { IfErr result (FailsTarget (P.gives opener.now) target.entry) }
 {

@@ -60,7 +60,8 @@ pub fn check_pickle<P: Opener, O: Write>(
     out: &mut O,
     why: &mut Why<'_>,
 ) -> Result<Outcome, FileFault>
-    ensures ok { IfOk result (EndsOver ((P.gives opener.now).is_pickle word.now) ChecksAs (O.contents out.old) (O.contents out.new)) }
+    ensures ok { IfOk result
+        (EndsOver ((P.gives opener.now).is_pickle word.now) ChecksAs (O.contents out.old) (O.contents out.new)) }
     ensures err { OnErr result (Keeps (O.contents out.old) (O.contents out.new)) }
     ensures fault { IfErr result ((P.gives opener.now).is_unread word.now) }
 {
@@ -84,7 +85,8 @@ pub fn tell_types<P: Opener, O: Write>(
     out: &mut O,
     why: &mut Why<'_>,
 ) -> Result<Outcome, FileFault>
-    ensures ok { IfOk result (EndsOver ((P.gives opener.now).is_pickle word.now) TypesAs (O.contents out.old) (O.contents out.new)) }
+    ensures ok { IfOk result
+        (EndsOver ((P.gives opener.now).is_pickle word.now) TypesAs (O.contents out.old) (O.contents out.new)) }
     ensures err { OnErr result (Keeps (O.contents out.old) (O.contents out.new)) }
     ensures fault { IfErr result ((P.gives opener.now).is_unread word.now) }
 {
@@ -124,7 +126,8 @@ pub fn bound_text<P: Opener, O: Write>(
     out: &mut O,
     why: &mut Why<'_>,
 ) -> Result<Outcome, FileFault>
-    ensures ok { IfOk result (EndsOver ((P.gives opener.now).is_pickle of.entry.pickle.now) (text_bounds_of of.entry form)
+    ensures ok { IfOk result
+        (EndsOver ((P.gives opener.now).is_pickle of.entry.pickle.now) (text_bounds_of of.entry form)
         (O.contents out.old) (O.contents out.new)) }
     ensures err { OnErr result (Keeps (O.contents out.old) (O.contents out.new)) }
     ensures fault { IfErr result ((P.gives opener.now).is_unread of.entry.pickle.now) }

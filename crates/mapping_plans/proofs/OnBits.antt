@@ -23,24 +23,32 @@ steps_on : {A : Type 0} (bits : List ℕ) (p : Plan A) (c : ℕ) → AtMost p c 
 steps_on bits (Ended a) c h = omega arith
 steps_on bits (Tick p) c (ticked d le h) = let i = steps_on bits p d h in omega arith
 steps_on bits (Made count move levels p) c (noted h) = steps_on bits p c h
-steps_on bits (Read place width order rest) c (given h) = let n = number_at bits order place width in steps_on bits (rest n) c (h n)
+steps_on bits (Read place width order rest) c (given h) =
+    let n = number_at bits order place width in steps_on bits (rest n) c (h n)
 
-made_on : {A : Type 0} (bits : List ℕ) (p : Plan A) (ahead left : ℕ) → MadeWithin p ahead left → made_of bits p + left ≤ ahead + steps_of bits p
+made_on : {A : Type 0} (bits : List ℕ) (p : Plan A) (ahead left : ℕ) → MadeWithin p ahead left →
+    made_of bits p + left ≤ ahead + steps_of bits p
 made_on bits (Ended a) ahead left (made_ended le) = omega arith
 made_on bits (Tick p) ahead left (made_tick h) = let i = made_on bits p (ahead + 1) left h in omega arith
-made_on bits (Made count move levels p) ahead left (made_more more le h) = let i = made_on bits p more left h in omega arith
-made_on bits (Read place width order rest) ahead left (made_read h) = let n = number_at bits order place width in made_on bits (rest n) ahead left (h n)
+made_on bits (Made count move levels p) ahead left (made_more more le h) =
+    let i = made_on bits p more left h in omega arith
+made_on bits (Read place width order rest) ahead left (made_read h) =
+    let n = number_at bits order place width in made_on bits (rest n) ahead left (h n)
 
 made_of_steps : {A : Type 0} (bits : List ℕ) (p : Plan A) → MadeWithin p 0 0 → made_of bits p ≤ steps_of bits p
 made_of_steps bits p h = let i = made_on bits p 0 0 h in omega arith
 
-size_on : {A : Type 0} (size : A → ℕ) (bits : List ℕ) (p : Plan A) (made : ℕ) → Counts size p made → size (result_of bits p) ≤ made + made_of bits p
+size_on : {A : Type 0} (size : A → ℕ) (bits : List ℕ) (p : Plan A) (made : ℕ) → Counts size p made →
+    size (result_of bits p) ≤ made + made_of bits p
 size_on size bits (Ended a) made (counted le) = omega arith
 size_on size bits (Tick p) made (count_tick h) = size_on size bits p made h
-size_on size bits (Made count move levels p) made (count_made h) = let i = size_on size bits p (made + count) h in omega arith
-size_on size bits (Read place width order rest) made (count_read h) = let n = number_at bits order place width in size_on size bits (rest n) made (h n)
+size_on size bits (Made count move levels p) made (count_made h) =
+    let i = size_on size bits p (made + count) h in omega arith
+size_on size bits (Read place width order rest) made (count_read h) =
+    let n = number_at bits order place width in size_on size bits (rest n) made (h n)
 
-size_of_made : {A : Type 0} (size : A → ℕ) (bits : List ℕ) (p : Plan A) → Counts size p 0 → size (result_of bits p) ≤ made_of bits p
+size_of_made : {A : Type 0} (size : A → ℕ) (bits : List ℕ) (p : Plan A) → Counts size p 0 →
+    size (result_of bits p) ≤ made_of bits p
 size_of_made size bits p h = let i = size_on size bits p 0 h in omega arith
 
 -- the number of some bits of a file has no more binary digits than there are bits
@@ -54,11 +62,14 @@ number_on bytes order place width =
     let wide : 2 ^ length range ≤ 2 ^ width = pow-le-pow_right (omega arith) short in
     omega arith
 
-always_on : {A : Type 0} (M : Levels → Type 0) (Q : A → Type 0) (bytes : List ℕ) (p : Plan A) → Always M Q p → Q (result_of (bits_of bytes) p)
+always_on : {A : Type 0} (M : Levels → Type 0) (Q : A → Type 0) (bytes : List ℕ) (p : Plan A) → Always M Q p →
+    Q (result_of (bits_of bytes) p)
 always_on M Q bytes (Ended a) (result h) = h
 always_on M Q bytes (Tick p) (after_tick h) = always_on M Q bytes p h
 always_on M Q bytes (Made count move levels p) (after_made m h) = always_on M Q bytes p h
-always_on M Q bytes (Read place width order rest) (after_read h) = let n = number_at (bits_of bytes) order place width in always_on M Q bytes (rest n) (h n (number_on bytes order place width))
+always_on M Q bytes (Read place width order rest) (after_read h) =
+    let n = number_at (bits_of bytes) order place width in
+    always_on M Q bytes (rest n) (h n (number_on bytes order place width))
 
 pub outcomes_bounded : OutcomesAreBounded
 outcomes_bounded bits ty order levels s r k j h =

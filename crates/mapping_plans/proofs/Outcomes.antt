@@ -21,11 +21,15 @@ one_outcome bits ty order levels s =
     let o = means_exists bits ty order levels s in
     record { outcome = o.r; steps = o.k; made = o.j; means = o.means; only = λ r k j h. means_one h o.means }
 
-only_in_time : {bits : List ℕ} {ty : PokeType} {order : Order} {s limit : ℕ} {r : Result Value FaultAt} {k j : ℕ} → Means bits ty order no_values s r k j → k ≤ limit → (r' : Result Value FaultAt) (k' j' : ℕ) → Answer bits ty order s limit r' k' j' → (r' ≡ r) × (k' ≡ k)
+only_in_time : {bits : List ℕ} {ty : PokeType} {order : Order} {s limit : ℕ} {r : Result Value FaultAt} {k j : ℕ} →
+    Means bits ty order no_values s r k j → k ≤ limit → (r' : Result Value FaultAt) (k' j' : ℕ) →
+    Answer bits ty order s limit r' k' j' → (r' ≡ r) × (k' ≡ k)
 only_in_time m le r' k' j' (in_time n lt) = let e = means_one n m in (e.0, e.1)
 only_in_time m le r' k' j' (too_long n gt less) = let e = means_one n m in let f = e.1 in absurd (omega arith)
 
-only_too_long : {bits : List ℕ} {ty : PokeType} {order : Order} {s limit : ℕ} {r : Result Value FaultAt} {k j : ℕ} → Means bits ty order no_values s r k j → limit < k → (r' : Result Value FaultAt) (k' j' : ℕ) → Answer bits ty order s limit r' k' j' → (r' ≡ Err (fault.Limit, s)) × (k' ≡ limit)
+only_too_long : {bits : List ℕ} {ty : PokeType} {order : Order} {s limit : ℕ} {r : Result Value FaultAt} {k j : ℕ} →
+    Means bits ty order no_values s r k j → limit < k → (r' : Result Value FaultAt) (k' j' : ℕ) →
+    Answer bits ty order s limit r' k' j' → (r' ≡ Err (fault.Limit, s)) × (k' ≡ limit)
 only_too_long m gt r' k' j' (in_time n lt) = let e = means_one n m in let f = e.1 in absurd (omega arith)
 only_too_long m gt r' k' j' (too_long n more less) = (refl, refl)
 
@@ -33,8 +37,15 @@ pub one_answer : HasOneAnswer
 one_answer bits ty order s limit =
     let o = means_exists bits ty order no_values s in
     by_place o.k limit
-    (λ le. record { answer = o.r; steps = o.k; made = o.j; answers = in_time o.means le; only = only_in_time o.means le })
-    (λ gt. record { answer = Err (fault.Limit, s); steps = limit; made = o.j; answers = too_long o.means gt (omega arith); only = only_too_long o.means gt })
+    (λ le.
+    record { answer = o.r; steps = o.k; made = o.j; answers = in_time o.means le; only = only_in_time o.means le })
+    (λ gt. record {
+      answer = Err (fault.Limit, s);
+      steps = limit;
+      made = o.j;
+      answers = too_long o.means gt (omega arith);
+      only = only_too_long o.means gt;
+    })
 
 pub values_wide : ValuesAreWide
 values_wide bits ty order levels s v k j m = (means_wide m, means_inside m)
@@ -44,21 +55,24 @@ abbrev StartsAt : ℕ → Result Value FaultAt → Type 0
 StartsAt s (Ok v) = start_of v ≡ s
 StartsAt s (Err f) = Unit {0}
 
-number_starts : {ty : PokeType} {n s k j : ℕ} {levels : Levels} {r : Result Value FaultAt} → NumberMeans ty n levels s r k j → StartsAt s r
+number_starts : {ty : PokeType} {n s k j : ℕ} {levels : Levels} {r : Result Value FaultAt} →
+    NumberMeans ty n levels s r k j → StartsAt s r
 number_starts integer = refl
 number_starts offset = refl
 number_starts (integral fs) = refl
 number_starts (integral_fault fs) = tt
 number_starts (no_number e) = tt
 
-closing_starts : {bits : List ℕ} {ty : PokeType} {order : Order} {s : ℕ} {extent : Extent} {n : ℕ} {inside : Levels} {pn k j : ℕ} {r : Result Value FaultAt} → Closing bits ty order s extent n inside pn r k j → StartsAt s r
+closing_starts : {bits : List ℕ} {ty : PokeType} {order : Order} {s : ℕ} {extent : Extent} {n : ℕ} {inside : Levels}
+    {pn k j : ℕ} {r : Result Value FaultAt} → Closing bits ty order s extent n inside pn r k j → StartsAt s r
 closing_starts (none_due over met) = refl
 closing_starts (beyond_size over met) = tt
 closing_starts (no_bits due m e) = tt
 closing_starts (ends_without due m e) = refl
 closing_starts (element_fault due m e) = tt
 
-means_starts : {bits : List ℕ} {ty : PokeType} {order : Order} {levels : Levels} {s : ℕ} {r : Result Value FaultAt} {k j : ℕ} → Means bits ty order levels s r k j → StartsAt s r
+means_starts : {bits : List ℕ} {ty : PokeType} {order : Order} {levels : Levels} {s : ℕ} {r : Result Value FaultAt}
+    {k j : ℕ} → Means bits ty order levels s r k j → StartsAt s r
 means_starts (past_end lt) = tt
 means_starts (number_read le e inside m) = number_starts m
 means_starts (number_end le e lt) = tt
@@ -80,7 +94,9 @@ record Spread (d i p n pn : ℕ) : Type 0 where
   number : n ≡ i + count
   reach : p + count * d ≤ pn
 
-spread : {bits : List ℕ} {ty : PokeType} {order : Order} {s : ℕ} {extent : Extent} {i n : ℕ} {levels inside : Levels} {p pn k j : ℕ} → Elements bits ty order s extent i levels p n inside pn k j → Spread (max 1 (least_width ty)) i p n pn
+spread : {bits : List ℕ} {ty : PokeType} {order : Order} {s : ℕ} {extent : Extent} {i n : ℕ} {levels inside : Levels}
+    {p pn k j : ℕ} →
+    Elements bits ty order s extent i levels p n inside pn k j → Spread (max 1 (least_width ty)) i p n pn
 spread no_more = record { count = 0; number = omega arith; reach = omega arith }
 spread {pn} (next_element {ty} {p} {v} due m lt es) =
     let h = spread es in
@@ -96,5 +112,6 @@ tries_few bits ty order s extent levels n inside pn k j le es =
     let number = h.number in
     let reach = h.reach in
     let end = elements_inside es le in
-    let most : h.count ≤ length bits / max 1 (least_width ty) = (le-div_iff_mul-le {k = max 1 (least_width ty)} {x = h.count} {y = length bits} (omega arith)).1 (omega arith) in
+    let most : h.count ≤ length bits / max 1 (least_width ty) =
+    (le-div_iff_mul-le {k = max 1 (least_width ty)} {x = h.count} {y = length bits} (omega arith)).1 (omega arith) in
     omega arith

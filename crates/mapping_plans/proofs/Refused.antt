@@ -36,25 +36,35 @@ told (Ok (Mapped (IntegerLabel (pos n) type) start end _)) = n + 1
 told (Ok v) = 0
 told (Err f) = f.1 + 1
 
-byte : Means (bits_of (5 ∷ [])) (IntegerOf (unsigned_type 8)) Big no_values 0 (Ok (Mapped (IntegerLabel (pos 5) (unsigned_type 8)) 0 8 NoMembers)) 1 1
-unfolding bits_of binary number digits numeral_onto groups_from modulo with_sign then_ok from_inside constrained number_plan read_plan plan
+byte : Means (bits_of (5 ∷ [])) (IntegerOf (unsigned_type 8)) Big no_values 0
+    (Ok (Mapped (IntegerLabel (pos 5) (unsigned_type 8)) 0 8 NoMembers)) 1 1
+unfolding bits_of binary number digits numeral_onto groups_from modulo with_sign then_ok from_inside constrained
+    number_plan read_plan plan
 byte = plan_means (bits_of (5 ∷ [])) _ Big no_values 0
 
-another_number : {k j : ℕ} → Means (bits_of (5 ∷ [])) (IntegerOf (unsigned_type 8)) Big no_values 0 (Ok (Mapped (IntegerLabel (pos 6) (unsigned_type 8)) 0 8 NoMembers)) k j → ⊥
+another_number : {k j : ℕ} →
+    Means (bits_of (5 ∷ [])) (IntegerOf (unsigned_type 8)) Big no_values 0
+    (Ok (Mapped (IntegerLabel (pos 6) (unsigned_type 8)) 0 8 NoMembers)) k j → ⊥
 another_number h = apart 6 7 (omega arith) (sym (ap told (means_one h byte).0))
 
-another_step : {j : ℕ} → Means (bits_of (5 ∷ [])) (IntegerOf (unsigned_type 8)) Big no_values 0 (Ok (Mapped (IntegerLabel (pos 5) (unsigned_type 8)) 0 8 NoMembers)) 2 j → ⊥
+another_step : {j : ℕ} →
+    Means (bits_of (5 ∷ [])) (IntegerOf (unsigned_type 8)) Big no_values 0
+    (Ok (Mapped (IntegerLabel (pos 5) (unsigned_type 8)) 0 8 NoMembers)) 2 j → ⊥
 another_step h = apart 1 2 (omega arith) (sym (means_one h byte).1)
 
-another_made : {k : ℕ} → Means (bits_of (5 ∷ [])) (IntegerOf (unsigned_type 8)) Big no_values 0 (Ok (Mapped (IntegerLabel (pos 5) (unsigned_type 8)) 0 8 NoMembers)) k 2 → ⊥
+another_made : {k : ℕ} →
+    Means (bits_of (5 ∷ [])) (IntegerOf (unsigned_type 8)) Big no_values 0
+    (Ok (Mapped (IntegerLabel (pos 5) (unsigned_type 8)) 0 8 NoMembers)) k 2 → ⊥
 another_made h = apart 1 2 (omega arith) (sym (means_one h byte).2)
 
 -- a byte on no bits ends where it starts
 no_byte : Means (bits_of []) (IntegerOf (unsigned_type 8)) Big no_values 0 (Err (fault.End, 0)) 1 0
-unfolding bits_of binary number digits numeral_onto groups_from modulo with_sign then_ok from_inside constrained number_plan read_plan plan
+unfolding bits_of binary number digits numeral_onto groups_from modulo with_sign then_ok from_inside constrained
+    number_plan read_plan plan
 no_byte = plan_means (bits_of []) _ Big no_values 0
 
-another_place : {k j : ℕ} → Means (bits_of []) (IntegerOf (unsigned_type 8)) Big no_values 0 (Err (fault.End, 8)) k j → ⊥
+another_place : {k j : ℕ} →
+    Means (bits_of []) (IntegerOf (unsigned_type 8)) Big no_values 0 (Err (fault.End, 8)) k j → ⊥
 another_place h = apart 1 9 (omega arith) (sym (ap told (means_one h no_byte).0))
 
 -- a fault is no value
@@ -62,11 +72,14 @@ no_value : {v : Value} {k j : ℕ} → Means (bits_of []) (IntegerOf (unsigned_t
 no_value h = absurd (is_ok (means_one no_byte h).0)
 
 -- under a limit of no step a byte is no answer
-no_answer : {k j : ℕ} → Answer (bits_of (5 ∷ [])) (IntegerOf (unsigned_type 8)) Big 0 0 (Ok (Mapped (IntegerLabel (pos 5) (unsigned_type 8)) 0 8 NoMembers)) k j → ⊥
+no_answer : {k j : ℕ} →
+    Answer (bits_of (5 ∷ [])) (IntegerOf (unsigned_type 8)) Big 0 0
+    (Ok (Mapped (IntegerLabel (pos 5) (unsigned_type 8)) 0 8 NoMembers)) k j → ⊥
 no_answer (in_time m le) = let e = (means_one m byte).1 in absurd (omega (arith, e, le))
 
 -- a number that its width doesn't hold, a number that ends past the last bit, and a text with a 0 in it don't fit
-too_great : Fits 8 (IntegerOf (unsigned_type 8)) no_values 0 (Mapped (IntegerLabel (pos 256) (unsigned_type 8)) 0 8 NoMembers) → ⊥
+too_great : Fits 8 (IntegerOf (unsigned_type 8)) no_values 0
+    (Mapped (IntegerLabel (pos 256) (unsigned_type 8)) 0 8 NoMembers) → ⊥
 unfolding Fits FitsNumber with_sign
 too_great ((n, less, e), inside) = let same : 257 ≡ n + 1 = ap (λ v. told (Ok v)) e in absurd (omega arith)
 
@@ -74,7 +87,8 @@ past_the_end : (v : Value) → Fits 7 (IntegerOf (unsigned_type 8)) no_values 0 
 unfolding Fits FitsNumber
 past_the_end v (fits, inside) = absurd (omega arith)
 
-elsewhere : Fits 16 (IntegerOf (unsigned_type 8)) no_values 8 (Mapped (IntegerLabel (pos 5) (unsigned_type 8)) 0 8 NoMembers) → ⊥
+elsewhere : Fits 16 (IntegerOf (unsigned_type 8)) no_values 8
+    (Mapped (IntegerLabel (pos 5) (unsigned_type 8)) 0 8 NoMembers) → ⊥
 unfolding Fits FitsNumber
 elsewhere ((n, less, e), inside) = apart 0 8 (omega arith) (ap start_of e)
 

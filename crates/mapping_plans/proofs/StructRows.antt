@@ -14,15 +14,18 @@ both false q e = absurd (false≢true e)
 pub avoids_are : (level : ℕ) (e : Term) → avoids level e ≡ true → Avoids level e
 avoids_are level (Number type value) h = tt
 avoids_are level (Text bytes) h = tt
-avoids_are level (Name named place) h = λ same. false≢true (sym (ap (λ b. if b then false else true) (eq-eqb named level same)) ∙ h)
+avoids_are level (Name named place) h =
+    λ same. false≢true (sym (ap (λ b. if b then false else true) (eq-eqb named level same)) ∙ h)
 avoids_are level (Bracket e) h = avoids_are level e h
 avoids_are level (Before op e) h = avoids_are level e h
-avoids_are level (Between op a b) h = let g = both (avoids level a) (avoids level b) h in (avoids_are level a g.0, avoids_are level b g.1)
+avoids_are level (Between op a b) h =
+    let g = both (avoids level a) (avoids level b) h in (avoids_are level a g.0, avoids_are level b g.1)
 avoids_are level (Choice common c x y) h =
     let g = both (avoids level c) (if avoids level x then avoids level y else false) h in
     let f = both (avoids level x) (avoids level y) g.1 in
     (avoids_are level c g.0, avoids_are level x f.0, avoids_are level y f.1)
-avoids_are level (Index e i) h = let g = both (avoids level e) (avoids level i) h in (avoids_are level e g.0, avoids_are level i g.1)
+avoids_are level (Index e i) h =
+    let g = both (avoids level e) (avoids level i) h in (avoids_are level e g.0, avoids_are level i g.1)
 avoids_are level (Select e place) h = avoids_are level e h
 avoids_are level (AttributeOf attribute e) h = avoids_are level e h
 avoids_are level (ToInteger type e) h = avoids_are level e h
@@ -54,7 +57,8 @@ pub record IsColumn (type : PokeType) (c label when : Option Term) (w : ℕ) : T
   pub present : when ≡ None
   pub width : scalar_width type ≡ Some w
 
-pub column_is : (type : PokeType) (c label when : Option Term) (w : ℕ) → column_width type c label when ≡ Some w → IsColumn type c label when w
+pub column_is : (type : PokeType) (c label when : Option Term) (w : ℕ) → column_width type c label when ≡ Some w →
+    IsColumn type c label when w
 column_is type c (Some label) when w h = absurd cc
 column_is type c None (Some when) w h = absurd cc
 column_is type c None None w h =
@@ -69,10 +73,12 @@ pub record AreBoth (o : Option ℕ) (os : Option (List ℕ)) (widths : List ℕ)
   pub others : os ≡ Some rest
   pub are : widths ≡ width ∷ rest
 
-pub both_are : (o : Option ℕ) (os : Option (List ℕ)) (widths : List ℕ) → column_then o os ≡ Some widths → AreBoth o os widths
+pub both_are : (o : Option ℕ) (os : Option (List ℕ)) (widths : List ℕ) →
+    column_then o os ≡ Some widths → AreBoth o os widths
 both_are None os widths h = absurd cc
 both_are (Some width) None widths h = absurd cc
-both_are (Some width) (Some rest) widths h = record { width = width; rest = rest; first = refl; others = refl; are = cc }
+both_are (Some width) (Some rest) widths h =
+    record { width = width; rest = rest; first = refl; others = refl; are = cc }
 
 pub columns_are : (fields : Fields) (widths : List ℕ) → column_widths fields ≡ Some widths → AreColumns fields
 columns_are NoFields widths h = tt
@@ -95,7 +101,9 @@ record AreRecords (o : Option (List ℕ)) (widths : List ℕ) : Type 0 where
   some : 1 ≤ stride_of widths
   few : stride_of widths ≤ 512
 
-kept_where : (p q : Bool) (given widths : List ℕ) → (if p then (if q then Records given else Apart) else Apart) ≡ Records widths → (p ≡ true) × (q ≡ true) × (given ≡ widths)
+kept_where : (p q : Bool) (given widths : List ℕ) →
+    (if p then (if q then Records given else Apart) else Apart) ≡ Records widths →
+    (p ≡ true) × (q ≡ true) × (given ≡ widths)
 kept_where true true given widths h = (refl, refl, cc)
 kept_where true false given widths h = absurd cc
 kept_where false q given widths h = absurd cc
@@ -104,9 +112,14 @@ records_are : (o : Option (List ℕ)) (widths : List ℕ) → records_of o ≡ R
 records_are None widths h = absurd cc
 records_are (Some given) widths h =
     let k = kept_where (nat_le 1 (stride_of given)) (nat_le (stride_of given) 512) given widths h in
-    record { are = ap Some k.2; some = rw (← k.2) (leb-true 1 (stride_of given) k.0); few = rw (← k.2) (leb-true (stride_of given) 512 k.1) }
+    record {
+      are = ap Some k.2;
+      some = rw (← k.2) (leb-true 1 (stride_of given) k.0);
+      few = rw (← k.2) (leb-true (stride_of given) 512 k.1);
+    }
 
-struct_is : (name : Naming) (pinned : Bool) (fields : Fields) (widths : List ℕ) → struct_row pinned fields ≡ Records widths → IsPackedStruct (StructOf name pinned fields) widths
+struct_is : (name : Naming) (pinned : Bool) (fields : Fields) (widths : List ℕ) →
+    struct_row pinned fields ≡ Records widths → IsPackedStruct (StructOf name pinned fields) widths
 struct_is name true fields widths h = absurd cc
 struct_is name false fields widths h =
     let r = records_are (column_widths fields) widths h in

@@ -37,4 +37,5 @@ IsScalar (UnionOf name alternatives) = ⊥
 -- the frame around the struct.
 abbrev pub AreColumns : Fields → Type 0
 AreColumns NoFields = Unit {0}
-AreColumns (FieldThen name order type constraint label condition rest) = IsScalar type × ClauseAvoids 1 constraint × (label ≡ None) × (condition ≡ None) × AreColumns rest
+AreColumns (FieldThen name order type constraint label condition rest) =
+    IsScalar type × ClauseAvoids 1 constraint × (label ≡ None) × (condition ≡ None) × AreColumns rest

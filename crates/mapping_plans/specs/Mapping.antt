@@ -29,7 +29,8 @@ closes move make inside = makes move (outer_of inside) (make inside)
 -- the constraint of a value, which is in its frame already
 unfoldable pub constrained : Option Term → Levels → (place : ℕ) → Value → Plan (Result Value FaultAt)
 constrained c levels place v =
-    then_ok (after (clause_steps c (pushed levels (Some v))) (constraint c (pushed levels (Some v)) place)) (λ u. Ended (Ok v))
+    then_ok (after (clause_steps c (pushed levels (Some v))) (constraint c (pushed levels (Some v)) place))
+    (λ u. Ended (Ok v))
 
 unfoldable mutual
   -- an unsigned number, as an integer, an offset or an integral struct that starts at s, after its own first step
@@ -40,31 +41,38 @@ unfoldable mutual
   number_plan (ArrayOf element bound) n levels s = Ended (Err (fault.Absent, s))
   number_plan (StructOf name pinned _) n levels s = Ended (Err (fault.Absent, s))
   number_plan (IntegralOf name type fields) n levels s =
-      framed levels (then_ok (digits_plan fields n type.width (opened levels) s) (closes Closes (struct_value name (part_names fields) s (s + type.width))))
+      framed levels (then_ok (digits_plan fields n type.width (opened levels) s)
+      (closes Closes (struct_value name (part_names fields) s (s + type.width))))
   number_plan (UnionOf name alternatives) n levels s = Ended (Err (fault.Absent, s))
 
   -- the fields of an integral struct from here on
   pub digits_plan : Parts → (n left : ℕ) → Levels → (s : ℕ) → Plan (Result Levels FaultAt)
   digits_plan NoParts n left levels s = Ended (Ok levels)
   digits_plan (PartThen name order ty c rest) n left levels s =
-      Tick (then_ok (then_ok (Tick (number_plan ty (first_digits n left (width_in (number_type ty))) levels s)) (constrained c levels s)) (λ v. digits_plan rest n (left - width_in (number_type ty)) (pushed levels (Some v)) s))
+      Tick (then_ok (then_ok (Tick (number_plan ty (first_digits n left (width_in (number_type ty))) levels s))
+      (constrained c levels s)) (λ v. digits_plan rest n (left - width_in (number_type ty)) (pushed levels (Some v)) s))
 
 -- a type that is read as one number
 unfoldable pub read_plan : (m : ℕ) → PokeType → IntegerType → Order → Levels → (s : ℕ) → Plan (Result Value FaultAt)
 read_plan m ty type order levels s =
-    Tick (if nat_le (s + type.width) m then Read s type.width order (λ n. number_plan ty n levels s) else Ended (Err (fault.End, s)))
+    Tick (if nat_le (s + type.width) m then Read s type.width order (λ n. number_plan ty n levels s)
+    else Ended (Err (fault.End, s)))
 
 -- what comes after a byte of a string that began at s: its end, or the bytes from there on
-unfoldable pub after_byte : (List ℕ → Plan (Result Value FaultAt)) → List ℕ → Levels → (s end : ℕ) → (byte : ℕ) → Plan (Result Value FaultAt)
+unfoldable pub after_byte : (List ℕ → Plan (Result Value FaultAt)) → List ℕ → Levels → (s end : ℕ) → (byte : ℕ) →
+    Plan (Result Value FaultAt)
 after_byte next bytes levels s end zero = makes Ends levels (text_value bytes s end)
-after_byte next bytes levels s end (suc b) = Made 1 Writes (text_level (bytes ++ suc b ∷ []) s levels) (next (bytes ++ suc b ∷ []))
+after_byte next bytes levels s end (suc b) =
+    Made 1 Writes (text_level (bytes ++ suc b ∷ []) s levels) (next (bytes ++ suc b ∷ []))
 
 -- The bytes of a string that began at s, from `place` on; at most n are tried. With n as m / 8 + 1 that is enough for
 -- all, and the first line is never reached.
 unfoldable pub text_plan : (m n : ℕ) → List ℕ → Levels → (s place : ℕ) → Plan (Result Value FaultAt)
 text_plan m zero bytes levels s place = Ended (Err (fault.End, s))
 text_plan m (suc n) bytes levels s place =
-    Tick (if nat_le (place + 8) m then Read place 8 Big (after_byte (λ more. text_plan m n more levels s (place + 8)) bytes levels s (place + 8)) else Ended (Err (fault.End, s)))
+    Tick (if nat_le (place + 8) m
+    then Read place 8 Big (after_byte (λ more. text_plan m n more levels s (place + 8)) bytes levels s (place + 8))
+    else Ended (Err (fault.End, s)))
 
 -- how an array is closed whose elements are kept in such a way
 abbrev pub array_move : Row → Move
@@ -73,21 +81,28 @@ array_move (Numbers width) = ClosesRow
 array_move (Records widths) = ClosesRow
 
 -- the plan of a type, as that of an array's element
-abbrev pub element_plan : PokeType → (Levels → ℕ → Plan (Result Value FaultAt)) → Levels → ℕ → Plan (Result Value FaultAt)
+abbrev pub element_plan : PokeType → (Levels → ℕ → Plan (Result Value FaultAt)) → Levels → ℕ →
+    Plan (Result Value FaultAt)
 element_plan ty p levels place = in_row (row_of ty) (p levels place)
 
 -- what comes after an element: the array continues after it, or ends before it
-unfoldable pub after_element : Extent → (Levels → ℕ → Plan (Result Opened FaultAt)) → Levels → (place : ℕ) → Result Value FaultAt → Plan (Result Opened FaultAt)
-after_element extent next levels place (Ok v) = if nat_eq (end_of v) place then Ended (Err (fault.NoBits, place)) else next (pushed levels (Some v)) (end_of v)
-after_element extent next levels place (Err f) = if ends_before extent f.0 then Ended (Ok (levels, place)) else Ended (Err f)
+unfoldable pub after_element : Extent → (Levels → ℕ → Plan (Result Opened FaultAt)) → Levels → (place : ℕ) →
+    Result Value FaultAt → Plan (Result Opened FaultAt)
+after_element extent next levels place (Ok v) =
+    if nat_eq (end_of v) place then Ended (Err (fault.NoBits, place)) else next (pushed levels (Some v)) (end_of v)
+after_element extent next levels place (Err f) =
+    if ends_before extent f.0 then Ended (Ok (levels, place)) else Ended (Err f)
 
 -- The elements of an array from s, after the first i; at most n are tried. Each takes at least its type's least width,
 -- and at least one bit. With n as one more than the number of such elements that fit in m bits, the first line is never
 -- reached.
-unfoldable pub elements_plan : (element : Levels → ℕ → Plan (Result Value FaultAt)) → (m s : ℕ) → Extent → (n i : ℕ) → Levels → (place : ℕ) → Plan (Result Opened FaultAt)
+unfoldable pub elements_plan : (element : Levels → ℕ → Plan (Result Value FaultAt)) → (m s : ℕ) → Extent → (n i : ℕ) →
+    Levels → (place : ℕ) → Plan (Result Opened FaultAt)
 elements_plan element m s extent zero i levels place = Ended (Err (fault.NoBits, place))
 elements_plan element m s extent (suc n) i levels place =
-    if is_due extent m s i place then Tick (and_then (element levels place) (after_element extent (elements_plan element m s extent n (i + 1)) levels place)) else (if is_met extent s place then Ended (Ok (levels, place)) else Ended (Err (fault.Bounds, s)))
+    if is_due extent m s i place then Tick
+    (and_then (element levels place) (after_element extent (elements_plan element m s extent n (i + 1)) levels place))
+    else (if is_met extent s place then Ended (Ok (levels, place)) else Ended (Err (fault.Bounds, s)))
 
 abbrev pub array_closes : PokeType → (s : ℕ) → Opened → Plan (Result Value FaultAt)
 array_closes element s r = closes (array_move (row_of element)) (array_value s r.1) r.0
@@ -99,7 +114,8 @@ abbrev pub union_closes : Naming → Levels → (s : ℕ) → Taken → Plan (Re
 union_closes name levels s t = makes Closes levels (union_value name s t)
 
 -- what comes after an attempt in these frames: the union has that alternative, or the next one is tried
-unfoldable pub after_attempt : Levels → Plan (Result Taken FaultAt) → (index : ℕ) → Naming → Result Value FaultAt → Plan (Result Taken FaultAt)
+unfoldable pub after_attempt : Levels → Plan (Result Taken FaultAt) → (index : ℕ) → Naming → Result Value FaultAt →
+    Plan (Result Taken FaultAt)
 after_attempt levels next index name (Ok v) = Ended (Ok (record { index = index; name = name; value = v }))
 after_attempt levels next index name (Err f) = if misses f.0 then Made 0 Clears levels next else Ended (Err f)
 
@@ -111,21 +127,29 @@ unfoldable mutual
   plan m StringOf order levels s = from_inside m s (Tick (framed levels (text_plan m (m / 8 + 1) [] levels s s)))
   plan m (ArrayOf element bound) order levels s =
       from_inside m s (Tick (then_ok (after (bound_steps bound levels) (extent_of bound levels s)) (λ extent.
-      framed levels (then_ok (elements_plan (element_plan element (plan m element order)) m s extent (count_of m (least_width element)) 0 (opened levels) s) (array_closes element s)))))
+      framed levels (then_ok (elements_plan (element_plan element (plan m element order)) m s extent
+      (count_of m (least_width element)) 0 (opened levels) s) (array_closes element s)))))
   plan m (StructOf name pinned fields) order levels s =
-      from_inside m s (Tick (framed levels (then_ok (fields_plan m pinned s fields order (opened levels) s s) (struct_closes name (field_names fields) s))))
-  plan m (IntegralOf name type fields) order levels s = from_inside m s (read_plan m (IntegralOf name type fields) type order levels s)
+      from_inside m s (Tick (framed levels
+      (then_ok (fields_plan m pinned s fields order (opened levels) s s) (struct_closes name (field_names fields) s))))
+  plan m (IntegralOf name type fields) order levels s =
+      from_inside m s (read_plan m (IntegralOf name type fields) type order levels s)
   plan m (UnionOf name alternatives) order levels s =
-      from_inside m s (Tick (framed levels (then_ok (alternatives_plan m alternatives 0 order (opened levels) s) (union_closes name levels s))))
+      from_inside m s (Tick (framed levels
+      (then_ok (alternatives_plan m alternatives 0 order (opened levels) s) (union_closes name levels s))))
 
-  pub fields_plan : (m : ℕ) → (pinned : Bool) → (s : ℕ) → Fields → Order → Levels → (behind top : ℕ) → Plan (Result Opened FaultAt)
+  pub fields_plan : (m : ℕ) → (pinned : Bool) → (s : ℕ) → Fields → Order → Levels → (behind top : ℕ) →
+      Plan (Result Opened FaultAt)
   fields_plan m pinned s NoFields order levels behind top = Ended (Ok (levels, top))
   fields_plan m pinned s (FieldThen name set ty c label when rest) order levels behind top =
       Tick (then_ok (after (clause_steps when levels) (condition when levels s)) (λ there.
-      if there then then_ok (after (label_steps pinned label levels) (field_start pinned label levels s behind)) (λ p. then_ok (then_ok (plan m ty (ordered set order) levels p) (constrained c levels p)) (λ v. fields_plan m pinned s rest order (pushed levels (Some v)) (end_of v) (max top (end_of v))))
+      if there then then_ok (after (label_steps pinned label levels) (field_start pinned label levels s behind)) (λ p.
+      then_ok (then_ok (plan m ty (ordered set order) levels p) (constrained c levels p))
+      (λ v. fields_plan m pinned s rest order (pushed levels (Some v)) (end_of v) (max top (end_of v))))
       else Made 0 Leaves (pushed levels None) (fields_plan m pinned s rest order (pushed levels None) behind top)))
 
   pub alternatives_plan : (m : ℕ) → Parts → (index : ℕ) → Order → Levels → (s : ℕ) → Plan (Result Taken FaultAt)
   alternatives_plan m NoParts index order levels s = Ended (Err (fault.Constraint, s))
   alternatives_plan m (PartThen name set ty c rest) index order levels s =
-      Tick (and_then (then_ok (plan m ty (ordered set order) levels s) (constrained c levels s)) (after_attempt levels (alternatives_plan m rest (index + 1) order levels s) index name))
+      Tick (and_then (then_ok (plan m ty (ordered set order) levels s) (constrained c levels s))
+      (after_attempt levels (alternatives_plan m rest (index + 1) order levels s) index name))

@@ -119,28 +119,36 @@ made_of bits (Read place width order rest) = made_of bits (rest (number_at bits 
 pub data AtMost {A : Type 0} : Plan A → ℕ → Type 0 where
   ended : {a : A} {c : ℕ} → AtMost (Ended a) c
   ticked : {p : Plan A} {d : ℕ} (c : ℕ) → 1 + c ≤ d → AtMost p c → AtMost (Tick p) d
-  noted : {count : ℕ} {move : Move} {levels : Levels} {p : Plan A} {c : ℕ} → AtMost p c → AtMost (Made count move levels p) c
-  given : {place width : ℕ} {order : Order} {rest : ℕ → Plan A} {c : ℕ} → ((n : ℕ) → AtMost (rest n) c) → AtMost (Read place width order rest) c
+  noted : {count : ℕ} {move : Move} {levels : Levels} {p : Plan A} {c : ℕ} → AtMost p c →
+      AtMost (Made count move levels p) c
+  given : {place width : ℕ} {order : Order} {rest : ℕ → Plan A} {c : ℕ} → ((n : ℕ) → AtMost (rest n) c) →
+      AtMost (Read place width order rest) c
 
 -- Whatever the plan reads: `ahead` steps were taken before it for which no value is made yet. At no time are more
 -- values made than steps taken, and at least `left` such steps are left at its end.
 pub data MadeWithin {A : Type 0} : Plan A → (ahead left : ℕ) → Type 0 where
   made_ended : {a : A} {ahead left : ℕ} → left ≤ ahead → MadeWithin (Ended a) ahead left
   made_tick : {p : Plan A} {ahead left : ℕ} → MadeWithin p (ahead + 1) left → MadeWithin (Tick p) ahead left
-  made_more : {count : ℕ} {move : Move} {levels : Levels} {p : Plan A} {ahead left : ℕ} (rest : ℕ) → count + rest ≤ ahead → MadeWithin p rest left → MadeWithin (Made count move levels p) ahead left
-  made_read : {place width : ℕ} {order : Order} {rest : ℕ → Plan A} {ahead left : ℕ} → ((n : ℕ) → MadeWithin (rest n) ahead left) → MadeWithin (Read place width order rest) ahead left
+  made_more : {count : ℕ} {move : Move} {levels : Levels} {p : Plan A} {ahead left : ℕ} (rest : ℕ) →
+      count + rest ≤ ahead → MadeWithin p rest left → MadeWithin (Made count move levels p) ahead left
+  made_read : {place width : ℕ} {order : Order} {rest : ℕ → Plan A} {ahead left : ℕ} →
+      ((n : ℕ) → MadeWithin (rest n) ahead left) → MadeWithin (Read place width order rest) ahead left
 
 -- whatever the plan reads: `made` values were made before it, and the size of its result is at most the number of
 -- values made at its end
 pub data Counts {A : Type 0} (size : A → ℕ) : Plan A → (made : ℕ) → Type 0 where
   counted : {a : A} {made : ℕ} → size a ≤ made → Counts size (Ended a) made
   count_tick : {p : Plan A} {made : ℕ} → Counts size p made → Counts size (Tick p) made
-  count_made : {count : ℕ} {move : Move} {levels : Levels} {p : Plan A} {made : ℕ} → Counts size p (made + count) → Counts size (Made count move levels p) made
-  count_read : {place width : ℕ} {order : Order} {rest : ℕ → Plan A} {made : ℕ} → ((n : ℕ) → Counts size (rest n) made) → Counts size (Read place width order rest) made
+  count_made : {count : ℕ} {move : Move} {levels : Levels} {p : Plan A} {made : ℕ} → Counts size p (made + count) →
+      Counts size (Made count move levels p) made
+  count_read : {place width : ℕ} {order : Order} {rest : ℕ → Plan A} {made : ℕ} →
+      ((n : ℕ) → Counts size (rest n) made) → Counts size (Read place width order rest) made
 
 -- whatever the plan reads, M holds of the frames that are stored, and Q of each result
 pub data Always {A : Type 0} (M : Levels → Type 0) (Q : A → Type 0) : Plan A → Type 0 where
   result : {a : A} → Q a → Always M Q (Ended a)
   after_tick : {p : Plan A} → Always M Q p → Always M Q (Tick p)
-  after_made : {count : ℕ} {move : Move} {levels : Levels} {p : Plan A} → M levels → Always M Q p → Always M Q (Made count move levels p)
-  after_read : {place width : ℕ} {order : Order} {rest : ℕ → Plan A} → ((n : ℕ) → n < 2 ^ width → Always M Q (rest n)) → Always M Q (Read place width order rest)
+  after_made : {count : ℕ} {move : Move} {levels : Levels} {p : Plan A} → M levels → Always M Q p →
+      Always M Q (Made count move levels p)
+  after_read : {place width : ℕ} {order : Order} {rest : ℕ → Plan A} → ((n : ℕ) → n < 2 ^ width → Always M Q (rest n)) →
+      Always M Q (Read place width order rest)

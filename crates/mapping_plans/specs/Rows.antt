@@ -13,7 +13,8 @@ avoids level (Name named place) = if nat_eq named level then false else true
 avoids level (Bracket e) = avoids level e
 avoids level (Before op e) = avoids level e
 avoids level (Between op a b) = if avoids level a then avoids level b else false
-avoids level (Choice common c x y) = if avoids level c then (if avoids level x then avoids level y else false) else false
+avoids level (Choice common c x y) =
+    if avoids level c then (if avoids level x then avoids level y else false) else false
 avoids level (Index e i) = if avoids level e then avoids level i else false
 avoids level (Select e place) = avoids level e
 avoids level (AttributeOf attribute e) = avoids level e
@@ -26,8 +27,8 @@ abbrev pub clause_avoids : (level : ℕ) → Option Term → Bool
 clause_avoids level None = true
 clause_avoids level (Some e) = avoids level e
 
--- how elements are kept, where arrays are packed: as other values, as numbers of so many bits side by side, or as structs of
--- numbers of such widths side by side
+-- how elements are kept, where arrays are packed: as other values, as numbers of so many bits side by side, or as
+-- structs of numbers of such widths side by side
 pub data Row : Type 0 where
   Apart : Row
   Numbers : (width : ℕ) → Row
@@ -58,7 +59,8 @@ column_then (Some width) None = None
 -- the widths of fields that all are such numbers
 abbrev pub column_widths : Fields → Option (List ℕ)
 column_widths NoFields = Some []
-column_widths (FieldThen name order type constraint label condition rest) = column_then (column_width type constraint label condition) (column_widths rest)
+column_widths (FieldThen name order type constraint label condition rest) =
+    column_then (column_width type constraint label condition) (column_widths rest)
 
 -- how many bytes numbers of these widths take side by side
 abbrev pub stride_of : List ℕ → ℕ
@@ -68,7 +70,8 @@ stride_of (width ∷ widths) = bytes_for width + stride_of widths
 -- at least one byte, and at most 512
 abbrev pub records_of : Option (List ℕ) → Row
 records_of None = Apart
-records_of (Some widths) = if nat_le 1 (stride_of widths) then (if nat_le (stride_of widths) 512 then Records widths else Apart) else Apart
+records_of (Some widths) =
+    if nat_le 1 (stride_of widths) then (if nat_le (stride_of widths) 512 then Records widths else Apart) else Apart
 
 abbrev pub struct_row : (pinned : Bool) → Fields → Row
 struct_row true _ = Apart

@@ -33,7 +33,8 @@ common_order Greater x t y u e = refl
 common_order GreaterEqual x t y u e = refl
 common_order op x t y u e = cc
 
-pub last_comparison : (op : Infix) → is_comparison op ≡ true → (op ≡ Equal → ⊥) → (op ≡ NotEqual → ⊥) → (op ≡ Less → ⊥) → (op ≡ LessEqual → ⊥) → (op ≡ Greater → ⊥) → op ≡ GreaterEqual
+pub last_comparison : (op : Infix) → is_comparison op ≡ true → (op ≡ Equal → ⊥) → (op ≡ NotEqual → ⊥) →
+    (op ≡ Less → ⊥) → (op ≡ LessEqual → ⊥) → (op ≡ Greater → ⊥) → op ≡ GreaterEqual
 last_comparison Equal e n1 n2 n3 n4 n5 = absurd (n1 refl)
 last_comparison NotEqual e n1 n2 n3 n4 n5 = absurd (n2 refl)
 last_comparison Less e n1 n2 n3 n4 n5 = absurd (n3 refl)
@@ -43,11 +44,13 @@ last_comparison GreaterEqual e n1 n2 n3 n4 n5 = refl
 last_comparison op e n1 n2 n3 n4 n5 = cc
 
 -- an operand that has a label, and the result for that label
-pub and_comes : (a : Evaluation) (f : Operand → Evaluation) (g : Evaluation) (l : Label) (n : ℕ) → ComesTo a l n → ((x : Operand) → operand_label x ≡ l → f x ≡ g) → and_operand a f ≡ with_steps n g
+pub and_comes : (a : Evaluation) (f : Operand → Evaluation) (g : Evaluation) (l : Label) (n : ℕ) → ComesTo a l n →
+    ((x : Operand) → operand_label x ≡ l → f x ≡ g) → and_operand a f ≡ with_steps n g
 unfolding and_operand
 and_comes a f g l n h k = rw (h.1, h.3, k h.0 h.2) refl
 
-integers_between : (op : Infix) (k : ℕ) (x : ℤ) (t : IntegerType) (y : ℤ) (u : IntegerType) (c : Computed) → c ≡ on_integers op x t y u → between op k (IntegerLabel x t) (IntegerLabel y u) ≡ gives c
+integers_between : (op : Infix) (k : ℕ) (x : ℤ) (t : IntegerType) (y : ℤ) (u : IntegerType) (c : Computed) →
+    c ≡ on_integers op x t y u → between op k (IntegerLabel x t) (IntegerLabel y u) ≡ gives c
 unfolding combined
 integers_between op k x t y u c e = rw (← e) (no_more c)
   where
@@ -64,18 +67,27 @@ label_integer (StructLabel name fields) n t e = cc
 label_integer (UnionLabel name index alternative) n t e = cc
 
 -- a name of an integer
-pub names_integer : (levels : Levels) (level place : ℕ) (v : Value) (n : ℤ) (t : IntegerType) → value_at levels level place ≡ Some v →
-    scalar_in (label_of v) ≡ Some (IntegerLabel n t) → ComesTo (evaluation (Name level place) levels) (IntegerLabel n t) 1
+pub names_integer : (levels : Levels) (level place : ℕ) (v : Value) (n : ℤ) (t : IntegerType) →
+    value_at levels level place ≡ Some v →
+    scalar_in (label_of v) ≡ Some (IntegerLabel n t) →
+    ComesTo (evaluation (Name level place) levels) (IntegerLabel n t) 1
 unfolding evaluation
 names_integer levels level place v n t e l = rw e (AtPath v, refl, label_integer (label_of v) n t l, refl)
 
 -- a comparison of two integers that are known at once
-pub compares : (op : Infix) (a b : Term) (levels : Levels) (x : ℤ) (t : IntegerType) (y : ℤ) (u : IntegerType) (holds : Bool) → is_comparison op ≡ true →
-    ComesTo (evaluation a levels) (IntegerLabel x t) 1 → ComesTo (evaluation b levels) (IntegerLabel y u) 1 → truth holds ≡ on_integers op x t y u →
+pub compares : (op : Infix) (a b : Term) (levels : Levels) (x : ℤ) (t : IntegerType) (y : ℤ) (u : IntegerType)
+    (holds : Bool) → is_comparison op ≡ true →
+    ComesTo (evaluation a levels) (IntegerLabel x t) 1 → ComesTo (evaluation b levels) (IntegerLabel y u) 1 →
+    truth holds ≡ on_integers op x t y u →
     ComesTo (evaluation (Between op a b) levels) (IntegerLabel (if holds then pos 1 else pos 0) (signed_type 32)) 3
 unfolding evaluation
 compares op a b levels x t y u holds is left right e =
-    let rest : (l : Operand) → operand_label l ≡ IntegerLabel x t → unless_settled (settled op (truth_of (operand_label l))) (and_operand (evaluation b levels) (λ r. between op (literal_length a + literal_length b) (operand_label l) (operand_label r))) ≡ with_steps 1 (gives (truth holds)) =
-    λ l is_l. rw (not_settled op (truth_of (operand_label l)) is) (and_comes (evaluation b levels) _ (gives (truth holds)) (IntegerLabel y u) 1 right (λ r is_r. rw (is_l, is_r) (integers_between op (literal_length a + literal_length b) x t y u (truth holds) e))) in
+    let rest : (l : Operand) → operand_label l ≡ IntegerLabel x t →
+    unless_settled (settled op (truth_of (operand_label l))) (and_operand (evaluation b levels)
+    (λ r. between op (literal_length a + literal_length b) (operand_label l) (operand_label r)))
+    ≡ with_steps 1 (gives (truth holds)) =
+    λ l is_l. rw (not_settled op (truth_of (operand_label l)) is)
+    (and_comes (evaluation b levels) _ (gives (truth holds)) (IntegerLabel y u) 1 right
+    (λ r is_r. rw (is_l, is_r) (integers_between op (literal_length a + literal_length b) x t y u (truth holds) e))) in
     let all = and_comes (evaluation a levels) _ (with_steps 1 (gives (truth holds))) (IntegerLabel x t) 1 left rest in
     rw all (Plain (IntegerLabel (if holds then pos 1 else pos 0) (signed_type 32)), refl, refl, refl)

@@ -7,7 +7,8 @@ use Rattle.pickle_meaning.specs.Values.{Value, Mapped, IntegerLabel, OffsetLabel
 use Rattle.value_store.specs.declared.value.Kind.TheVariants.{Array}
 use Rattle.value_store.specs.Labels.{kind_of}
 
-pub length_of : (v : Value) → kind_of (label_of v) ≡ Array → attribute_of Length (AtPath v) ≡ Ok (IntegerLabel (pos (member_count (members_of v))) (unsigned_type 64))
+pub length_of : (v : Value) → kind_of (label_of v) ≡ Array →
+    attribute_of Length (AtPath v) ≡ Ok (IntegerLabel (pos (member_count (members_of v))) (unsigned_type 64))
 length_of (Mapped (IntegerLabel n t) s e ms) k = cc
 length_of (Mapped (OffsetLabel n t u) s e ms) k = cc
 length_of (Mapped (TextLabel bs) s e ms) k = cc

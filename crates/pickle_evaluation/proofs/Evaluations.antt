@@ -22,37 +22,47 @@ grows a f = grows_by a.outcome a.steps f
 
 module _ (nodes : List Node) (limit : ℕ) where
   -- the first operand has no value, so the whole has none
-  pub first_stops : (before after : ℕ) (u : Unvalued) (a : Evaluation) (f : Operand → Evaluation) → Evaluated nodes limit before after (Err u) a → Evaluated nodes limit before after (Err u) (and_operand a f)
+  pub first_stops : (before after : ℕ) (u : Unvalued) (a : Evaluation) (f : Operand → Evaluation) →
+      Evaluated nodes limit before after (Err u) a → Evaluated nodes limit before after (Err u) (and_operand a f)
   unfolding and_operand
   first_stops b a' (Fault kind) a f h = rw h.0 (refl, h.1)
   first_stops b a' Limit a f h = let g = grows a f in (h.0, omega (arith, h.1, g))
 
   -- the first operand has a value, so the evaluation continues with the next
-  pub goes_on : (before between after : ℕ) (x : Computing) (r : Result Computing Unvalued) (a : Evaluation) (f : Operand → Evaluation) →
-      Evaluated nodes limit before between (Ok x) a → Evaluated nodes limit between after r (f (operand_of nodes x)) → Evaluated nodes limit before after r (and_operand a f)
+  pub goes_on : (before between after : ℕ) (x : Computing) (r : Result Computing Unvalued) (a : Evaluation)
+      (f : Operand → Evaluation) →
+      Evaluated nodes limit before between (Ok x) a → Evaluated nodes limit between after r (f (operand_of nodes x)) →
+      Evaluated nodes limit before after r (and_operand a f)
   unfolding and_operand
   goes_on b m a' x (Ok y) a f h g = rw h.0 (g.0, omega (arith, h.1, g.1))
   goes_on b m a' x (Err (Fault kind)) a f h g = rw h.0 (g.0, omega (arith, h.1, g.1))
   goes_on b m a' x (Err Limit) a f h g = rw h.0 (g.0, omega (arith, h.1, g.1))
 
   -- a step that was left, and one that was not
-  pub stepped : (before between after : ℕ) (r : Result Computing Unvalued) (a : Evaluation) → between ≡ before + 1 → Evaluated nodes limit between after r a → Evaluated nodes limit before after r (with_steps 1 a)
+  pub stepped : (before between after : ℕ) (r : Result Computing Unvalued) (a : Evaluation) → between ≡ before + 1 →
+      Evaluated nodes limit between after r a → Evaluated nodes limit before after r (with_steps 1 a)
   stepped b m a' (Ok x) a e h = (h.0, omega (arith, e, h.1))
   stepped b m a' (Err (Fault kind)) a e h = (h.0, omega (arith, e, h.1))
   stepped b m a' (Err Limit) a e h = (h.0, omega (arith, e, h.1))
 
-  pub not_stepped : (before after : ℕ) (a : Evaluation) → after ≡ before → after ≡ limit → Evaluated nodes limit before after (Err Limit) (with_steps 1 a)
+  pub not_stepped : (before after : ℕ) (a : Evaluation) → after ≡ before → after ≡ limit →
+      Evaluated nodes limit before after (Err Limit) (with_steps 1 a)
   not_stepped b a' a e l = (l, omega (arith, e, l))
 
   -- what was computed in no steps
-  pub computes : (before after : ℕ) (s : Scalar) (c : Computed) → after ≡ before → ◌≡◌ {A = Computed} (Ok (scalar_label s)) c → Evaluated nodes limit before after (Ok (computing.Scalar s)) (gives c)
+  pub computes : (before after : ℕ) (s : Scalar) (c : Computed) → after ≡ before →
+      ◌≡◌ {A = Computed} (Ok (scalar_label s)) c →
+      Evaluated nodes limit before after (Ok (computing.Scalar s)) (gives c)
   computes b a' s c e h = rw (← h) (refl, omega (arith, e))
 
-  pub faults : (before after : ℕ) (kind : MapFaultKind) (c : Computed) → after ≡ before → ◌≡◌ {A = Computed} (Err kind) c → Evaluated nodes limit before after (Err (Fault kind)) (gives c)
+  pub faults : (before after : ℕ) (kind : MapFaultKind) (c : Computed) → after ≡ before →
+      ◌≡◌ {A = Computed} (Err kind) c → Evaluated nodes limit before after (Err (Fault kind)) (gives c)
   faults b a' kind c e h = rw (← h) (refl, omega (arith, e))
 
-  pub comes_to : (before after : ℕ) (x : Computing) (a : Evaluation) → after ≡ before → a.steps ≡ 0 → a.outcome ≡ Ok (operand_of nodes x) → Evaluated nodes limit before after (Ok x) a
+  pub comes_to : (before after : ℕ) (x : Computing) (a : Evaluation) → after ≡ before → a.steps ≡ 0 →
+      a.outcome ≡ Ok (operand_of nodes x) → Evaluated nodes limit before after (Ok x) a
   comes_to b a' x a e z h = (h, omega (arith, e, z))
 
-  pub comes_not : (before after : ℕ) (kind : MapFaultKind) (a : Evaluation) → after ≡ before → a.steps ≡ 0 → a.outcome ≡ Err kind → Evaluated nodes limit before after (Err (Fault kind)) a
+  pub comes_not : (before after : ℕ) (kind : MapFaultKind) (a : Evaluation) → after ≡ before → a.steps ≡ 0 →
+      a.outcome ≡ Err kind → Evaluated nodes limit before after (Err (Fault kind)) a
   comes_not b a' kind a e z h = (h, omega (arith, e, z))

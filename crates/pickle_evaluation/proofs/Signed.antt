@@ -50,23 +50,27 @@ quotient_abs (negsuc a) (pos b) = rw (abs_neg (suc a / b)) (div-le_self (suc a) 
 quotient_abs (negsuc a) (negsuc b) = div-le_self (suc a) (suc b)
 
 pub remainder_fits : (s : Bool) (x y : ℤ) → IsSmall s x → SFits w128 (int_rem x y)
-remainder_fits s x y h = fits_signed_from_abs w128 (int_rem x y) (let a = remainder_abs x y in let b = small_abs s x h in let c : 2 ^ 64 < 2 ^ 127 = lit< tt in omega (arith, a, b, c))
+remainder_fits s x y h = fits_signed_from_abs w128 (int_rem x y) (let a = remainder_abs x y in
+    let b = small_abs s x h in let c : 2 ^ 64 < 2 ^ 127 = lit< tt in omega (arith, a, b, c))
   where
     remainder_abs : (x y : ℤ) → unsigned_abs (int_rem x y) ≤ unsigned_abs x
     remainder_abs (pos a) d = mod-le a (nat_abs d)
     remainder_abs (negsuc a) d = rw (abs_neg (suc a % nat_abs d)) (mod-le (suc a) (nat_abs d))
 
 pub quotient_fits : (s : Bool) (x y : ℤ) → IsSmall s x → SFits w128 (int_div x y)
-quotient_fits s x y h = fits_signed_from_abs w128 (int_div x y) (let a = quotient_abs x y in let b = small_abs s x h in let c : 2 ^ 64 < 2 ^ 127 = lit< tt in omega (arith, a, b, c))
+quotient_fits s x y h = fits_signed_from_abs w128 (int_div x y) (let a = quotient_abs x y in let b = small_abs s x h in
+    let c : 2 ^ 64 < 2 ^ 127 = lit< tt in omega (arith, a, b, c))
 
 -- what holds of a product that was passed
 pub passed_product : {A : Type 0} (f : ℤ → A) (x y : ℤ) (r : A) → SFits w128 x → SFits w128 y → SFits w128 (x *ℤ y) →
     r ≡ f (to_z w128 (of_z w128 (to_z w128 (of_z w128 x) *ℤ to_z w128 (of_z w128 y)))) → r ≡ f (x *ℤ y)
 passed_product f x y r fx fy fits e =
-    let same : to_z w128 (of_z w128 x) *ℤ to_z w128 (of_z w128 y) ≡ x *ℤ y = rw (to_z-of_z w128 x fx, to_z-of_z w128 y fy) refl in
+    let same : to_z w128 (of_z w128 x) *ℤ to_z w128 (of_z w128 y) ≡ x *ℤ y =
+    rw (to_z-of_z w128 x fx, to_z-of_z w128 y fy) refl in
     e ∙ ap (λ z. f (to_z w128 (of_z w128 z))) same ∙ ap f (to_z-of_z w128 (x *ℤ y) fits)
 
-pub unsigned_product : (number : IntegerType) (x y : ℤ) (low : ℕ) → number.signed ≡ false → IsSmall false x → IsSmall false y → low ≡ (nat_abs x * nat_abs y) % 2 ^ number.width →
+pub unsigned_product : (number : IntegerType) (x y : ℤ) (low : ℕ) → number.signed ≡ false → IsSmall false x →
+    IsSmall false y → low ≡ (nat_abs x * nat_abs y) % 2 ^ number.width →
     ◌≡◌ {A = Computed} (Ok (IntegerLabel (pos low) number)) (brought_integer number (x *ℤ y))
 unfolding brought modulo
 unsigned_product number (pos a) (pos b) low s h k e = rw (s, e) refl
@@ -80,16 +84,21 @@ below_64 false (pos n) h = omega (arith, h)
 below_64 false (negsuc n) h = absurd h
 
 pub shift_fits : (s : Bool) (x : ℤ) (n : ℕ) → IsSmall s x → n < 64 → SFits w128 (x *ℤ pos (2 ^ n))
-shift_fits s x n h lt = fits_signed_mul w128 x (pos (2 ^ n)) (2 ^ 64 - 1) (2 ^ 63) (below_64 s x h) (let h : 2 ^ n ≤ 2 ^ 63 = pow_mono {j = 63} (omega arith) in h) (lit< tt)
+shift_fits s x n h lt = fits_signed_mul w128 x (pos (2 ^ n)) (2 ^ 64 - 1) (2 ^ 63) (below_64 s x h)
+    (let h : 2 ^ n ≤ 2 ^ 63 = pow_mono {j = 63} (omega arith) in h) (lit< tt)
 
 pub zero_test : (x : ℤ) → SFits w128 x → nat_eq (of_z w128 x) 0 ≡ is_zero x
-zero_test x fits = elim (cases_eq (of_z w128 x) 0) [ inl e ↦ eq-eqb _ _ e ∙ sym (zero_bits x fits e) | inr ne ↦ ne_eqb _ _ ne ∙ sym (some_bits x ne) ]
+zero_test x fits = elim (cases_eq (of_z w128 x)
+    0) [ inl e ↦ eq-eqb _ _ e ∙ sym (zero_bits x fits e) | inr ne ↦ ne_eqb _ _ ne ∙ sym (some_bits x ne) ]
 
 pub mixed_fits : (s t : Bool) (x y : ℤ) → IsSmall s x → IsSmall t y → (s ≡ true) ⊎ (t ≡ true) → SFits w128 (x *ℤ y)
-mixed_fits s t x y h k (inl e) = fits_signed_mul w128 x y (2 ^ 63) (2 ^ 64 - 1) (signed_abs x (rw e at h)) (below_64 t y k) (lit< tt)
-mixed_fits s t x y h k (inr e) = fits_signed_mul w128 x y (2 ^ 64 - 1) (2 ^ 63) (below_64 s x h) (signed_abs y (rw e at k)) (lit< tt)
+mixed_fits s t x y h k (inl e) =
+    fits_signed_mul w128 x y (2 ^ 63) (2 ^ 64 - 1) (signed_abs x (rw e at h)) (below_64 t y k) (lit< tt)
+mixed_fits s t x y h k (inr e) =
+    fits_signed_mul w128 x y (2 ^ 64 - 1) (2 ^ 63) (below_64 s x h) (signed_abs y (rw e at k)) (lit< tt)
 
-pub unsigned_scaled : (number : IntegerType) (unit : ℕ) (x y : ℤ) (low : ℕ) → number.signed ≡ false → IsSmall false x → IsSmall false y → low ≡ (nat_abs x * nat_abs y) % 2 ^ number.width →
+pub unsigned_scaled : (number : IntegerType) (unit : ℕ) (x y : ℤ) (low : ℕ) → number.signed ≡ false → IsSmall false x →
+    IsSmall false y → low ≡ (nat_abs x * nat_abs y) % 2 ^ number.width →
     ◌≡◌ {A = Computed} (Ok (OffsetLabel (pos low) number unit)) (brought_offset number unit (x *ℤ y))
 unfolding brought modulo
 unsigned_scaled number unit (pos a) (pos b) low s h k e = rw (s, e) refl
@@ -97,4 +106,5 @@ unsigned_scaled number unit (pos a) (negsuc b) low s h k e = absurd k
 unsigned_scaled number unit (negsuc a) y low s h k e = absurd h
 
 pub small_fits : (s : Bool) (x : ℤ) → IsSmall s x → SFits w128 x
-small_fits s x h = fits_signed_from_abs w128 x (let a = small_abs s x h in let c : 2 ^ 64 < 2 ^ 127 = lit< tt in omega (arith, a, c))
+small_fits s x h =
+    fits_signed_from_abs w128 x (let a = small_abs s x h in let c : 2 ^ 64 < 2 ^ 127 = lit< tt in omega (arith, a, c))

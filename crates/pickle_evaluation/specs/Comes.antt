@@ -35,7 +35,8 @@ choice_part common c x y levels =
     gives (as_common common (operand_label z))))
 
 abbrev pub index_part : (e i : Term) → Levels → Evaluation
-index_part e i levels = and_operand (evaluation e levels) (λ p. and_operand (evaluation i levels) (λ n. leads_to (element p (operand_label n))))
+index_part e i levels = and_operand (evaluation e levels)
+    (λ p. and_operand (evaluation i levels) (λ n. leads_to (element p (operand_label n))))
 
 -- an evaluation gives a value of this label, in so many steps
 abbrev pub ComesTo : Evaluation → Label → ℕ → Type 0
@@ -48,7 +49,8 @@ computed_operand (Err u) = Err u
 
 -- what matters to an operator about an evaluation's value, once it has ended
 abbrev pub Seen : (limit before after : ℕ) → Result Content Unvalued → Evaluation → Type 0
-Seen limit before after (Ok content) a = (x : Operand) × (a.outcome ≡ Ok x) × IsHeld content (operand_label x) × (after ≡ before + a.steps)
+Seen limit before after (Ok content) a =
+    (x : Operand) × (a.outcome ≡ Ok x) × IsHeld content (operand_label x) × (after ≡ before + a.steps)
 Seen limit before after (Err (Fault kind)) a = (a.outcome ≡ Err kind) × (after ≡ before + a.steps)
 Seen limit before after (Err Limit) a = (after ≡ limit) × (limit < before + a.steps)
 

@@ -27,16 +27,19 @@ truth_label holds = IntegerLabel (if holds then pos 1 else pos 0) (signed_type 3
 
 -- the evaluation over the frames was computed
 abbrev pub Evaluates : (meter meter' : Meter) → Held → Result Computing Unvalued → (Levels → Evaluation) → Type 0
-Evaluates meter meter' store result of = (nodes : List Node) → Evaluated nodes meter.limit meter.steps meter'.steps result (of (levels nodes store))
+Evaluates meter meter' store result of =
+    (nodes : List Node) → Evaluated nodes meter.limit meter.steps meter'.steps result (of (levels nodes store))
 
 -- the same, after its first step was taken
 abbrev pub EvaluatesOn : (meter meter' : Meter) → Held → Result Computing Unvalued → (Levels → Evaluation) → Type 0
 EvaluatesOn meter meter' store result of =
-    (nodes : List Node) (before : ℕ) → meter.steps ≡ before + 1 → Evaluated nodes meter.limit before meter'.steps result (of (levels nodes store))
+    (nodes : List Node) (before : ℕ) → meter.steps ≡ before + 1 →
+    Evaluated nodes meter.limit before meter'.steps result (of (levels nodes store))
 
 -- what matters to an operator about the evaluation was computed
 abbrev pub Looks : (meter meter' : Meter) → Held → Result Content Unvalued → (Levels → Evaluation) → Type 0
-Looks meter meter' store result of = (nodes : List Node) → Seen meter.limit meter.steps meter'.steps result (of (levels nodes store))
+Looks meter meter' store result of =
+    (nodes : List Node) → Seen meter.limit meter.steps meter'.steps result (of (levels nodes store))
 
 -- an evaluated side becomes the result, converted to a type
 abbrev pub Chooses : Option IntegerType → (side result : Result Computing Unvalued) → Type 0
@@ -52,17 +55,21 @@ Combines meter meter' op literal x y result =
 
 -- the element of an operand at an index of this content
 abbrev pub Indexes : (p : Computing) → (n : Content) → Result Computing MapFaultKind → Type 0
-Indexes p n result = (nodes : List Node) (x : Label) → IsHeld n x → Comes nodes result (leads_to (element (operand_of nodes p) x)).outcome
+Indexes p n result = (nodes : List Node) (x : Label) → IsHeld n x →
+    Comes nodes result (leads_to (element (operand_of nodes p) x)).outcome
 
 -- the element of a value at an index was found
 abbrev pub FindsElement : StoredValue → (index : ℤ) → Result StoredValue MapFaultKind → Type 0
 FindsElement value index found =
-    (nodes : List Node) (type : IntegerType) → found_value nodes found ≡ element (AtPath (value_of nodes value)) (IntegerLabel index type)
+    (nodes : List Node) (type : IntegerType) →
+    found_value nodes found ≡ element (AtPath (value_of nodes value)) (IntegerLabel index type)
 
 -- an expression is the integer that was found, in one step
 abbrev pub FindsInteger : Held → Term → Option Typed → Type 0
-FindsInteger store e found = (nodes : List Node) → IfSome found (λ n. ComesTo (evaluation e (levels nodes store)) (IntegerLabel n.number n.of) 1)
+FindsInteger store e found =
+    (nodes : List Node) → IfSome found (λ n. ComesTo (evaluation e (levels nodes store)) (IntegerLabel n.number n.of) 1)
 
 -- an expression is the truth that was found, in three steps
 abbrev pub FindsTruth : Held → Term → Option Bool → Type 0
-FindsTruth store e found = (nodes : List Node) → IfSome found (λ holds. ComesTo (evaluation e (levels nodes store)) (truth_label holds) 3)
+FindsTruth store e found =
+    (nodes : List Node) → IfSome found (λ holds. ComesTo (evaluation e (levels nodes store)) (truth_label holds) 3)

@@ -163,7 +163,8 @@ fn infix(
     ensures limit { meter.new.limit ≡ meter.old.limit }
     ensures made { meter.new.made ≡ meter.old.made }
     ensures steps { meter.old.steps ≤ meter.new.steps }
-    ensures is { Evaluates meter.old meter.new store.now (computed_operand result) (infix_part op (term_of a.now) (term_of b.now)) }
+    ensures is { Evaluates meter.old meter.new store.now (computed_operand result)
+        (infix_part op (term_of a.now) (term_of b.now)) }
     ensures scalar { IfOk result IsScalar }
 {
     let left = look(a, store, meter)?;
@@ -193,7 +194,8 @@ fn choice<'a>(
     ensures limit { meter.new.limit ≡ meter.old.limit }
     ensures made { meter.new.made ≡ meter.old.made }
     ensures steps { meter.old.steps ≤ meter.new.steps }
-    ensures is { Evaluates meter.old meter.new store.now result (choice_part common.now (term_of c.now) (term_of x.now) (term_of y.now)) }
+    ensures is { Evaluates meter.old meter.new store.now result
+        (choice_part common.now (term_of c.now) (term_of x.now) (term_of y.now)) }
     ensures operand { IfOk result IsOperand }
 {
     let t = look(c, store, meter)?;
@@ -299,7 +301,8 @@ fn literal_length(e: &Resolved) -> u64
 
 /// The field or alternative of the value at a path.
 fn selected(x: Operand<'_>, place: usize) -> Result<Operand<'_>, MapFaultKind>
-    ensures is { (nodes : List TableNode) → Comes nodes result (leads_to (present (selected (operand_of nodes x.entry) place))).outcome }
+    ensures is { (nodes : List TableNode) →
+        Comes nodes result (leads_to (present (selected (operand_of nodes x.entry) place))).outcome }
     ensures operand { IfOk result IsOperand }
 {
     match x {

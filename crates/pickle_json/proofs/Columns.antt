@@ -18,10 +18,12 @@ fold_few column (byte ∷ bytes) = omega (arith, fold_few (next_column column by
 pub column_few : (before : List ℕ) → column_behind before ≤ length before + 1
 column_few before = omega (arith, fold_few 1 before)
 
-pub same_number : (a b : Option (List ℕ)) (key : List ℕ) (x y : Option ℕ) → x ≡ y → Appends a b (number_member key x) → Appends a b (number_member key y)
+pub same_number : (a b : Option (List ℕ)) (key : List ℕ) (x y : Option ℕ) → x ≡ y → Appends a b (number_member key x) →
+    Appends a b (number_member key y)
 same_number a b key x y same h = subst (λ n. Appends a b (number_member key n)) same h
 
-pub same_number_part : (a b : Option (List ℕ)) (key : List ℕ) (x y : Option ℕ) → x ≡ y → AppendsPart a b (number_member key x) → AppendsPart a b (number_member key y)
+pub same_number_part : (a b : Option (List ℕ)) (key : List ℕ) (x y : Option ℕ) → x ≡ y →
+    AppendsPart a b (number_member key x) → AppendsPart a b (number_member key y)
 same_number_part a b key x y same h = subst (λ n. AppendsPart a b (number_member key n)) same h
 
 pub same_text : (a b : Option (List ℕ)) (x y : List ℕ) → x ≡ y → Appends a b x → Appends a b y

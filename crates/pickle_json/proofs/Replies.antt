@@ -11,7 +11,8 @@ use Rattle.run_parts.specs.declared.outcome.Outcome.TheVariants as outcome
 use Rattle.run_parts.specs.declared.status.Status.TheVariants.{Done}
 use Rattle.pickle_json.specs.Checks.{Answers, AnswersPart, ChecksInJson, accepted, refused, accepted_json, refused_json}
 
-module _ (pickle : List ℕ) (explains : Bool) (notes : List Note) (table : Table) (old new : Option (List ℕ)) (tabled : IsTableOf pickle table) (asked : explains ≡ false → notes ≡ []) where
+module _ (pickle : List ℕ) (explains : Bool) (notes : List Note) (table : Table) (old new : Option (List ℕ))
+    (tabled : IsTableOf pickle table) (asked : explains ≡ false → notes ≡ []) where
   accepted_right : ChecksInJson pickle explains Done (accepted_json pickle notes)
   accepted_right = accepted notes tabled.1 asked
 
@@ -21,12 +22,20 @@ module _ (pickle : List ℕ) (explains : Bool) (notes : List Note) (table : Tabl
   pub accepted_part : AppendsPart old new (accepted_json pickle notes) → AnswersPart pickle explains old new
   accepted_part h = record { status = Done; text = accepted_json pickle notes; right = accepted_right; written = h }
 
-module _ (pickle : List ℕ) (explains : Bool) (note : Option Note) (refusal : Refusal) (old new : Option (List ℕ)) (refuses : Refuses pickle refusal) (asked : explains ≡ false → note ≡ None) where
-  refused_right : ChecksInJson pickle explains (outcome_status (outcome.Refused refusal)) (refused_json pickle refusal note)
+module _ (pickle : List ℕ) (explains : Bool) (note : Option Note) (refusal : Refusal) (old new : Option (List ℕ))
+    (refuses : Refuses pickle refusal) (asked : explains ≡ false → note ≡ None) where
+  refused_right : ChecksInJson pickle explains (outcome_status (outcome.Refused refusal))
+      (refused_json pickle refusal note)
   refused_right = refused note refuses asked
 
-  pub refused_whole : Appends old new (refused_json pickle refusal note) → Answers pickle explains (outcome_status (outcome.Refused refusal)) old new
+  pub refused_whole : Appends old new (refused_json pickle refusal note) →
+      Answers pickle explains (outcome_status (outcome.Refused refusal)) old new
   refused_whole h = record { text = refused_json pickle refusal note; right = refused_right; written = h }
 
   pub refused_part : AppendsPart old new (refused_json pickle refusal note) → AnswersPart pickle explains old new
-  refused_part h = record { status = outcome_status (outcome.Refused refusal); text = refused_json pickle refusal note; right = refused_right; written = h }
+  refused_part h = record {
+    status = outcome_status (outcome.Refused refusal);
+    text = refused_json pickle refusal note;
+    right = refused_right;
+    written = h;
+  }

@@ -21,7 +21,8 @@ lead false = codes ",{"
 -- an object for each note, with commas between them
 abbrev pub notes_json : (pickle : List ℕ) (first : Bool) → List Note → List ℕ
 notes_json pickle first [] = []
-notes_json pickle first (note ∷ notes) = (lead first ++ (note_members pickle note ++ codes "}")) ++ notes_json pickle false notes
+notes_json pickle first (note ∷ notes) =
+    (lead first ++ (note_members pickle note ++ codes "}")) ++ notes_json pickle false notes
 
 -- the answer for an accepted pickle with notes about it
 abbrev pub warnings_json : (pickle : List ℕ) → List Note → List ℕ
@@ -39,14 +40,17 @@ more_members pickle (Some note) = codes "," ++ note_members pickle note
 
 -- the answer for a refused pickle: the refusal and its place as `--faults json` has them, and the note about it
 abbrev pub refused_json : (pickle : List ℕ) → Refusal → Option Note → List ℕ
-refused_json pickle refusal note = codes "{" ++ (outcome_members (outcome.Refused refusal) ++ (more_members pickle note ++ codes "}\n"))
+refused_json pickle refusal note =
+    codes "{" ++ (outcome_members (outcome.Refused refusal) ++ (more_members pickle note ++ codes "}\n"))
 
 -- the right answers with their exit statuses; notes are there only if they are requested
 pub data ChecksInJson (pickle : List ℕ) (explains : Bool) : Status → List ℕ → Type 0 where
-  accepted : {declarations : List DeclarationTree} {types : Names} (notes : List Note) → IsAccepted pickle declarations types
+  accepted : {declarations : List DeclarationTree} {types : Names} (notes : List Note)
+      → IsAccepted pickle declarations types
       → (explains ≡ false → notes ≡ []) → ChecksInJson pickle explains Done (accepted_json pickle notes)
   refused : {refusal : Refusal} (note : Option Note) → Refuses pickle refusal
-      → (explains ≡ false → note ≡ None) → ChecksInJson pickle explains (outcome_status (outcome.Refused refusal)) (refused_json pickle refusal note)
+      → (explains ≡ false → note ≡ None)
+      → ChecksInJson pickle explains (outcome_status (outcome.Refused refusal)) (refused_json pickle refusal note)
 
 -- a right answer is written whole
 pub record Answers (pickle : List ℕ) (explains : Bool) (status : Status) (old new : Option (List ℕ)) : Type 0 where

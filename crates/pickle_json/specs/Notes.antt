@@ -26,7 +26,8 @@ end_column column marked = if marked == 0 then None else Some (column + marked)
 -- line and column, the column after what is meant, the sentence, and what to write instead
 abbrev pub place_members : (line column marked : ℕ) (sentence help : List ℕ) → List ℕ
 place_members line column marked sentence help =
-    (codes "\"line\":" ++ decimal line) ++ ((codes ",\"column\":" ++ decimal column) ++ (number_member (codes ",\"end\":") (end_column column marked)
+    (codes "\"line\":" ++ decimal line)
+    ++ ((codes ",\"column\":" ++ decimal column) ++ (number_member (codes ",\"end\":") (end_column column marked)
     ++ ((codes ",\"says\":" ++ json_string sentence) ++ text_member (codes ",\"write\":") help)))
 
 -- what to write instead, empty if a note doesn't say that
@@ -37,4 +38,5 @@ help_of note = unwrap_or (option_map (λ help. help.items) note.help) []
 abbrev pub note_members : (pickle : List ℕ) → Note → List ℕ
 note_members pickle note =
     let before = take (place_in pickle note.at) pickle in
-    place_members (line_behind before) (column_behind before) (marked_by pickle note.at note.length) note.sentence.items (help_of note)
+    place_members (line_behind before) (column_behind before) (marked_by pickle note.at note.length)
+    note.sentence.items (help_of note)

@@ -26,7 +26,8 @@ kind_member kind.Union = codes ",\"kind\":\"union\""
 -- the start of the object of a type: its name, its kind, its least width and the text of its declaration
 abbrev pub type_start : Told → (text : List ℕ) → List ℕ
 type_start told text =
-    (codes "{\"name\":" ++ json_string told.0) ++ (kind_member told.1 ++ (number_member (codes ",\"least\":") told.2 ++ (codes ",\"text\":" ++ json_string text)))
+    (codes "{\"name\":" ++ json_string told.0)
+    ++ (kind_member told.1 ++ (number_member (codes ",\"least\":") told.2 ++ (codes ",\"text\":" ++ json_string text)))
 
 -- the object of a type, on a line, with its fields
 abbrev pub type_object : Told → (text fields : List ℕ) → List ℕ
@@ -35,7 +36,8 @@ type_object told text fields = type_start told text ++ (fields ++ codes "}\n")
 -- lines of objects, one for each type
 pub data AreTypeObjects : List Told → List ℕ → Type 0 where
   no_object : AreTypeObjects [] []
-  one_object : {types : List Told} {lines : List ℕ} (told : Told) (text : List ℕ) {fields : List ℕ} → IsFieldsMember fields → AreTypeObjects types lines
+  one_object : {types : List Told} {lines : List ℕ} (told : Told) (text : List ℕ) {fields : List ℕ}
+      → IsFieldsMember fields → AreTypeObjects types lines
       → AreTypeObjects (types ++ told ∷ []) (lines ++ type_object told text fields)
 
 -- a writer got the objects of types
@@ -65,6 +67,7 @@ pub record WritesObjectPart (told : Told) (old new : Option (List ℕ)) : Type 0
 
 -- the types of an accepted pickle, or why it is refused
 pub data TypesInJson (pickle : List ℕ) : Saying → Type 0 where
-  told_types : {declarations : List DeclarationTree} {types : Names} {lines : List ℕ} → IsAccepted pickle declarations types
+  told_types : {declarations : List DeclarationTree} {types : Names} {lines : List ℕ}
+      → IsAccepted pickle declarations types
       → AreTypeObjects (map told_as (declared_in types)) lines → TypesInJson pickle (Text lines)
   refused_types : {refusal : Refusal} → Refuses pickle refusal → TypesInJson pickle (refusal_saying refusal)

@@ -78,8 +78,10 @@ pub fn put_refusal<W: Write>(
     explains: bool,
     w: &mut W,
 ) -> Result<Status, WriteFault>
-    ensures ok { Refuses pickle.now refusal → IfOk result (λ status. Answers pickle.now explains status (W.contents w.old) (W.contents w.new)) }
-    ensures err { Refuses pickle.now refusal → OnErr result (AnswersPart pickle.now explains (W.contents w.old) (W.contents w.new)) }
+    ensures ok { Refuses pickle.now refusal →
+        IfOk result (λ status. Answers pickle.now explains status (W.contents w.old) (W.contents w.new)) }
+    ensures err { Refuses pickle.now refusal →
+        OnErr result (AnswersPart pickle.now explains (W.contents w.old) (W.contents w.new)) }
 {
     let note = note_if(alloc, pickle, refusal, explains);
     put_refused(w, pickle, refusal, &note)?;
@@ -98,7 +100,8 @@ fn note_if(alloc: Global, pickle: &[u8], refusal: Refusal, explains: bool) -> Op
 
 fn put_accepted<W: Write>(w: &mut W, pickle: &[u8], notes: &[Note]) -> Result<(), WriteFault>
     ensures ok { OnOk result (Appends (W.contents w.old) (W.contents w.new) (accepted_json pickle.now notes.now)) }
-    ensures err { OnErr result (AppendsPart (W.contents w.old) (W.contents w.new) (accepted_json pickle.now notes.now)) }
+    ensures err { OnErr result
+        (AppendsPart (W.contents w.old) (W.contents w.new) (accepted_json pickle.now notes.now)) }
 {
     match notes {
         [] => put(w, b"{\"accepted\":true}\n"),
@@ -109,7 +112,8 @@ fn put_accepted<W: Write>(w: &mut W, pickle: &[u8], notes: &[Note]) -> Result<()
 #[tactic(auto, using(text_output::proofs::Parts::written))]
 fn put_warnings<W: Write>(w: &mut W, pickle: &[u8], notes: &[Note]) -> Result<(), WriteFault>
     ensures ok { OnOk result (Appends (W.contents w.old) (W.contents w.new) (warnings_json pickle.now notes.now)) }
-    ensures err { OnErr result (AppendsPart (W.contents w.old) (W.contents w.new) (warnings_json pickle.now notes.now)) }
+    ensures err { OnErr result
+        (AppendsPart (W.contents w.old) (W.contents w.new) (warnings_json pickle.now notes.now)) }
 {
     put(w, b"{\"accepted\":true,\"warnings\":[")?;
     put_notes(w, pickle, notes)?;
@@ -120,7 +124,8 @@ fn put_warnings<W: Write>(w: &mut W, pickle: &[u8], notes: &[Note]) -> Result<()
 // Writes an object for each note, with commas between them.
 fn put_notes<W: Write>(w: &mut W, pickle: &[u8], notes: &[Note]) -> Result<(), WriteFault>
     ensures ok { OnOk result (Appends (W.contents w.old) (W.contents w.new) (notes_json pickle.now true notes.now)) }
-    ensures err { OnErr result (AppendsPart (W.contents w.old) (W.contents w.new) (notes_json pickle.now true notes.now)) }
+    ensures err { OnErr result
+        (AppendsPart (W.contents w.old) (W.contents w.new) (notes_json pickle.now true notes.now)) }
 {
     let mut done = 0;
     while done < notes.len() {
@@ -133,8 +138,10 @@ fn put_notes<W: Write>(w: &mut W, pickle: &[u8], notes: &[Note]) -> Result<(), W
 // Writes the object of a note, after a comma unless it is the first.
 #[tactic(auto, using(text_output::proofs::Parts::written))]
 fn put_one<W: Write>(w: &mut W, pickle: &[u8], first: bool, note: &Note) -> Result<(), WriteFault>
-    ensures ok { OnOk result (Appends (W.contents w.old) (W.contents w.new) (lead first ++ (note_members pickle.now note.now ++ codes "}"))) }
-    ensures err { OnErr result (AppendsPart (W.contents w.old) (W.contents w.new) (lead first ++ (note_members pickle.now note.now ++ codes "}"))) }
+    ensures ok { OnOk result (Appends (W.contents w.old) (W.contents w.new)
+        (lead first ++ (note_members pickle.now note.now ++ codes "}"))) }
+    ensures err { OnErr result (AppendsPart (W.contents w.old) (W.contents w.new)
+        (lead first ++ (note_members pickle.now note.now ++ codes "}"))) }
 {
     put(w, lead(first))?;
     put_note(w, pickle, note)?;
@@ -155,8 +162,10 @@ fn put_refused<W: Write>(
     refusal: Refusal,
     note: &Option<Note>,
 ) -> Result<(), WriteFault>
-    ensures ok { OnOk result (Appends (W.contents w.old) (W.contents w.new) (refused_json pickle.now refusal note.now)) }
-    ensures err { OnErr result (AppendsPart (W.contents w.old) (W.contents w.new) (refused_json pickle.now refusal note.now)) }
+    ensures ok { OnOk result
+        (Appends (W.contents w.old) (W.contents w.new) (refused_json pickle.now refusal note.now)) }
+    ensures err { OnErr result
+        (AppendsPart (W.contents w.old) (W.contents w.new) (refused_json pickle.now refusal note.now)) }
 {
     put(w, b"{")?;
     Outcome::Refused(refusal).put_members(w)?;
@@ -178,8 +187,10 @@ fn put_more<W: Write>(w: &mut W, pickle: &[u8], note: &Option<Note>) -> Result<(
 
 #[tactic(auto, using(text_output::proofs::Parts::written))]
 fn put_after_comma<W: Write>(w: &mut W, pickle: &[u8], note: &Note) -> Result<(), WriteFault>
-    ensures ok { OnOk result (Appends (W.contents w.old) (W.contents w.new) (codes "," ++ note_members pickle.now note.now)) }
-    ensures err { OnErr result (AppendsPart (W.contents w.old) (W.contents w.new) (codes "," ++ note_members pickle.now note.now)) }
+    ensures ok { OnOk result
+        (Appends (W.contents w.old) (W.contents w.new) (codes "," ++ note_members pickle.now note.now)) }
+    ensures err { OnErr result
+        (AppendsPart (W.contents w.old) (W.contents w.new) (codes "," ++ note_members pickle.now note.now)) }
 {
     put(w, b",")?;
     put_note(w, pickle, note)?;

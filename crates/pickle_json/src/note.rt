@@ -35,8 +35,10 @@ fn put_placed<W: Write>(
 ) -> Result<(), WriteFault>
     requires column { place.column ≤ 2 ^ 63 }
     requires few { marked < 2 ^ 63 }
-    ensures ok { OnOk result (Appends (W.contents w.old) (W.contents w.new) (place_members place.line place.column marked text.now help.now)) }
-    ensures err { OnErr result (AppendsPart (W.contents w.old) (W.contents w.new) (place_members place.line place.column marked text.now help.now)) }
+    ensures ok { OnOk result (Appends (W.contents w.old) (W.contents w.new)
+        (place_members place.line place.column marked text.now help.now)) }
+    ensures err { OnErr result (AppendsPart (W.contents w.old) (W.contents w.new)
+        (place_members place.line place.column marked text.now help.now)) }
 {
     put_count(w, b"\"line\":", place.line as u64)?;
     put_count(w, b",\"column\":", place.column as u64)?;

@@ -86,7 +86,8 @@ fn put_type<W: Write>(
 #[tactic(auto, using(text_output::proofs::Parts::written))]
 fn put_start<W: Write>(w: &mut W, told: &DeclaredType<'_>, text: &[u8]) -> Result<(), WriteFault>
     ensures ok { OnOk result (Appends (W.contents w.old) (W.contents w.new) (type_start (told_of told.now) text.now)) }
-    ensures err { OnErr result (AppendsPart (W.contents w.old) (W.contents w.new) (type_start (told_of told.now) text.now)) }
+    ensures err { OnErr result
+        (AppendsPart (W.contents w.old) (W.contents w.new) (type_start (told_of told.now) text.now)) }
 {
     put_string(w, b"{\"name\":", told.name)?;
     put_kind(w, told.kind)?;
@@ -191,7 +192,8 @@ fn put_each<W: Write>(
 #[tactic(auto, using(text_output::proofs::Parts::written))]
 fn put_field<W: Write>(w: &mut W, first: bool, field: &FieldTexts<'_>) -> Result<(), WriteFault>
     ensures ok { OnOk result (Appends (W.contents w.old) (W.contents w.new) (comma first ++ field_json field.now)) }
-    ensures err { OnErr result (AppendsPart (W.contents w.old) (W.contents w.new) (comma first ++ field_json field.now)) }
+    ensures err { OnErr result
+        (AppendsPart (W.contents w.old) (W.contents w.new) (comma first ++ field_json field.now)) }
 {
     put(w, separator(first))?;
     field.put(w)?;

@@ -25,7 +25,8 @@ use Rattle.pickle_map.specs.Stops.{stop_finish}
 -- ---- a plan as that of an element
 
 -- where nothing is packed, a number is placed as others are, and a struct is closed as others are
-number_alike : (width : ℕ) (move : Move) (state : State) → moved false (as_number width move) state ≡ moved false move state
+number_alike : (width : ℕ) (move : Move) (state : State) →
+    moved false (as_number width move) state ≡ moved false move state
 number_alike width Opens state = refl
 number_alike width Drops state = refl
 number_alike width Clears state = refl
@@ -41,7 +42,8 @@ number_alike width (PacksRecord count) state = refl
 number_alike width ClosesRecords state = refl
 number_alike width (PacksStruct other) state = refl
 
-record_alike : (stride : ℕ) (move : Move) (state : State) → moved false (as_struct stride move) state ≡ moved false move state
+record_alike : (stride : ℕ) (move : Move) (state : State) →
+    moved false (as_struct stride move) state ≡ moved false move state
 record_alike stride Opens state = refl
 record_alike stride Drops state = refl
 record_alike stride Clears state = refl
@@ -158,27 +160,46 @@ module _ (world : World) (none : packs world.room ≡ false) (row : Row) where
   same_after : (move : Move) (state : State) → after_move world (packed row move) state ≡ after_move world move state
   same_after move state = rw none (unpacked row move state)
 
-  room_as_row : {A : Type 0} (state : State) (p : Plan A) → NeedsRoom world state p → NeedsRoom world state (as_row row p)
+  room_as_row : {A : Type 0} (state : State) (p : Plan A) → NeedsRoom world state p →
+      NeedsRoom world state (as_row row p)
   room_as_row state (Ended a) h = absurd h
   room_as_row state (Tick p) h = absurd h
-  room_as_row state (Made count move levels p) h = record { takes = takes_packed row move h.takes; least = h.least; before = rw (same_after move state) h.before }
+  room_as_row state (Made count move levels p) h =
+      record { takes = takes_packed row move h.takes; least = h.least; before = rw (same_after move state) h.before }
   room_as_row state (Read place bits order rest) h = absurd h
 
-  walk_as_row : {A : Type 0} {rest : Plan A} {k' j' : ℕ} {last : State} {p : Plan A} {k j : ℕ} {state : State} → Walk world rest k' j' last p k j state → Walk world (as_row row rest) k' j' last (as_row row p) k j state
+  walk_as_row : {A : Type 0} {rest : Plan A} {k' j' : ℕ} {last : State} {p : Plan A} {k j : ℕ} {state : State} →
+      Walk world rest k' j' last p k j state → Walk world (as_row row rest) k' j' last (as_row row p) k j state
   walk_as_row arrived = arrived
   walk_as_row (stepped w) = stepped (walk_as_row w)
-  walk_as_row (kept {move} {state} has w) = kept (rw (same_after move state) has) (rw (same_after move state) (walk_as_row w))
+  walk_as_row (kept {move} {state} has w) =
+      kept (rw (same_after move state) has) (rw (same_after move state) (walk_as_row w))
   walk_as_row (read n m w) = read n m (walk_as_row w)
 
-  done_as_row : {A : Type 0} {limit : ℕ} {p : Plan A} {k j k' j' : ℕ} {state state' : State} {a : A} → Follows world limit p k j state k' j' state' (Done a) → Follows world limit (as_row row p) k j state k' j' state' (Done a)
-  done_as_row h = record { rest = as_row row h.rest; at = h.at; walk = walk_as_row h.walk; ends = (ap (as_row row) h.ends.0, h.ends.1) }
+  done_as_row : {A : Type 0} {limit : ℕ} {p : Plan A} {k j k' j' : ℕ} {state state' : State} {a : A} →
+      Follows world limit p k j state k' j' state' (Done a) →
+      Follows world limit (as_row row p) k j state k' j' state' (Done a)
+  done_as_row h = record {
+    rest = as_row row h.rest;
+    at = h.at;
+    walk = walk_as_row h.walk;
+    ends = (ap (as_row row) h.ends.0, h.ends.1);
+  }
 
-  stops_as_row : {A : Type 0} {limit : ℕ} {p : Plan (Result A FaultAt)} {k j k' j' : ℕ} {state state' : State} (stop : Stop) → Follows world limit p k j state k' j' state' (stop_finish stop) →
+  stops_as_row : {A : Type 0} {limit : ℕ} {p : Plan (Result A FaultAt)} {k j k' j' : ℕ} {state state' : State}
+      (stop : Stop) → Follows world limit p k j state k' j' state' (stop_finish stop) →
       Follows world limit (as_row row p) k j state k' j' state' (stop_finish stop)
   stops_as_row (Fault kind place) h = done_as_row h
-  stops_as_row Limit h = record { rest = as_row row h.rest; at = h.at; walk = walk_as_row h.walk; ends = (step_as_row row h.rest h.ends.0, h.ends.1) }
-  stops_as_row Device h = record { rest = as_row row h.rest; at = h.at; walk = walk_as_row h.walk; ends = read_as_row row h.rest h.ends }
-  stops_as_row Memory h = record { rest = as_row row h.rest; at = h.at; walk = walk_as_row h.walk; ends = room_as_row h.at h.rest h.ends }
+  stops_as_row Limit h = record {
+    rest = as_row row h.rest;
+    at = h.at;
+    walk = walk_as_row h.walk;
+    ends = (step_as_row row h.rest h.ends.0, h.ends.1);
+  }
+  stops_as_row Device h =
+      record { rest = as_row row h.rest; at = h.at; walk = walk_as_row h.walk; ends = read_as_row row h.rest h.ends }
+  stops_as_row Memory h =
+      record { rest = as_row row h.rest; at = h.at; walk = walk_as_row h.walk; ends = room_as_row h.at h.rest h.ends }
 
 -- a store that doesn't pack a row packs none
 packs_none : (packing : Bool) (row : Row) → (row ≡ Apart → ⊥) → (packing ≡ true → row ≡ Apart) → packing ≡ false
@@ -186,35 +207,50 @@ packs_none true row other apart = absurd (other (apart refl))
 packs_none false row other apart = refl
 
 -- their array is closed as others are
-closes_alike : (world : World) (row : Row) → (packs world.room ≡ true → row ≡ Apart) → (state : State) → after_move world (array_move row) state ≡ after_move world Closes state
+closes_alike : (world : World) (row : Row) → (packs world.room ≡ true → row ≡ Apart) → (state : State) →
+    after_move world (array_move row) state ≡ after_move world Closes state
 closes_alike world Apart apart state = refl
-closes_alike world (Numbers width) apart state = let none = packs_none (packs world.room) (Numbers width) (λ e. cc) apart in rw none refl
-closes_alike world (Records widths) apart state = let none = packs_none (packs world.room) (Records widths) (λ e. cc) apart in rw none refl
+closes_alike world (Numbers width) apart state =
+    let none = packs_none (packs world.room) (Numbers width) (λ e. cc) apart in rw none refl
+closes_alike world (Records widths) apart state =
+    let none = packs_none (packs world.room) (Records widths) (λ e. cc) apart in rw none refl
 
 module _ {world : World} where
-  pub element_done : {A : Type 0} (row : Row) → (packs world.room ≡ true → row ≡ Apart) → {limit : ℕ} {p : Plan A} {k j k' j' : ℕ} {state state' : State} {a : A} → Follows world limit p k j state k' j' state' (Done a) →
+  pub element_done : {A : Type 0} (row : Row) → (packs world.room ≡ true → row ≡ Apart) →
+      {limit : ℕ} {p : Plan A} {k j k' j' : ℕ} {state state' : State} {a : A} →
+      Follows world limit p k j state k' j' state' (Done a) →
       Follows world limit (in_row row p) k j state k' j' state' (Done a)
   element_done Apart apart h = h
-  element_done (Numbers width) apart h = done_as_row world (packs_none (packs world.room) (Numbers width) (λ e. cc) apart) (Numbers width) h
-  element_done (Records widths) apart h = done_as_row world (packs_none (packs world.room) (Records widths) (λ e. cc) apart) (Records widths) h
+  element_done (Numbers width) apart h =
+      done_as_row world (packs_none (packs world.room) (Numbers width) (λ e. cc) apart) (Numbers width) h
+  element_done (Records widths) apart h =
+      done_as_row world (packs_none (packs world.room) (Records widths) (λ e. cc) apart) (Records widths) h
 
-  pub element_stopped : {A : Type 0} (row : Row) → (packs world.room ≡ true → row ≡ Apart) → {limit : ℕ} {p : Plan (Result A FaultAt)} {k j k' j' : ℕ} {state state' : State} (stop : Stop) → Follows world limit p k j state k' j' state' (stop_finish stop) →
+  pub element_stopped : {A : Type 0} (row : Row) → (packs world.room ≡ true → row ≡ Apart) →
+      {limit : ℕ} {p : Plan (Result A FaultAt)} {k j k' j' : ℕ} {state state' : State} (stop : Stop) →
+      Follows world limit p k j state k' j' state' (stop_finish stop) →
       Follows world limit (in_row row p) k j state k' j' state' (stop_finish stop)
   element_stopped Apart apart stop h = h
-  element_stopped (Numbers width) apart stop h = stops_as_row world (packs_none (packs world.room) (Numbers width) (λ e. cc) apart) (Numbers width) stop h
-  element_stopped (Records widths) apart stop h = stops_as_row world (packs_none (packs world.room) (Records widths) (λ e. cc) apart) (Records widths) stop h
+  element_stopped (Numbers width) apart stop h =
+      stops_as_row world (packs_none (packs world.room) (Numbers width) (λ e. cc) apart) (Numbers width) stop h
+  element_stopped (Records widths) apart stop h =
+      stops_as_row world (packs_none (packs world.room) (Records widths) (λ e. cc) apart) (Records widths) stop h
 
 module _ {world : World} (row : Row) (apart : packs world.room ≡ true → row ≡ Apart) where
-  pub array_moves : {state state' : State} → MovesTo world Closes state state' → MovesTo world (array_move row) state state'
+  pub array_moves : {state state' : State} → MovesTo world Closes state state' →
+      MovesTo world (array_move row) state state'
   array_moves {state} h = record { is = h.is ∙ sym (closes_alike world row apart state); has = h.has }
 
-  pub array_lacks : {state : State} {levels : Levels} → LacksRoom world state Closes levels → LacksRoom world state (array_move row) levels
-  array_lacks {state} h = record { takes = takes_array row; least = h.least; before = rw (closes_alike world row apart state) h.before }
+  pub array_lacks : {state : State} {levels : Levels} → LacksRoom world state Closes levels →
+      LacksRoom world state (array_move row) levels
+  array_lacks {state} h =
+      record { takes = takes_array row; least = h.least; before = rw (closes_alike world row apart state) h.before }
 
 -- ---- elements that are no numbers
 
 -- a shape that is neither an integer's nor an offset's
-pub no_scalar : (types : ℕ → PokeType) (s : Shape) → ((number : IntegerType) → s ≡ shape.Integer number → ⊥) → ((number : IntegerType) (unit : ℕ) → s ≡ shape.Offset number unit → ⊥) → scalar_width (open_shape types s) ≡ None
+pub no_scalar : (types : ℕ → PokeType) (s : Shape) → ((number : IntegerType) → s ≡ shape.Integer number → ⊥) →
+    ((number : IntegerType) (unit : ℕ) → s ≡ shape.Offset number unit → ⊥) → scalar_width (open_shape types s) ≡ None
 no_scalar types (shape.Integer number) no_integer no_offset = absurd (no_integer number refl)
 no_scalar types (shape.Offset number unit) no_integer no_offset = absurd (no_offset number unit refl)
 no_scalar types shape.String no_integer no_offset = refl
@@ -223,7 +259,8 @@ no_scalar types (shape.Struct name pinned fields) no_integer no_offset = refl
 no_scalar types (shape.Integral name number fields) no_integer no_offset = refl
 no_scalar types (shape.Union name alternatives) no_integer no_offset = refl
 
-pub not_scalar : (types : ℕ → PokeType) (s : Shape) → ((number : IntegerType) → s ≡ shape.Integer number → ⊥) → ((number : IntegerType) (unit : ℕ) → s ≡ shape.Offset number unit → ⊥) → IsScalar (open_shape types s) → ⊥
+pub not_scalar : (types : ℕ → PokeType) (s : Shape) → ((number : IntegerType) → s ≡ shape.Integer number → ⊥) →
+    ((number : IntegerType) (unit : ℕ) → s ≡ shape.Offset number unit → ⊥) → IsScalar (open_shape types s) → ⊥
 not_scalar types (shape.Integer number) no_integer no_offset h = no_integer number refl
 not_scalar types (shape.Offset number unit) no_integer no_offset h = no_offset number unit refl
 not_scalar types shape.String no_integer no_offset h = h
@@ -233,12 +270,15 @@ not_scalar types (shape.Integral name number fields) no_integer no_offset h = h
 not_scalar types (shape.Union name alternatives) no_integer no_offset h = h
 
 -- a shape that is no struct's either
-pub apart_shape : (types : ℕ → PokeType) (s : Shape) → ((number : IntegerType) → s ≡ shape.Integer number → ⊥) → ((number : IntegerType) (unit : ℕ) → s ≡ shape.Offset number unit → ⊥) →
-    ((name : Option Name) (pinned : Bool) (fields : Vec Field Global) → s ≡ shape.Struct name pinned fields → ⊥) → row_of (open_shape types s) ≡ Apart
+pub apart_shape : (types : ℕ → PokeType) (s : Shape) → ((number : IntegerType) → s ≡ shape.Integer number → ⊥) →
+    ((number : IntegerType) (unit : ℕ) → s ≡ shape.Offset number unit → ⊥) →
+    ((name : Option Name) (pinned : Bool) (fields : Vec Field Global) → s ≡ shape.Struct name pinned fields → ⊥) →
+    row_of (open_shape types s) ≡ Apart
 apart_shape types (shape.Integer number) no_integer no_offset no_struct = absurd (no_integer number refl)
 apart_shape types (shape.Offset number unit) no_integer no_offset no_struct = absurd (no_offset number unit refl)
 apart_shape types shape.String no_integer no_offset no_struct = refl
 apart_shape types (shape.Array element bound) no_integer no_offset no_struct = refl
-apart_shape types (shape.Struct name pinned fields) no_integer no_offset no_struct = absurd (no_struct name pinned fields refl)
+apart_shape types (shape.Struct name pinned fields) no_integer no_offset no_struct =
+    absurd (no_struct name pinned fields refl)
 apart_shape types (shape.Integral name number fields) no_integer no_offset no_struct = refl
 apart_shape types (shape.Union name alternatives) no_integer no_offset no_struct = refl

@@ -12,30 +12,51 @@ use Rattle.value_store.specs.Slots.{Held, HoldsInRoom, KeepsRoom, levels, level_
 use Rattle.pickle_map.proofs.Walks.{framed_ok, framed_stop}
 use Rattle.pickle_map.proofs.Worlds.{same_room, room_then, in_store, moves_to}
 
-begins : {known : Option (List ℕ)} (first : Held) {begun done last : Held} → KeepsRoom begun done → KeepsRoom done last → Moves first begun Opens → HoldsInRoom begun → MovesTo (world_between known first last) Opens (state_of first) (state_of begun)
+begins : {known : Option (List ℕ)} (first : Held) {begun done last : Held} → KeepsRoom begun done →
+    KeepsRoom done last → Moves first begun Opens → HoldsInRoom begun →
+    MovesTo (world_between known first last) Opens (state_of first) (state_of begun)
 begins first call leaving opens holds = moves_to (same_room first) (room_then call leaving) holds opens
 
-module _ (nodes : List Node) {A : Type 0} {first begun done : Held} (opening : KeepsRoom first begun) (call : KeepsRoom begun done) where
+module _ (nodes : List Node) {A : Type 0} {first begun done : Held} (opening : KeepsRoom first begun)
+    (call : KeepsRoom begun done) where
   -- the frame in which it stopped is there
-  pub left_open : level_count begun ≡ level_count first + 1 → (result : Result A Stop) → LeavesLevel nodes begun done result → OnErr result (1 < level_count done)
+  pub left_open : level_count begun ≡ level_count first + 1 → (result : Result A Stop) →
+      LeavesLevel nodes begun done result → OnErr result (1 < level_count done)
   left_open deeper (Ok x) leaves = tt
   left_open deeper (Err stop) stays = omega (arith, deeper, stays.depth)
 
   module _ {last : Held} (leaving : KeepsRoom done last) where
     -- it added the value, or stopped with the frames as they were
-    pub left_adds : level_count begun ≡ level_count first + 1 → levels nodes begun ≡ opened (levels nodes first) → (result : Result A Stop) → LeavesLevel nodes begun done result → DropsStopped done last result → AddsToLevel nodes first last result
-    left_adds deeper opens (Ok x) leaves same = record { same = tt; depth = let there = ap level_count same in omega (arith, there, deeper, leaves) }
-    left_adds deeper opens (Err stop) stays drops = record { same = drops.levels nodes ∙ stays.outer ∙ ap outer_of opens; depth = omega (arith, deeper, stays.depth, drops.depth) }
+    pub left_adds : level_count begun ≡ level_count first + 1 → levels nodes begun ≡ opened (levels nodes first) →
+        (result : Result A Stop) → LeavesLevel nodes begun done result → DropsStopped done last result →
+        AddsToLevel nodes first last result
+    left_adds deeper opens (Ok x) leaves same =
+        record { same = tt; depth = let there = ap level_count same in omega (arith, there, deeper, leaves) }
+    left_adds deeper opens (Err stop) stays drops = record {
+      same = drops.levels nodes ∙ stays.outer ∙ ap outer_of opens;
+      depth = omega (arith, deeper, stays.depth, drops.depth);
+    }
 
     -- it stored the value, or stopped, by a plan around that of the frame
-    module _ {known : Option (List ℕ)} {limit limit' k j k1 j1 k' j' : ℕ} (p : Plan (Result Value FaultAt)) {q : Plan (Result Value FaultAt)} (opens : Moves first begun Opens) (holds : HoldsInRoom begun)
-        (around : (finish : Finish (Result Value FaultAt)) → Follows (world_between known first last) limit (framed (levels nodes first) p) k j (state_of first) k' j' (state_of last) finish → Follows (world_between known first last) limit' q k1 j1 (state_of first) k' j' (state_of last) finish)
+    module _ {known : Option (List ℕ)} {limit limit' k j k1 j1 k' j' : ℕ} (p : Plan (Result Value FaultAt))
+        {q : Plan (Result Value FaultAt)} (opens : Moves first begun Opens) (holds : HoldsInRoom begun)
+        (around : (finish : Finish (Result Value FaultAt)) →
+        Follows (world_between known first last) limit (framed (levels nodes first) p) k j (state_of first) k' j'
+        (state_of last) finish →
+        Follows (world_between known first last) limit' q k1 j1 (state_of first) k' j' (state_of last) finish)
         (ends : A → ℕ) where
-      pub left_keeps : (result : Result A Stop) → DropsStopped done last result → KeepsOrStops (world_between known begun done) limit p k j (state_of begun) k' j' (state_of done) (levels nodes first) (levels nodes done) ends result →
-          KeepsOrStops (world_between known first last) limit' q k1 j1 (state_of first) k' j' (state_of last) (levels nodes first) (levels nodes last) ends result
+      pub left_keeps : (result : Result A Stop) → DropsStopped done last result →
+          KeepsOrStops (world_between known begun done) limit p k j (state_of begun) k' j' (state_of done)
+          (levels nodes first) (levels nodes done) ends result →
+          KeepsOrStops (world_between known first last) limit' q k1 j1 (state_of first) k' j' (state_of last)
+          (levels nodes first) (levels nodes last) ends result
       left_keeps (Ok x) same h =
-          let closed = framed_ok (levels nodes first) p (begins first call leaving opens holds) (in_store opening call leaving h.follows) in
-          let closed = subst (λ state. Follows (world_between known first last) limit (framed (levels nodes first) p) k j (state_of first) k' j' state (Done (Ok h.value))) (ap state_of (sym same)) closed in
+          let closed = framed_ok (levels nodes first) p (begins first call leaving opens holds)
+          (in_store opening call leaving h.follows) in
+          let closed = subst (λ state. Follows (world_between known first last) limit (framed (levels nodes first) p) k
+          j (state_of first) k' j' state (Done (Ok h.value))) (ap state_of (sym same)) closed in
           record { value = h.value; kept = ap (levels nodes) same ∙ h.kept; ends = h.ends; follows = around _ closed }
       left_keeps (Err stop) drops h =
-          around _ (framed_stop (levels nodes first) p (begins first call leaving opens holds) (moves_to (room_then opening call) (same_room last) drops.within drops.moves) stop (in_store opening call leaving h))
+          around _ (framed_stop (levels nodes first) p (begins first call leaving opens holds)
+          (moves_to (room_then opening call) (same_room last) drops.within drops.moves) stop
+          (in_store opening call leaving h))

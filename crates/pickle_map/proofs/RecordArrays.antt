@@ -22,9 +22,11 @@ use Rattle.pickle_map.proofs.Worlds.{has_room, lacks_these, same_room}
 -- ---- its structs
 
 -- an array that ends where it begins has none
-pub none_mapped : (size start end : ℕ) (rows : List (List ℕ)) → 1 ≤ size → end ≡ start + size * length rows → end ≡ start → rows ≡ []
+pub none_mapped : (size start end : ℕ) (rows : List (List ℕ)) → 1 ≤ size → end ≡ start + size * length rows →
+    end ≡ start → rows ≡ []
 none_mapped size start end [] some ends same = refl
-none_mapped size start end (r ∷ rows) some ends same = absurd (omega (arith, some, ends, same, mul-suc size (length rows)))
+none_mapped size start end (r ∷ rows) some ends same =
+    absurd (omega (arith, some, ends, same, mul-suc size (length rows)))
 
 module _ (nodes : List Node) (h : Held) (at : ℕ) (cs : List Shape) (start : ℕ) (outer : Levels) where
   -- there are no structs
@@ -36,19 +38,27 @@ module _ (nodes : List Node) (h : Held) (at : ℕ) (cs : List Shape) (start : �
   has_none _ (no_structs is opened) e = record { levels = is; opened = opened }
   has_none rows (some_structs some w) e = absurd (omega (arith, some, ap length e))
 
-  pub has_some : (rows : List (List ℕ)) → HasStructs nodes h at cs start outer rows → (rows ≡ [] → ⊥) → IsPackingStructs nodes h at cs start rows outer
+  pub has_some : (rows : List (List ℕ)) → HasStructs nodes h at cs start outer rows → (rows ≡ [] → ⊥) →
+      IsPackingStructs nodes h at cs start rows outer
   has_some _ (no_structs is opened) other = absurd (other refl)
   has_some rows (some_structs some w) other = w
 
   pub is_open : (rows : List (List ℕ)) → IsPackingStructs nodes h at cs start rows outer → IsStructsOf h
-  is_open rows w = record { names = nodes; type = at; shapes = cs; start = start; rows = rows; outer = outer; packing = w }
+  is_open rows w =
+      record { names = nodes; type = at; shapes = cs; start = start; rows = rows; outer = outer; packing = w }
 
   module _ (n : Held) (end : ℕ) (rows : List (List ℕ)) where
-    pub none_closed : rows ≡ [] → HasNone → IsClosed h n (λ names. ArrayLabel) start end → levels nodes n ≡ pushed outer (Some (array_value start end (structs_of nodes at cs start rows ∷ outer)))
-    none_closed e none is = is nodes ∙ ap (closed ArrayLabel start end) none.levels ∙ ap (λ rs. pushed outer (Some (array_value start end (structs_of nodes at cs start rs ∷ outer)))) (sym e)
+    pub none_closed : rows ≡ [] → HasNone → IsClosed h n (λ names. ArrayLabel) start end →
+        levels nodes n ≡ pushed outer (Some (array_value start end (structs_of nodes at cs start rows ∷ outer)))
+    none_closed e none is = is nodes ∙ ap (closed ArrayLabel start end) none.levels
+        ∙ ap (λ rs. pushed outer (Some (array_value start end (structs_of nodes at cs start rs ∷ outer)))) (sym e)
 
-    pub some_closed : IsPackingStructs nodes h at cs start rows outer → ClosesStructs h n → end ≡ start + struct_bits cs * length rows → levels nodes n ≡ pushed outer (Some (array_value start end (structs_of nodes at cs start rows ∷ outer)))
-    some_closed w closes ends = closes nodes at cs start rows outer w ∙ ap (λ e. pushed outer (Some (Mapped ArrayLabel start e (gathered (structs_of nodes at cs start rows))))) (sym ends)
+    pub some_closed : IsPackingStructs nodes h at cs start rows outer → ClosesStructs h n →
+        end ≡ start + struct_bits cs * length rows →
+        levels nodes n ≡ pushed outer (Some (array_value start end (structs_of nodes at cs start rows ∷ outer)))
+    some_closed w closes ends = closes nodes at cs start rows outer w
+        ∙ ap (λ e. pushed outer (Some (Mapped ArrayLabel start e (gathered (structs_of nodes at cs start rows)))))
+        (sym ends)
 
 -- ---- its move
 
@@ -65,19 +75,23 @@ module _ {first h : Held} (k : KeepsRoom first h) (packing : packs first.room �
   packing_too : packs h.room ≡ true
   packing_too = ap packs k.room ∙ packing
 
-  pub none_moves : {known : Option (List ℕ)} {n : Held} → IsOpened h → HoldsInRoom n → Moves h n Closes → MovesTo (world_between known first n) ClosesRow (state_of h) (state_of n)
+  pub none_moves : {known : Option (List ℕ)} {n : Held} → IsOpened h → HoldsInRoom n → Moves h n Closes →
+      MovesTo (world_between known first n) ClosesRow (state_of h) (state_of n)
   none_moves {n} opened holds moves = record {
     is = moves ∙ none_moved h opened ∙ ap (λ b. moved b ClosesRow (state_of h)) (sym packing);
     has = has_room holds (same_room n);
   }
 
-  pub some_moves : {known : Option (List ℕ)} {n : Held} → (HasNoNode h → ⊥) → HoldsInRoom n → Moves h n ClosesRecords → MovesTo (world_between known first n) ClosesRow (state_of h) (state_of n)
+  pub some_moves : {known : Option (List ℕ)} {n : Held} → (HasNoNode h → ⊥) → HoldsInRoom n → Moves h n ClosesRecords →
+      MovesTo (world_between known first n) ClosesRow (state_of h) (state_of n)
   some_moves {n} other holds moves = record {
     is = moves ∙ some_moved h other ∙ ap (λ b. moved b ClosesRow (state_of h)) (sym packing);
     has = has_room holds (same_room n);
   }
 
-  pub none_lacks : {known : Option (List ℕ)} (n : Held) {these : Levels} → IsOpened h → Exceeds h.room these → CannotMove h Closes → LacksRoom (world_between known first n) (state_of h) ClosesRow these
+  pub none_lacks : {known : Option (List ℕ)} (n : Held) {these : Levels} → IsOpened h → Exceeds h.room these →
+      CannotMove h Closes → LacksRoom (world_between known first n) (state_of h) ClosesRow these
   none_lacks n opened least cannot =
       let same = none_moved h opened ∙ ap (λ b. moved b ClosesRow (state_of h)) (sym packing_too) in
-      lacks_these k tt least (cannot.0, subst (λ (s : State). of_vector cannot.0 h.capacity < of_vector cannot.0 s.now) same cannot.1)
+      lacks_these k tt least
+      (cannot.0, subst (λ (s : State). of_vector cannot.0 h.capacity < of_vector cannot.0 s.now) same cannot.1)

@@ -44,7 +44,9 @@ scalar_least (StructOf name pinned _) h = absurd h
 scalar_least (IntegralOf name type _) h = absurd h
 scalar_least (UnionOf name alternatives) h = absurd h
 
-columns_least : (types : ℕ → PokeType) (fs : List Field) → AreColumns (open_fields types fs) → (has_label (open_fields types fs) ≡ false) × (sum_of_widths (open_fields types fs) ≡ struct_bits (shapes_of types fs))
+columns_least : (types : ℕ → PokeType) (fs : List Field) → AreColumns (open_fields types fs) →
+    (has_label (open_fields types fs) ≡ false)
+    × (sum_of_widths (open_fields types fs) ≡ struct_bits (shapes_of types fs))
 unfolding sum_of_widths
 columns_least types [] h = (refl, refl)
 columns_least types (f ∷ fs) h =
@@ -56,7 +58,8 @@ columns_least types (f ∷ fs) h =
     )
 
 -- the least width of such a struct is the one that it has
-pub record_least : (nodes : List Node) (at : ℕ) (fs : List Field) → IsRecordType nodes at fs → least_width (type_of nodes at) ≡ struct_bits (shapes_of (type_of nodes) fs)
+pub record_least : (nodes : List Node) (at : ℕ) (fs : List Field) → IsRecordType nodes at fs →
+    least_width (type_of nodes at) ≡ struct_bits (shapes_of (type_of nodes) fs)
 unfolding least_width
 record_least nodes at fs r =
     let c = columns_least (type_of nodes) fs r.columns in
@@ -67,16 +70,21 @@ bytes_least : (cs : List Shape) → struct_bytes cs ≤ struct_bits cs
 bytes_least [] = omega arith
 bytes_least (c ∷ cs) = let e = bytes_least cs in omega (arith, e)
 
-pub record_some : (nodes : List Node) (at : ℕ) (fs : List Field) → IsRecordType nodes at fs → 1 ≤ struct_bits (shapes_of (type_of nodes) fs)
+pub record_some : (nodes : List Node) (at : ℕ) (fs : List Field) → IsRecordType nodes at fs →
+    1 ≤ struct_bits (shapes_of (type_of nodes) fs)
 record_some nodes at fs r = let e = bytes_least (shapes_of (type_of nodes) fs) in omega (arith, e, r.stride, r.some)
 
 -- ---- one more struct
 
-pub structs_more : (names : Names) (of : ℕ) (cs : List Shape) (start place : ℕ) (rows : List (List ℕ)) (ds : List ℕ) → place ≡ start + struct_bits cs * length rows →
-    structs_of names of cs start (rows ++ ds ∷ []) ≡ structs_of names of cs start rows ++ Some (struct_of names of cs place ds) ∷ []
-structs_more names of cs start place [] ds e = let same : start ≡ place = omega (arith, e) in ap (λ s. Some (struct_of names of cs s ds) ∷ []) same
+pub structs_more : (names : Names) (of : ℕ) (cs : List Shape) (start place : ℕ) (rows : List (List ℕ)) (ds : List ℕ) →
+    place ≡ start + struct_bits cs * length rows →
+    structs_of names of cs start (rows ++ ds ∷ [])
+    ≡ structs_of names of cs start rows ++ Some (struct_of names of cs place ds) ∷ []
+structs_more names of cs start place [] ds e =
+    let same : start ≡ place = omega (arith, e) in ap (λ s. Some (struct_of names of cs s ds) ∷ []) same
 structs_more names of cs start place (r ∷ rows) ds e =
-    ap (λ os. Some (struct_of names of cs start r) ∷ os) (structs_more names of cs (start + struct_bits cs) place rows ds (omega (arith, e, mul-suc (struct_bits cs) (length rows))))
+    ap (λ os. Some (struct_of names of cs start r) ∷ os) (structs_more names of cs (start + struct_bits cs) place rows
+    ds (omega (arith, e, mul-suc (struct_bits cs) (length rows))))
 
 -- a stop at which an array ends is none for want of memory
 pub ends_with_memory : (extent : Extent) (stop : Stop) → stop_ends extent stop ≡ true → stop ≢ Memory
@@ -89,11 +97,18 @@ record HasFrames (nodes : List Node) (h : Held) (outer : Levels) : Type 0 where
   before : List (Option Value)
   are : levels nodes h ≡ before ∷ outer
 
-has_frames : (nodes : List Node) (h : Held) (at : ℕ) (cs : List Shape) (start : ℕ) (outer : Levels) (rows : List (List ℕ)) → HasStructs nodes h at cs start outer rows → HasFrames nodes h outer
+has_frames : (nodes : List Node) (h : Held) (at : ℕ) (cs : List Shape) (start : ℕ) (outer : Levels)
+    (rows : List (List ℕ)) → HasStructs nodes h at cs start outer rows → HasFrames nodes h outer
 has_frames nodes h at cs start outer _ (no_structs is opened) = record { before = []; are = is }
-has_frames nodes h at cs start outer _ (some_structs {rows} some w) = record { before = Some (structs_array nodes at cs start rows) ∷ []; are = structs-levels nodes h at cs start rows outer w }
+has_frames nodes h at cs start outer _ (some_structs {rows} some w) = record {
+  before = Some (structs_array nodes at cs start rows) ∷ [];
+  are = structs-levels nodes h at cs start rows outer w;
+}
 
-module _ (nodes : List Node) (h : Held) (at : ℕ) (fs : List Field) (r : IsRecordType nodes at fs) (start : ℕ) (outer : Levels) (rows : List (List ℕ)) (has : HasStructs nodes h at (shapes_of (type_of nodes) fs) start outer rows) (world : World) (packing : packs world.room ≡ true) (m : ℕ) (order : Order) (place : ℕ) where
+module _ (nodes : List Node) (h : Held) (at : ℕ) (fs : List Field) (r : IsRecordType nodes at fs) (start : ℕ)
+    (outer : Levels) (rows : List (List ℕ))
+    (has : HasStructs nodes h at (shapes_of (type_of nodes) fs) start outer rows) (world : World)
+    (packing : packs world.room ≡ true) (m : ℕ) (order : Order) (place : ℕ) where
   abbrev inside : Levels
   inside = structs_of nodes at (shapes_of (type_of nodes) fs) start rows ∷ outer
 
@@ -106,12 +121,16 @@ module _ (nodes : List Node) (h : Held) (at : ℕ) (fs : List Field) (r : IsReco
   elements_alike : Alike (FitsToo world) Same own element
   elements_alike =
       let f = has_frames nodes h at (shapes_of (type_of nodes) fs) start outer rows has in
-      let s = same_alike (record_rowed world packing r.widths f.before (structs_of nodes at (shapes_of (type_of nodes) fs) start rows) outer m (title_at nodes at) (open_fields (type_of nodes) fs) r.columns order place) in
+      let s = same_alike
+      (record_rowed world packing r.widths f.before (structs_of nodes at (shapes_of (type_of nodes) fs) start rows)
+      outer m (title_at nodes at) (open_fields (type_of nodes) fs) r.columns order place) in
       rw (f.are, ← r.stride, r.row, r.is) s
 
   module _ {limit k j k' j' : ℕ} {state state' : State} where
-    pub record_goes : {v : Value} → Follows world limit own k j state k' j' state' (Done (Ok v)) → Follows world limit element k j state k' j' state' (Done (Ok v))
+    pub record_goes : {v : Value} → Follows world limit own k j state k' j' state' (Done (Ok v)) →
+        Follows world limit element k j state k' j' state' (Done (Ok v))
     record_goes h = done_too elements_alike h
 
-    pub record_stops : (stop : Stop) → Follows world limit own k j state k' j' state' (stop_finish stop) → Follows world limit element k j state k' j' state' (stop_finish stop)
+    pub record_stops : (stop : Stop) → Follows world limit own k j state k' j' state' (stop_finish stop) →
+        Follows world limit element k j state k' j' state' (stop_finish stop)
     record_stops stop h = stop_too elements_alike stop h

@@ -24,12 +24,15 @@ use Rattle.pickle_map.specs.Row.{IsRecordType}
 use Rattle.pickle_map.proofs.Shapes.{struct_opened, names_as, below_as, sound_as}
 
 -- the bytes of a number behind others
-pub appended : {E : Type 0} (r : Result (Unit {0}) E) (old new bytes : List ℕ) (count w n : ℕ) → bytes ≡ to_le_bytes w64 n → w ≤ 64 → count + bytes_for w ≤ 512 →
-    (IsOk r ↔ (count + length (take (bytes_for w) bytes) ≤ 512)) → OnOk r (new ≡ old ++ take (bytes_for w) bytes) → new ≡ old ++ number_bytes (bytes_for w) n
+pub appended : {E : Type 0} (r : Result (Unit {0}) E) (old new bytes : List ℕ) (count w n : ℕ) →
+    bytes ≡ to_le_bytes w64 n → w ≤ 64 → count + bytes_for w ≤ 512 →
+    (IsOk r ↔ (count + length (take (bytes_for w) bytes) ≤ 512)) → OnOk r (new ≡ old ++ take (bytes_for w) bytes) →
+    new ≡ old ++ number_bytes (bytes_for w) n
 appended (Ok u) old new bytes count w n is most room fits h =
     h ∙ ap (λ bs. old ++ bs) (ap (take (bytes_for w)) is ∙ le_bytes-take (bytes_for w) n (omega (arith, most)))
 appended (Err e) old new bytes count w n is most room fits h =
-    let own : take (bytes_for w) bytes ≡ number_bytes (bytes_for w) n = ap (take (bytes_for w)) is ∙ le_bytes-take (bytes_for w) n (omega (arith, most)) in
+    let own : take (bytes_for w) bytes ≡ number_bytes (bytes_for w) n =
+    ap (take (bytes_for w)) is ∙ le_bytes-take (bytes_for w) n (omega (arith, most)) in
     absurd (false≢true (fits.1 (omega (arith, room, ap length own, length-number_bytes (bytes_for w) n))))
 
 -- the width of a number is that of its shape
@@ -51,17 +54,23 @@ width_is_bits (StructOf name pinned _) h = absurd h
 width_is_bits (IntegralOf name type _) h = absurd h
 width_is_bits (UnionOf name alternatives) h = absurd h
 
-pub stride_is : (types : ℕ → PokeType) (fs : List Field) (widths : List ℕ) → column_widths (open_fields types fs) ≡ Some widths → stride_of widths ≡ struct_bytes (shapes_of types fs)
+pub stride_is : (types : ℕ → PokeType) (fs : List Field) (widths : List ℕ) →
+    column_widths (open_fields types fs) ≡ Some widths → stride_of widths ≡ struct_bytes (shapes_of types fs)
 stride_is types [] widths h = let none : widths ≡ [] = cc in ap stride_of none
 stride_is types (f ∷ fs) widths h =
-    let b = both_are (column_width (types f.node) (optional_term f.constraint) (optional_term f.label) (optional_term f.condition)) (column_widths (open_fields types fs)) widths h in
-    let first = column_is (types f.node) (optional_term f.constraint) (optional_term f.label) (optional_term f.condition) b.width b.first in
+    let b = both_are
+    (column_width (types f.node) (optional_term f.constraint) (optional_term f.label) (optional_term f.condition))
+    (column_widths (open_fields types fs)) widths h in
+    let first = column_is (types f.node) (optional_term f.constraint) (optional_term f.label)
+    (optional_term f.condition) b.width b.first in
     let bits = bits_are (types f.node) b.width first.width in
     let rest = stride_is types fs b.rest b.others in
-    ap stride_of b.are ∙ ap (λ w. bytes_for w + stride_of b.rest) (sym bits) ∙ ap (λ n. bytes_for (number_bits (scalar_shape (types f.node))) + n) rest
+    ap stride_of b.are ∙ ap (λ w. bytes_for w + stride_of b.rest) (sym bits)
+    ∙ ap (λ n. bytes_for (number_bits (scalar_shape (types f.node))) + n) rest
 
 module _ (nodes : List Node) (table : IsTable nodes) (at : ℕ) (inside : at < length nodes) (other : Node) where
-  pub record_type : (name : Option Name) (pinned : Bool) (fields : Vec Field Global) (now : List Field) (widths : List ℕ) → (get_or nodes at other).shape ≡ shape.Struct name pinned fields → now ≡ fields.items →
+  pub record_type : (name : Option Name) (pinned : Bool) (fields : Vec Field Global) (now : List Field)
+      (widths : List ℕ) → (get_or nodes at other).shape ≡ shape.Struct name pinned fields → now ≡ fields.items →
       struct_row pinned (open_fields (type_of nodes) now) ≡ Records widths → IsRecordType nodes at now
   record_type name pinned fields now widths is e row =
       let opened = struct_opened nodes table at inside other name pinned fields now is e in

@@ -21,58 +21,85 @@ use Rattle.pickle_map.proofs.Worlds.{within_more, not_within}
 -- ---- along a walk over known bits
 
 -- within one step less
-tick_kept : {A : Type 0} (M : State → Type 0) (packing : Bool) (bits : List ℕ) (p : Plan A) (n m : ℕ) (state : State) → m ≡ n - 1 → KeepsBy M packing bits p m state → KeepsBy M packing bits (Tick p) n state
+tick_kept : {A : Type 0} (M : State → Type 0) (packing : Bool) (bits : List ℕ) (p : Plan A) (n m : ℕ) (state : State) →
+    m ≡ n - 1 → KeepsBy M packing bits p m state → KeepsBy M packing bits (Tick p) n state
 tick_kept M packing bits p zero m state e h = tt
-tick_kept M packing bits p (suc n) m state e h = subst (λ x. KeepsBy M packing bits p x state) (let same : m ≡ n = omega (arith, e) in same) h
+tick_kept M packing bits p (suc n) m state e h =
+    subst (λ x. KeepsBy M packing bits p x state) (let same : m ≡ n = omega (arith, e) in same) h
 
-kept_tick : {A : Type 0} (M : State → Type 0) (packing : Bool) (bits : List ℕ) (p : Plan A) (n m : ℕ) (state : State) → n ≡ m + 1 → KeepsBy M packing bits (Tick p) n state → KeepsBy M packing bits p m state
+kept_tick : {A : Type 0} (M : State → Type 0) (packing : Bool) (bits : List ℕ) (p : Plan A) (n m : ℕ) (state : State) →
+    n ≡ m + 1 → KeepsBy M packing bits (Tick p) n state → KeepsBy M packing bits p m state
 kept_tick M packing bits p zero m state e h = absurd (omega (arith, e))
-kept_tick M packing bits p (suc n) m state e h = subst (λ x. KeepsBy M packing bits p x state) (let same : n ≡ m = omega (arith, e) in same) h
+kept_tick M packing bits p (suc n) m state e h =
+    subst (λ x. KeepsBy M packing bits p x state) (let same : n ≡ m = omega (arith, e) in same) h
 
-no_step_left : {A : Type 0} (M : State → Type 0) (packing : Bool) (bits : List ℕ) (q : Plan A) (n : ℕ) (state : State) → NeedsStep q → n ≡ 0 → KeepsBy M packing bits q n state
+no_step_left : {A : Type 0} (M : State → Type 0) (packing : Bool) (bits : List ℕ) (q : Plan A) (n : ℕ) (state : State) →
+    NeedsStep q → n ≡ 0 → KeepsBy M packing bits q n state
 no_step_left M packing bits (Ended a) n state h e = absurd h
 no_step_left M packing bits (Tick p) zero state h e = tt
 no_step_left M packing bits (Tick p) (suc n) state h e = absurd (omega (arith, e))
 no_step_left M packing bits (Made count move these p) n state h e = absurd h
 no_step_left M packing bits (Read place width order rest) n state h e = absurd h
 
-no_room_left : {A : Type 0} (world : World) (bits : List ℕ) (q : Plan A) (n : ℕ) (state : State) → NeedsRoom world state q → KeepsBy (λ now. IsWithin now world.before) (packs world.room) bits q n state → ⊥
+no_room_left : {A : Type 0} (world : World) (bits : List ℕ) (q : Plan A) (n : ℕ) (state : State) →
+    NeedsRoom world state q → KeepsBy (λ now. IsWithin now world.before) (packs world.room) bits q n state → ⊥
 no_room_left world bits (Ended a) n state h g = absurd h
 no_room_left world bits (Tick p) n state h g = absurd h
-no_room_left world bits (Made count move these p) n state h g = not_within (after_move world move state) world.before h.before g.0
+no_room_left world bits (Made count move these p) n state h g =
+    not_within (after_move world move state) world.before h.before g.0
 no_room_left world bits (Read place width order rest) n state h g = absurd h
 
 module _ {world : World} (bits : List ℕ) (limit : ℕ) (known : world.known ≡ Some bits) {A : Type 0} where
   -- all that was stored on the way fitted
-  walk_has_room : {q : Plan A} {k' j' : ℕ} {last : State} {p : Plan A} {k j : ℕ} {state : State} → Walk world q k' j' last p k j state → KeepsBy (HasRoom world) (packs world.room) bits q (limit - k') last → KeepsBy (HasRoom world) (packs world.room) bits p (limit - k) state
+  walk_has_room : {q : Plan A} {k' j' : ℕ} {last : State} {p : Plan A} {k j : ℕ} {state : State} →
+      Walk world q k' j' last p k j state → KeepsBy (HasRoom world) (packs world.room) bits q (limit - k') last →
+      KeepsBy (HasRoom world) (packs world.room) bits p (limit - k) state
   walk_has_room arrived h = h
-  walk_has_room (stepped {p} {k} {state} w) h = tick_kept (HasRoom world) (packs world.room) bits p (limit - k) (limit - (k + 1)) state (omega arith) (walk_has_room w h)
+  walk_has_room (stepped {p} {k} {state} w) h = tick_kept (HasRoom world) (packs world.room) bits p
+      (limit - k) (limit - (k + 1)) state (omega arith) (walk_has_room w h)
   walk_has_room (kept has w) h = (has, walk_has_room w h)
-  walk_has_room (read {ps} {k} {state} n m w) h = subst (λ x. KeepsBy (HasRoom world) (packs world.room) bits (ps x) (limit - k) state) (m.exact bits known) (walk_has_room w h)
+  walk_has_room (read {ps} {k} {state} n m w) h =
+      subst (λ x. KeepsBy (HasRoom world) (packs world.room) bits (ps x) (limit - k) state)
+      (m.exact bits known) (walk_has_room w h)
 
   -- what holds of all that is stored, holds at the end of the way too
-  walk_still : (M : State → Type 0) {q : Plan A} {k' j' : ℕ} {last : State} {p : Plan A} {k j : ℕ} {state : State} → k' ≤ limit → Walk world q k' j' last p k j state → KeepsBy M (packs world.room) bits p (limit - k) state → KeepsBy M (packs world.room) bits q (limit - k') last
+  walk_still : (M : State → Type 0) {q : Plan A} {k' j' : ℕ} {last : State} {p : Plan A} {k j : ℕ} {state : State} →
+      k' ≤ limit → Walk world q k' j' last p k j state → KeepsBy M (packs world.room) bits p (limit - k) state →
+      KeepsBy M (packs world.room) bits q (limit - k') last
   walk_still M within arrived h = h
   walk_still M within (stepped {p} {k} {state} w) h =
       let up = (walk_rises w).0 in
       walk_still M within w (kept_tick M (packs world.room) bits p (limit - k) (limit - (k + 1)) state (omega arith) h)
   walk_still M within (kept has w) h = walk_still M within w h.1
-  walk_still M within (read {ps} {k} {state} n m w) h = walk_still M within w (subst (λ x. KeepsBy M (packs world.room) bits (ps x) (limit - k) state) (sym (m.exact bits known)) h)
+  walk_still M within (read {ps} {k} {state} n m w) h = walk_still M within w
+      (subst (λ x. KeepsBy M (packs world.room) bits (ps x) (limit - k) state) (sym (m.exact bits known)) h)
 
   -- ---- consequences for a call that followed a plan
 
-  pub room_when_done : {p : Plan A} {k j k' j' : ℕ} {state state' : State} {a : A} → Follows world limit p k j state k' j' state' (Done a) → KeepsBy (HasRoom world) (packs world.room) bits p (limit - k) state
-  room_when_done {k'} h = walk_has_room h.walk (subst (λ q. KeepsBy (HasRoom world) (packs world.room) bits q (limit - k') h.at) (sym h.ends.0) tt)
+  pub room_when_done : {p : Plan A} {k j k' j' : ℕ} {state state' : State} {a : A} →
+      Follows world limit p k j state k' j' state' (Done a) →
+      KeepsBy (HasRoom world) (packs world.room) bits p (limit - k) state
+  room_when_done {k'} h = walk_has_room h.walk
+      (subst (λ q. KeepsBy (HasRoom world) (packs world.room) bits q (limit - k') h.at) (sym h.ends.0) tt)
 
-  pub room_when_limited : {p : Plan A} {k j k' j' : ℕ} {state state' : State} → Follows world limit p k j state k' j' state' NoSteps → KeepsBy (HasRoom world) (packs world.room) bits p (limit - k) state
-  room_when_limited {k'} h = let e = h.ends.1 in walk_has_room h.walk (no_step_left (HasRoom world) (packs world.room) bits h.rest (limit - k') h.at h.ends.0 (omega arith))
+  pub room_when_limited : {p : Plan A} {k j k' j' : ℕ} {state state' : State} →
+      Follows world limit p k j state k' j' state' NoSteps →
+      KeepsBy (HasRoom world) (packs world.room) bits p (limit - k) state
+  room_when_limited {k'} h =
+      let e = h.ends.1 in
+      walk_has_room h.walk
+      (no_step_left (HasRoom world) (packs world.room) bits h.rest (limit - k') h.at h.ends.0 (omega arith))
 
-  pub no_room_before : {p : Plan A} {k j k' j' : ℕ} {state state' : State} → k' ≤ limit → Follows world limit p k j state k' j' state' NoRoom → KeepsBy (λ now. IsWithin now world.before) (packs world.room) bits p (limit - k) state → ⊥
-  no_room_before {k'} within h g = no_room_left world bits h.rest (limit - k') h.at h.ends (walk_still (λ now. IsWithin now world.before) within h.walk g)
+  pub no_room_before : {p : Plan A} {k j k' j' : ℕ} {state state' : State} → k' ≤ limit →
+      Follows world limit p k j state k' j' state' NoRoom →
+      KeepsBy (λ now. IsWithin now world.before) (packs world.room) bits p (limit - k) state → ⊥
+  no_room_before {k'} within h g = no_room_left world bits h.rest (limit - k') h.at h.ends
+      (walk_still (λ now. IsWithin now world.before) within h.walk g)
 
 -- ---- the same mapping again
 
-unbroken_kind : (kind : MapFaultKind) (P : Type 0) → (kind ≡ fault.Device → ⊥) → (kind ≡ fault.Memory → ⊥) → UnlessBreaks kind P → P
+unbroken_kind : (kind : MapFaultKind) (P : Type 0) → (kind ≡ fault.Device → ⊥) → (kind ≡ fault.Memory → ⊥) →
+    UnlessBreaks kind P → P
 unbroken_kind fault.End P device memory h = h
 unbroken_kind fault.Constraint P device memory h = h
 unbroken_kind fault.Bounds P device memory h = h
@@ -85,11 +112,13 @@ unbroken_kind fault.Limit P device memory h = h
 unbroken_kind fault.Device P device memory h = absurd (device refl)
 unbroken_kind fault.Memory P device memory h = absurd (memory refl)
 
-unbroken : (result : Result (Unit {0}) MapFault) (P : Type 0) → IfErr result (λ f. f.kind ≡ fault.Device → ⊥) → IfErr result (λ f. f.kind ≡ fault.Memory → ⊥) → UnlessBroken result P → P
+unbroken : (result : Result (Unit {0}) MapFault) (P : Type 0) → IfErr result (λ f. f.kind ≡ fault.Device → ⊥) →
+    IfErr result (λ f. f.kind ≡ fault.Memory → ⊥) → UnlessBroken result P → P
 unbroken (Ok u) P device memory h = h
 unbroken (Err f) P device memory h = unbroken_kind f.kind P device memory h
 
-not_wanted : (result : Result (Unit {0}) MapFault) (P : Type 0) → IfErr result (λ f. f.kind ≡ fault.Memory → P → ⊥) → P → IfErr result (λ f. f.kind ≡ fault.Memory → ⊥)
+not_wanted : (result : Result (Unit {0}) MapFault) (P : Type 0) → IfErr result (λ f. f.kind ≡ fault.Memory → P → ⊥) →
+    P → IfErr result (λ f. f.kind ≡ fault.Memory → ⊥)
 not_wanted (Ok u) P wanted h = tt
 not_wanted (Err f) P wanted h = λ e. wanted e h
 
@@ -97,10 +126,22 @@ pub wants_no_more : WantsNoMore
 wants_no_more type order start first second whole again =
     let bits = bits_of again.bytes in
     let then : HasRoomFor first.store.room first.store'.capacity type order start first.space first.meter again.bytes =
-    unbroken first.result (HasRoomFor first.store.room first.store'.capacity type order start first.space first.meter again.bytes) whole.device whole.memory (first.mapped.kept again.bytes again.known) in
-    let less = keeps_less (λ state. IsWithin state first.store'.capacity) (λ state. IsWithin state second.store.capacity) (λ state. within_more state first.store'.capacity second.store.capacity again.room) (packs first.store.room)
-    bits (plan (8 * first.space.len) type order no_values start) (first.meter.limit - first.meter.steps) (second.meter.limit - second.meter.steps) no_state again.steps then in
-    let less = subst (λ b. KeepsBy (λ state. IsWithin state second.store.capacity) b bits (plan (8 * first.space.len) type order no_values start) (second.meter.limit - second.meter.steps) no_state) (sym again.packing) less in
-    let now : HasRoomFor second.store.room second.store.capacity type order start second.space second.meter again.bytes =
-    subst (λ n. KeepsBy (λ state. IsWithin state second.store.capacity) (packs second.store.room) bits (plan (8 * n) type order no_values start) (second.meter.limit - second.meter.steps) no_state) (sym again.len) less in
-    not_wanted second.result (HasRoomFor second.store.room second.store.capacity type order start second.space second.meter again.bytes) (second.mapped.asked again.bytes again.same) now
+    unbroken first.result
+    (HasRoomFor first.store.room first.store'.capacity type order start first.space first.meter again.bytes)
+    whole.device whole.memory (first.mapped.kept again.bytes again.known) in
+    let less =
+    keeps_less (λ state. IsWithin state first.store'.capacity) (λ state. IsWithin state second.store.capacity)
+    (λ state. within_more state first.store'.capacity second.store.capacity again.room) (packs first.store.room)
+    bits (plan (8 * first.space.len) type order no_values start)
+    (first.meter.limit - first.meter.steps) (second.meter.limit - second.meter.steps) no_state again.steps then in
+    let less = subst (λ b. KeepsBy (λ state. IsWithin state second.store.capacity) b bits
+    (plan (8 * first.space.len) type order no_values start) (second.meter.limit - second.meter.steps) no_state)
+    (sym again.packing) less in
+    let now : HasRoomFor second.store.room second.store.capacity type order start second.space
+    second.meter again.bytes =
+    subst (λ n. KeepsBy (λ state. IsWithin state second.store.capacity) (packs second.store.room) bits
+    (plan (8 * n) type order no_values start) (second.meter.limit - second.meter.steps) no_state)
+    (sym again.len) less in
+    not_wanted second.result
+    (HasRoomFor second.store.room second.store.capacity type order start second.space second.meter again.bytes)
+    (second.mapped.asked again.bytes again.same) now

@@ -17,7 +17,8 @@ use Rattle.pickle_meaning.specs.Means.{field_names, part_names}
 use Rattle.value_store.specs.Names.{field_name, part_name, shape_title, shape_names, found_title, found_names, title_at, names_at}
 use Rattle.pickle_map.specs.Mappable.{IsFieldOf, IsPartOf}
 
-module _ (nodes : List Node) (table : IsTable nodes) (at : ℕ) (inside : at < length nodes) (other : Node) (s : Shape) (is : (get_or nodes at other).shape ≡ s) where
+module _ (nodes : List Node) (table : IsTable nodes) (at : ℕ) (inside : at < length nodes) (other : Node) (s : Shape)
+    (is : (get_or nodes at other).shape ≡ s) where
   found : slice_get nodes at ≡ Some (get_or nodes at other)
   found = slice_get-get_or nodes at other inside
 
@@ -40,52 +41,66 @@ module _ (nodes : List Node) (table : IsTable nodes) (at : ℕ) (inside : at < l
   abbrev Is : Shape → Type 0
   Is s = (get_or nodes at other).shape ≡ s
 
-  pub struct_opened : (name : Option Name) (pinned : Bool) (fields : Vec Field Global) (now : List Field) → Is (shape.Struct name pinned fields) → now ≡ fields.items →
+  pub struct_opened : (name : Option Name) (pinned : Bool) (fields : Vec Field Global) (now : List Field) →
+      Is (shape.Struct name pinned fields) → now ≡ fields.items →
       type_of nodes at ≡ StructOf (title_at nodes at) pinned (open_fields (type_of nodes) now)
   struct_opened name pinned fields now is e =
       opened_as nodes table at inside other _ is
-      ∙ ap (λ n. StructOf n pinned (open_fields (type_of nodes) fields.items)) (sym (title_as nodes table at inside other _ is))
+      ∙ ap (λ n. StructOf n pinned (open_fields (type_of nodes) fields.items))
+      (sym (title_as nodes table at inside other _ is))
       ∙ ap (λ fs. StructOf (title_at nodes at) pinned (open_fields (type_of nodes) fs)) (sym e)
 
-  pub integral_opened : (name : Option Name) (number : IntegerType) (fields : Vec Part Global) (now : List Part) → Is (shape.Integral name number fields) → now ≡ fields.items →
+  pub integral_opened : (name : Option Name) (number : IntegerType) (fields : Vec Part Global) (now : List Part) →
+      Is (shape.Integral name number fields) → now ≡ fields.items →
       type_of nodes at ≡ IntegralOf (title_at nodes at) number (open_parts (type_of nodes) now)
   integral_opened name number fields now is e =
       opened_as nodes table at inside other _ is
-      ∙ ap (λ n. IntegralOf n number (open_parts (type_of nodes) fields.items)) (sym (title_as nodes table at inside other _ is))
+      ∙ ap (λ n. IntegralOf n number (open_parts (type_of nodes) fields.items))
+      (sym (title_as nodes table at inside other _ is))
       ∙ ap (λ fs. IntegralOf (title_at nodes at) number (open_parts (type_of nodes) fs)) (sym e)
 
-  pub union_opened : (name : Option Name) (alternatives : Vec Part Global) (now : List Part) → Is (shape.Union name alternatives) → now ≡ alternatives.items →
+  pub union_opened : (name : Option Name) (alternatives : Vec Part Global) (now : List Part) →
+      Is (shape.Union name alternatives) → now ≡ alternatives.items →
       type_of nodes at ≡ UnionOf (title_at nodes at) (open_parts (type_of nodes) now)
   union_opened name alternatives now is e =
       opened_as nodes table at inside other _ is
-      ∙ ap (λ n. UnionOf n (open_parts (type_of nodes) alternatives.items)) (sym (title_as nodes table at inside other _ is))
+      ∙ ap (λ n. UnionOf n (open_parts (type_of nodes) alternatives.items))
+      (sym (title_as nodes table at inside other _ is))
       ∙ ap (λ fs. UnionOf (title_at nodes at) (open_parts (type_of nodes) fs)) (sym e)
 
 module _ (nodes : List Node) (at : ℕ) (inside : at < length nodes) (levels : ℕ) where
   -- the fields of a node that is no deeper than the frames that are left
-  pub fields_within : (fs : List Field) → FieldsBelow at fs → All IsSoundField fs → levels + fields_depth (open_fields (type_of nodes) fs) ≤ 65 → All (IsFieldOf nodes levels) fs
+  pub fields_within : (fs : List Field) → FieldsBelow at fs → All IsSoundField fs →
+      levels + fields_depth (open_fields (type_of nodes) fs) ≤ 65 → All (IsFieldOf nodes levels) fs
   unfolding fields_depth
   fields_within [] below sound deep i d lt = absurd (omega arith)
   fields_within (f ∷ fs) below sound deep zero d lt =
       let under : f.node < at = below 0 d (omega arith) in
-      let deep : levels + max (depth (type_of nodes f.node)) (fields_depth (open_fields (type_of nodes) fs)) ≤ 65 = deep in
+      let deep : levels + max (depth (type_of nodes f.node)) (fields_depth (open_fields (type_of nodes) fs)) ≤ 65 =
+      deep in
       let first : levels + depth (type_of nodes f.node) ≤ 65 = omega (arith, deep) in
       record { inside = omega (arith, under, inside); deep = first; sound = sound 0 d (omega arith) }
   fields_within (f ∷ fs) below sound deep (suc i) d lt =
-      let deep : levels + max (depth (type_of nodes f.node)) (fields_depth (open_fields (type_of nodes) fs)) ≤ 65 = deep in
-      fields_within fs (λ k e l. below (suc k) e (omega arith)) (λ k e l. sound (suc k) e (omega arith)) (omega (arith, deep)) i d (omega arith)
+      let deep : levels + max (depth (type_of nodes f.node)) (fields_depth (open_fields (type_of nodes) fs)) ≤ 65 =
+      deep in
+      fields_within fs (λ k e l. below (suc k) e (omega arith)) (λ k e l. sound (suc k) e (omega arith))
+      (omega (arith, deep)) i d (omega arith)
 
-  pub parts_within : (ps : List Part) → PartsBelow at ps → All IsSoundPart ps → levels + parts_depth (open_parts (type_of nodes) ps) ≤ 65 → All (IsPartOf nodes levels) ps
+  pub parts_within : (ps : List Part) → PartsBelow at ps → All IsSoundPart ps →
+      levels + parts_depth (open_parts (type_of nodes) ps) ≤ 65 → All (IsPartOf nodes levels) ps
   unfolding parts_depth
   parts_within [] below sound deep i d lt = absurd (omega arith)
   parts_within (p ∷ ps) below sound deep zero d lt =
       let under : p.node < at = below 0 d (omega arith) in
-      let deep : levels + max (depth (type_of nodes p.node)) (parts_depth (open_parts (type_of nodes) ps)) ≤ 65 = deep in
+      let deep : levels + max (depth (type_of nodes p.node)) (parts_depth (open_parts (type_of nodes) ps)) ≤ 65 =
+      deep in
       let first : levels + depth (type_of nodes p.node) ≤ 65 = omega (arith, deep) in
       record { inside = omega (arith, under, inside); deep = first; sound = sound 0 d (omega arith) }
   parts_within (p ∷ ps) below sound deep (suc i) d lt =
-      let deep : levels + max (depth (type_of nodes p.node)) (parts_depth (open_parts (type_of nodes) ps)) ≤ 65 = deep in
-      parts_within ps (λ k e l. below (suc k) e (omega arith)) (λ k e l. sound (suc k) e (omega arith)) (omega (arith, deep)) i d (omega arith)
+      let deep : levels + max (depth (type_of nodes p.node)) (parts_depth (open_parts (type_of nodes) ps)) ≤ 65 =
+      deep in
+      parts_within ps (λ k e l. below (suc k) e (omega arith)) (λ k e l. sound (suc k) e (omega arith))
+      (omega (arith, deep)) i d (omega arith)
 
 -- one above the highest node that fields name
 abbrev pub fields_bound : List Field → ℕ
@@ -121,7 +136,8 @@ part_bounded (q ∷ ps) zero p lt e = let same : p ≡ q = e in let n = ap (λ (
 part_bounded (q ∷ ps) (suc i) p lt e = let below = part_bounded ps i p (omega arith) e in omega arith
 
 -- what holds of all holds of one
-pub of_one : {A : Type 0} (P : A → Type 0) (xs : List A) (i : ℕ) (x : A) → All P xs → i < length xs → x ≡ get_or xs i x → P x
+pub of_one : {A : Type 0} (P : A → Type 0) (xs : List A) (i : ℕ) (x : A) → All P xs → i < length xs →
+    x ≡ get_or xs i x → P x
 of_one P xs i x all lt e = subst P (sym e) (all i x lt)
 
 -- the names of fields, by the type and by its shape
@@ -134,7 +150,8 @@ parts_named types [] = refl
 parts_named types (p ∷ ps) = ap (λ rest. part_name p ∷ rest) (parts_named types ps)
 
 -- the name of an alternative by its number
-pub name_of_one : (ps : List Part) (i : ℕ) (p : Part) → i < length ps → p ≡ get_or ps i p → unwrap_or (slice_get (map part_name ps) i) None ≡ part_name p
+pub name_of_one : (ps : List Part) (i : ℕ) (p : Part) → i < length ps → p ≡ get_or ps i p →
+    unwrap_or (slice_get (map part_name ps) i) None ≡ part_name p
 name_of_one [] i p lt e = absurd (omega arith)
 name_of_one (q ∷ ps) zero p lt e = let same : p ≡ q = e in ap part_name (sym same)
 name_of_one (q ∷ ps) (suc i) p lt e = name_of_one ps i p (omega arith) e

@@ -29,7 +29,8 @@ use Rattle.pickle_map.proofs.FaultKinds.{followed_kind}
 use Rattle.pickle_map.proofs.Repeated.{room_when_done, room_when_limited, no_room_before}
 use Rattle.pickle_map.proofs.Followed.{followed_limit, followed_room, followed_result, followed_too_long, followed_part}
 
-answered : (bits : List ℕ) (ty : PokeType) (order : Order) (s limit : ℕ) (kind : MapFaultKind) (at k j : ℕ) → IsMeant kind → Answer bits ty order s limit (Err (kind, at)) k j → FaultMeans bits ty order s limit kind at k j
+answered : (bits : List ℕ) (ty : PokeType) (order : Order) (s limit : ℕ) (kind : MapFaultKind) (at k j : ℕ) →
+    IsMeant kind → Answer bits ty order s limit (Err (kind, at)) k j → FaultMeans bits ty order s limit kind at k j
 answered bits ty order s limit fault.End at k j m a = a
 answered bits ty order s limit fault.Constraint at k j m a = a
 answered bits ty order s limit fault.Bounds at k j m a = a
@@ -55,7 +56,9 @@ no_run fault.Limit m r = m
 no_run fault.Device m r = m
 no_run fault.Memory m r = m
 
-meant_counts : (space : SpaceView) (meter meter' : Meter) (store store' : Held) (p : Plan (Result Value FaultAt)) (kind : MapFaultKind) (at : ℕ) → IsMeant kind → RunsTo space meter meter' store store' p (Done (Err (kind, at))) → RunsTo space meter meter' store store' p (fault_finish kind at)
+meant_counts : (space : SpaceView) (meter meter' : Meter) (store store' : Held) (p : Plan (Result Value FaultAt))
+    (kind : MapFaultKind) (at : ℕ) → IsMeant kind → RunsTo space meter meter' store store' p (Done (Err (kind, at))) →
+    RunsTo space meter meter' store store' p (fault_finish kind at)
 meant_counts space meter meter' store store' p fault.End at m h = h
 meant_counts space meter meter' store store' p fault.Constraint at m h = h
 meant_counts space meter meter' store store' p fault.Bounds at m h = h
@@ -68,45 +71,65 @@ meant_counts space meter meter' store store' p fault.Limit at m h = absurd m
 meant_counts space meter meter' store store' p fault.Device at m h = absurd m
 meant_counts space meter meter' store store' p fault.Memory at m h = absurd m
 
-module _ {world : World} {limit : ℕ} (m : ℕ) (ty : PokeType) (order : Order) (s : ℕ) {k j k' j' : ℕ} {state state' : State} where
+module _ {world : World} {limit : ℕ} (m : ℕ) (ty : PokeType) (order : Order) (s : ℕ) {k j k' j' : ℕ}
+    {state state' : State} where
   -- a fault that ends a run has the mapping's start as its place
-  pub told_there : (stop : Stop) → Follows world limit (plan m ty order no_values s) k j state k' j' state' (stop_finish stop) → EndsRun (told stop s).kind → (told stop s).at ≡ s
+  pub told_there : (stop : Stop) →
+      Follows world limit (plan m ty order no_values s) k j state k' j' state' (stop_finish stop) →
+      EndsRun (told stop s).kind → (told stop s).at ≡ s
   told_there (Fault kind place) h r = absurd (no_run kind (followed_kind m ty order no_values s h) r)
   told_there Limit h r = refl
   told_there Device h r = refl
   told_there Memory h r = refl
 
   -- a limit that was reached is less than the bound
-  pub told_limit : (stop : Stop) → Follows world limit (plan m ty order no_values s) k j state k' j' state' (stop_finish stop) → (told stop s).kind ≡ fault.Limit → (k' ≡ limit) × (limit < k + cost ty m)
+  pub told_limit : (stop : Stop) →
+      Follows world limit (plan m ty order no_values s) k j state k' j' state' (stop_finish stop) →
+      (told stop s).kind ≡ fault.Limit → (k' ≡ limit) × (limit < k + cost ty m)
   told_limit (Fault kind place) h e = absurd (no_run kind (followed_kind m ty order no_values s h) (rw e tt))
   told_limit Limit h e = followed_limit m ty order no_values s h
   told_limit Device h e = cc
   told_limit Memory h e = cc
 
   -- a request for capacity fails only where there is less than the type's bound
-  pub told_memory : (stop : Stop) → Follows world limit (plan m ty order no_values s) k j state k' j' state' (stop_finish stop) → (told stop s).kind ≡ fault.Memory → world.room.least < room ty m
+  pub told_memory : (stop : Stop) →
+      Follows world limit (plan m ty order no_values s) k j state k' j' state' (stop_finish stop) →
+      (told stop s).kind ≡ fault.Memory → world.room.least < room ty m
   told_memory (Fault kind place) h e = absurd (no_run kind (followed_kind m ty order no_values s h) (rw e tt))
   told_memory Limit h e = cc
   told_memory Device h e = cc
-  told_memory Memory h e = let f = followed_room m ty order no_values s h in let less : world.room.least < 0 + 0 + room ty m = f.1 in omega (arith, less)
+  told_memory Memory h e =
+      let f = followed_room m ty order no_values s h in
+      let less : world.room.least < 0 + 0 + room ty m = f.1 in omega (arith, less)
 
-  pub told_device : (stop : Stop) → Follows world limit (plan m ty order no_values s) k j state k' j' state' (stop_finish stop) → (told stop s).kind ≡ fault.Device → stop ≡ Device
+  pub told_device : (stop : Stop) →
+      Follows world limit (plan m ty order no_values s) k j state k' j' state' (stop_finish stop) →
+      (told stop s).kind ≡ fault.Device → stop ≡ Device
   told_device (Fault kind place) h e = absurd (no_run kind (followed_kind m ty order no_values s h) (rw e tt))
   told_device Limit h e = cc
   told_device Device h e = refl
   told_device Memory h e = cc
 
 -- the run along the plan, to the fault
-module _ (m : ℕ) (ty : PokeType) (order : Order) (s : ℕ) (space : SpaceView) (meter meter' : Meter) (store store' : Held) where
-  pub told_counts : (stop : Stop) → RunsTo space meter meter' store store' (plan m ty order no_values s) (stop_finish stop) → RunsTo space meter meter' store store' (plan m ty order no_values s) (fault_finish (told stop s).kind (told stop s).at)
-  told_counts (Fault kind place) h = meant_counts space meter meter' store store' _ kind place (followed_kind m ty order no_values s h.follows) h
+module _ (m : ℕ) (ty : PokeType) (order : Order) (s : ℕ) (space : SpaceView) (meter meter' : Meter)
+    (store store' : Held) where
+  pub told_counts : (stop : Stop) →
+      RunsTo space meter meter' store store' (plan m ty order no_values s) (stop_finish stop) →
+      RunsTo space meter meter' store store' (plan m ty order no_values s)
+      (fault_finish (told stop s).kind (told stop s).at)
+  told_counts (Fault kind place) h =
+      meant_counts space meter meter' store store' _ kind place (followed_kind m ty order no_values s h.follows) h
   told_counts Limit h = h
   told_counts Device h = h
   told_counts Memory h = h
 
-module _ {world : World} {limit : ℕ} (bits : List ℕ) (ty : PokeType) (order : Order) (s : ℕ) {k j k' j' : ℕ} {state state' : State} (known : world.known ≡ Some bits) (within : k' ≤ limit) where
-  pub told_means : (stop : Stop) → Follows world limit (plan (length bits) ty order no_values s) k j state k' j' state' (stop_finish stop) → FaultMeans bits ty order s (limit - k) (told stop s).kind (told stop s).at (k' - k) (j' - j)
-  told_means (Fault kind place) h = answered bits ty order s (limit - k) kind place (k' - k) (j' - j) (followed_kind (length bits) ty order no_values s h) (followed_result bits ty order s known within h)
+module _ {world : World} {limit : ℕ} (bits : List ℕ) (ty : PokeType) (order : Order) (s : ℕ) {k j k' j' : ℕ}
+    {state state' : State} (known : world.known ≡ Some bits) (within : k' ≤ limit) where
+  pub told_means : (stop : Stop) →
+      Follows world limit (plan (length bits) ty order no_values s) k j state k' j' state' (stop_finish stop) →
+      FaultMeans bits ty order s (limit - k) (told stop s).kind (told stop s).at (k' - k) (j' - j)
+  told_means (Fault kind place) h = answered bits ty order s (limit - k) kind place (k' - k) (j' - j)
+      (followed_kind (length bits) ty order no_values s h) (followed_result bits ty order s known within h)
   told_means Limit h = followed_too_long bits ty order s known within h
   told_means Device h = followed_part bits ty order s known within h
   told_means Memory h = followed_part bits ty order s known within h
@@ -126,18 +149,27 @@ unless fault.Device h = tt
 unless fault.Memory h = tt
 
 -- what was stored, and that no more fitted
-module _ {world : World} {limit : ℕ} (bits : List ℕ) (m : ℕ) (ty : PokeType) (order : Order) (s : ℕ) {k j k' j' : ℕ} {state' : State} (known : world.known ≡ Some bits) where
-  pub done_kept : {r : Result Value FaultAt} → Follows world limit (plan m ty order no_values s) k j no_state k' j' state' (Done r) → KeepsBy (HasRoom world) (packs world.room) bits (plan m ty order no_values s) (limit - k) no_state
+module _ {world : World} {limit : ℕ} (bits : List ℕ) (m : ℕ) (ty : PokeType) (order : Order) (s : ℕ) {k j k' j' : ℕ}
+    {state' : State} (known : world.known ≡ Some bits) where
+  pub done_kept : {r : Result Value FaultAt} →
+      Follows world limit (plan m ty order no_values s) k j no_state k' j' state' (Done r) →
+      KeepsBy (HasRoom world) (packs world.room) bits (plan m ty order no_values s) (limit - k) no_state
   done_kept h = room_when_done bits limit known h
 
-  pub told_kept : (stop : Stop) → Follows world limit (plan m ty order no_values s) k j no_state k' j' state' (stop_finish stop) → UnlessBreaks (told stop s).kind (KeepsBy (HasRoom world) (packs world.room) bits (plan m ty order no_values s) (limit - k) no_state)
+  pub told_kept : (stop : Stop) →
+      Follows world limit (plan m ty order no_values s) k j no_state k' j' state' (stop_finish stop) →
+      UnlessBreaks (told stop s).kind
+      (KeepsBy (HasRoom world) (packs world.room) bits (plan m ty order no_values s) (limit - k) no_state)
   told_kept (Fault kind place) h = unless kind (done_kept h)
   told_kept Limit h = room_when_limited bits limit known h
   told_kept Device h = tt
   told_kept Memory h = tt
 
-  pub told_wanted : k' ≤ limit → (stop : Stop) → Follows world limit (plan m ty order no_values s) k j no_state k' j' state' (stop_finish stop) → (told stop s).kind ≡ fault.Memory →
-      KeepsBy (λ now. IsWithin now world.before) (packs world.room) bits (plan m ty order no_values s) (limit - k) no_state → ⊥
+  pub told_wanted : k' ≤ limit → (stop : Stop) →
+      Follows world limit (plan m ty order no_values s) k j no_state k' j' state' (stop_finish stop) →
+      (told stop s).kind ≡ fault.Memory →
+      KeepsBy (λ now. IsWithin now world.before) (packs world.room) bits (plan m ty order no_values s)
+      (limit - k) no_state → ⊥
   told_wanted within (Fault kind place) h e = absurd (no_run kind (followed_kind m ty order no_values s h) (rw e tt))
   told_wanted within Limit h e = cc
   told_wanted within Device h e = cc
@@ -151,9 +183,14 @@ none_kept nodes store e = ap (levels nodes) e ∙ none-open nodes store.room sto
 pub none_stored : (store : Held) → store ≡ emptied store → state_of store ≡ no_state
 none_stored store e = ap state_of e
 
-pub from_none : {world : World} {limit : ℕ} {p : Plan (Result Value FaultAt)} {k j k' j' : ℕ} {state state' : State} {finish : Finish (Result Value FaultAt)} → state ≡ no_state → Follows world limit p k j state k' j' state' finish → Follows world limit p k j no_state k' j' state' finish
-from_none {world} {limit} {p} {k} {j} {k'} {j'} {state'} {finish} e h = subst (λ first. Follows world limit p k j first k' j' state' finish) e h
+pub from_none : {world : World} {limit : ℕ} {p : Plan (Result Value FaultAt)} {k j k' j' : ℕ} {state state' : State}
+    {finish : Finish (Result Value FaultAt)} → state ≡ no_state → Follows world limit p k j state k' j' state' finish →
+    Follows world limit p k j no_state k' j' state' finish
+from_none {world} {limit} {p} {k} {j} {k'} {j'} {state'} {finish} e h =
+    subst (λ first. Follows world limit p k j first k' j' state' finish) e h
 
 -- a plan on as many bits as known bytes have
-pub in_bits : {A : Type 0} (P : ℕ → A → Type 0) (a : A) (space : SpaceView) (bytes : List ℕ) → IsWhole space → space.bytes ≡ Some bytes → P (8 * space.len) a → P (length (bits_of bytes)) a
-in_bits P a space bytes whole e h = subst (λ m. P m a) (ap (λ n. 8 * n) (sym (whole bytes e)) ∙ sym (length-bits_of bytes)) h
+pub in_bits : {A : Type 0} (P : ℕ → A → Type 0) (a : A) (space : SpaceView) (bytes : List ℕ) → IsWhole space →
+    space.bytes ≡ Some bytes → P (8 * space.len) a → P (length (bits_of bytes)) a
+in_bits P a space bytes whole e h =
+    subst (λ m. P m a) (ap (λ n. 8 * n) (sym (whole bytes e)) ∙ sym (length-bits_of bytes)) h

@@ -29,9 +29,18 @@ reaches before after k BytesOf = k.bytes
 
 -- a store's capacity stays
 pub same_room : (h : Held) → KeepsRoom h h
-same_room h = record { room = refl; nodes = omega arith; families = omega arith; links = omega arith; pending = omega arith; texts = omega arith; bytes = omega arith }
+same_room h = record {
+  room = refl;
+  nodes = omega arith;
+  families = omega arith;
+  links = omega arith;
+  pending = omega arith;
+  texts = omega arith;
+  bytes = omega arith;
+}
 
-pub room_then : {before between after : Held} → KeepsRoom before between → KeepsRoom between after → KeepsRoom before after
+pub room_then : {before between after : Held} → KeepsRoom before between → KeepsRoom between after →
+    KeepsRoom before after
 room_then k l = record {
   room = l.room ∙ k.room;
   nodes = omega (arith, k.nodes, l.nodes);
@@ -42,14 +51,17 @@ room_then k l = record {
   bytes = omega (arith, k.bytes, l.bytes);
 }
 
-pub within_more : (state : State) (capacity capacity' : Marks) → Reaches capacity capacity' → IsWithin state capacity → IsWithin state capacity'
-within_more state capacity capacity' more h vector = let low = h vector in let up = more vector in omega (arith, low, up)
+pub within_more : (state : State) (capacity capacity' : Marks) → Reaches capacity capacity' → IsWithin state capacity →
+    IsWithin state capacity'
+within_more state capacity capacity' more h vector =
+    let low = h vector in let up = more vector in omega (arith, low, up)
 
 -- a length of a vector that passes a capacity
 abbrev Passes : State → (capacity : Marks) → Type 0
 Passes state capacity = (vector : Vector) × (of_vector vector capacity < of_vector vector state.now)
 
-passes_less : (state : State) (capacity capacity' : Marks) → Reaches capacity' capacity → Passes state capacity → Passes state capacity'
+passes_less : (state : State) (capacity capacity' : Marks) → Reaches capacity' capacity → Passes state capacity →
+    Passes state capacity'
 passes_less state capacity capacity' less h = let up = less h.0 in let over = h.1 in (h.0, omega (arith, up, over))
 
 -- what doesn't fit isn't within
@@ -59,57 +71,86 @@ not_within state capacity over h = let low = h over.0 in let up = over.1 in omeg
 -- ---- worlds
 
 -- a world that began with no more capacity, and ends with no less
-module _ (known : Option (List ℕ)) (room : Room) (before before' filled filled' : Marks) (less : Reaches before' before) (more : Reaches filled filled') where
+module _ (known : Option (List ℕ)) (room : Room) (before before' filled filled' : Marks) (less : Reaches before' before)
+    (more : Reaches filled filled') where
   abbrev inner : World
   inner = record { known = known; room = room; before = before; filled = filled }
 
   abbrev around : World
   around = record { known = known; room = room; before = before'; filled = filled' }
 
-  walk_wider : {A : Type 0} {rest : Plan A} {k' j' : ℕ} {last : State} {p : Plan A} {k j : ℕ} {state : State} → Walk inner rest k' j' last p k j state → Walk around rest k' j' last p k j state
+  walk_wider : {A : Type 0} {rest : Plan A} {k' j' : ℕ} {last : State} {p : Plan A} {k j : ℕ} {state : State} →
+      Walk inner rest k' j' last p k j state → Walk around rest k' j' last p k j state
   walk_wider arrived = arrived
   walk_wider (stepped w) = stepped (walk_wider w)
-  walk_wider (kept {move} {state} has w) = kept (within_more (moved (packs room) move state) filled filled' more has) (walk_wider w)
+  walk_wider (kept {move} {state} has w) =
+      kept (within_more (moved (packs room) move state) filled filled' more has) (walk_wider w)
   walk_wider (read n m w) = read n m (walk_wider w)
 
   lacks_wider : {A : Type 0} (state : State) (p : Plan A) → NeedsRoom inner state p → NeedsRoom around state p
   lacks_wider state (Ended a) h = absurd h
   lacks_wider state (Tick p) h = absurd h
-  lacks_wider state (Made count move these p) h = record { takes = h.takes; least = h.least; before = passes_less (moved (packs room) move state) before before' less h.before }
+  lacks_wider state (Made count move these p) h = record {
+    takes = h.takes;
+    least = h.least;
+    before = passes_less (moved (packs room) move state) before before' less h.before;
+  }
   lacks_wider state (Read place width order rest) h = absurd h
 
-  ends_wider : {A : Type 0} (finish : Finish A) (p : Plan A) (at now : State) (limit k : ℕ) → EndsAs inner finish p at now limit k → EndsAs around finish p at now limit k
+  ends_wider : {A : Type 0} (finish : Finish A) (p : Plan A) (at now : State) (limit k : ℕ) →
+      EndsAs inner finish p at now limit k → EndsAs around finish p at now limit k
   ends_wider (Done a) p at now limit k h = h
   ends_wider NoSteps p at now limit k h = h
   ends_wider Broken p at now limit k h = h
   ends_wider NoRoom p at now limit k h = lacks_wider at p h
   ends_wider (Partly q) p at now limit k h = h
 
-  follow_wider : {limit : ℕ} {A : Type 0} {p : Plan A} {k j : ℕ} {state : State} {k' j' : ℕ} {state' : State} {finish : Finish A} → Follows inner limit p k j state k' j' state' finish → Follows around limit p k j state k' j' state' finish
-  follow_wider {limit} {k'} {state'} {finish} h = record { rest = h.rest; at = h.at; walk = walk_wider h.walk; ends = ends_wider finish h.rest h.at state' limit k' h.ends }
+  follow_wider : {limit : ℕ} {A : Type 0} {p : Plan A} {k j : ℕ} {state : State} {k' j' : ℕ} {state' : State}
+      {finish : Finish A} →
+      Follows inner limit p k j state k' j' state' finish → Follows around limit p k j state k' j' state' finish
+  follow_wider {limit} {k'} {state'} {finish} h = record {
+    rest = h.rest;
+    at = h.at;
+    walk = walk_wider h.walk;
+    ends = ends_wider finish h.rest h.at state' limit k' h.ends;
+  }
 
 -- a call inside another: between two states of the store that are between the other's
-pub in_store : {known : Option (List ℕ)} {first before after last : Held} {limit : ℕ} {A : Type 0} {p : Plan A} {k j : ℕ} {state : State} {k' j' : ℕ} {state' : State} {finish : Finish A} → KeepsRoom first before → KeepsRoom before after → KeepsRoom after last →
-    Follows (world_between known before after) limit p k j state k' j' state' finish → Follows (world_between known first last) limit p k j state k' j' state' finish
-in_store {known} {first} {before} {after} {last} {limit} {p} {k} {j} {state} {k'} {j'} {state'} {finish} earlier call later h =
-    let w = follow_wider known before.room before.capacity first.capacity after.capacity last.capacity (reaches first before earlier) (reaches after last later) h in
-    subst (λ r. Follows (record { known = known; room = r; before = first.capacity; filled = last.capacity }) limit p k j state k' j' state' finish) earlier.room w
+pub in_store : {known : Option (List ℕ)} {first before after last : Held} {limit : ℕ} {A : Type 0} {p : Plan A}
+    {k j : ℕ} {state : State} {k' j' : ℕ} {state' : State} {finish : Finish A} →
+    KeepsRoom first before → KeepsRoom before after → KeepsRoom after last →
+    Follows (world_between known before after) limit p k j state k' j' state' finish →
+    Follows (world_between known first last) limit p k j state k' j' state' finish
+in_store {known} {first} {before} {after} {last} {limit} {p} {k} {j} {state} {k'} {j'} {state'} {finish}
+    earlier call later h =
+    let w = follow_wider known before.room before.capacity first.capacity after.capacity last.capacity
+    (reaches first before earlier) (reaches after last later) h in
+    subst (λ r. Follows (record { known = known; room = r; before = first.capacity; filled = last.capacity }) limit p k
+    j state k' j' state' finish) earlier.room w
 
 -- it is the other's last
-pub in_call : {known : Option (List ℕ)} {first before after : Held} {limit : ℕ} {A : Type 0} {p : Plan A} {k j : ℕ} {state : State} {k' j' : ℕ} {state' : State} {finish : Finish A} → KeepsRoom first before → KeepsRoom before after →
-    Follows (world_between known before after) limit p k j state k' j' state' finish → Follows (world_between known first after) limit p k j state k' j' state' finish
+pub in_call : {known : Option (List ℕ)} {first before after : Held} {limit : ℕ} {A : Type 0} {p : Plan A} {k j : ℕ}
+    {state : State} {k' j' : ℕ} {state' : State} {finish : Finish A} → KeepsRoom first before → KeepsRoom before after →
+    Follows (world_between known before after) limit p k j state k' j' state' finish →
+    Follows (world_between known first after) limit p k j state k' j' state' finish
 in_call {after} earlier call h = in_store earlier call (same_room after) h
 
 -- it is the other's first
-pub in_later : {known : Option (List ℕ)} {first after last : Held} {limit : ℕ} {A : Type 0} {p : Plan A} {k j : ℕ} {state : State} {k' j' : ℕ} {state' : State} {finish : Finish A} → KeepsRoom first after → KeepsRoom after last →
-    Follows (world_between known first after) limit p k j state k' j' state' finish → Follows (world_between known first last) limit p k j state k' j' state' finish
+pub in_later : {known : Option (List ℕ)} {first after last : Held} {limit : ℕ} {A : Type 0} {p : Plan A} {k j : ℕ}
+    {state : State} {k' j' : ℕ} {state' : State} {finish : Finish A} → KeepsRoom first after → KeepsRoom after last →
+    Follows (world_between known first after) limit p k j state k' j' state' finish →
+    Follows (world_between known first last) limit p k j state k' j' state' finish
 in_later {first} call later h = in_store (same_room first) call later h
 
 -- the last call of another, over a space of the same bytes
-pub in_world : {A : Type 0} (space space' : SpaceView) {first before after : Held} {limit : ℕ} {p : Plan A} {k j : ℕ} {state : State} {k' j' : ℕ} {state' : State} {finish : Finish A} → space'.bytes ≡ space.bytes → KeepsRoom first before → KeepsRoom before after →
-    Follows (world_of space' before after) limit p k j state k' j' state' finish → Follows (world_of space first after) limit p k j state k' j' state' finish
+pub in_world : {A : Type 0} (space space' : SpaceView) {first before after : Held} {limit : ℕ} {p : Plan A} {k j : ℕ}
+    {state : State} {k' j' : ℕ} {state' : State} {finish : Finish A} →
+    space'.bytes ≡ space.bytes → KeepsRoom first before → KeepsRoom before after →
+    Follows (world_of space' before after) limit p k j state k' j' state' finish →
+    Follows (world_of space first after) limit p k j state k' j' state' finish
 in_world space space' {before} {after} {limit} {p} {k} {j} {state} {k'} {j'} {state'} {finish} same earlier call h =
-    in_call earlier call (subst (λ b. Follows (world_between (option_map bits_of b) before after) limit p k j state k' j' state' finish) same h)
+    in_call earlier call (subst
+    (λ b. Follows (world_between (option_map bits_of b) before after) limit p k j state k' j' state' finish) same h)
 
 -- there is capacity for what a store holds
 pub has_room : {after last : Held} → HoldsInRoom after → KeepsRoom after last → IsWithin (state_of after) last.capacity
@@ -121,15 +162,25 @@ has_room h k TextsOf = omega (arith, h.texts, k.texts)
 has_room h k BytesOf = omega (arith, h.bytes, k.bytes)
 
 -- a call of the store made a move
-pub moves_to : {known : Option (List ℕ)} {first before after last : Held} {move : Move} → KeepsRoom first before → KeepsRoom after last → HoldsInRoom after → Moves before after move → MovesTo (world_between known first last) move (state_of before) (state_of after)
+pub moves_to : {known : Option (List ℕ)} {first before after last : Held} {move : Move} → KeepsRoom first before →
+    KeepsRoom after last → HoldsInRoom after → Moves before after move →
+    MovesTo (world_between known first last) move (state_of before) (state_of after)
 moves_to {before} {move} earlier later holds moves = record {
   is = moves ∙ ap (λ (r : Room). moved (packs r) move (state_of before)) earlier.room;
   has = has_room holds later;
 }
 
 -- a move didn't fit
-pub lacks_these : {known : Option (List ℕ)} {first before : Held} {filled : Marks} {move : Move} {these : Levels} → KeepsRoom first before → TakesMore move → Exceeds before.room these → CannotMove before move →
-    LacksRoom (record { known = known; room = first.room; before = first.capacity; filled = filled }) (state_of before) move these
+pub lacks_these : {known : Option (List ℕ)} {first before : Held} {filled : Marks} {move : Move} {these : Levels} →
+    KeepsRoom first before → TakesMore move → Exceeds before.room these → CannotMove before move →
+    LacksRoom (record { known = known; room = first.room; before = first.capacity; filled = filled })
+    (state_of before) move these
 lacks_these {first} {before} {move} {these} k takes least cannot =
-    let over : Passes (moved (packs first.room) move (state_of before)) before.capacity = subst (λ (r : Room). Passes (moved (packs r) move (state_of before)) before.capacity) k.room cannot in
-    record { takes = takes; least = subst (λ (r : Room). Exceeds r these) k.room least; before = passes_less (moved (packs first.room) move (state_of before)) before.capacity first.capacity (reaches first before k) over }
+    let over : Passes (moved (packs first.room) move (state_of before)) before.capacity =
+    subst (λ (r : Room). Passes (moved (packs r) move (state_of before)) before.capacity) k.room cannot in
+    record {
+      takes = takes;
+      least = subst (λ (r : Room). Exceeds r these) k.room least;
+      before = passes_less (moved (packs first.room) move (state_of before)) before.capacity first.capacity
+          (reaches first before k) over;
+    }

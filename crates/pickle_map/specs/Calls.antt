@@ -63,14 +63,17 @@ as_text_level start = λ nodes m levels. text_plan m (m / 8 + 1) [] (outer_of le
 
 -- an array, its elements, and its frame with them
 abbrev pub as_array : (element : ℕ) → Bound → Order → (start : ℕ) → Planned Value
-as_array element bound order start = λ nodes m levels. plan m (ArrayOf (type_of nodes element) (bound_of bound)) order levels start
+as_array element bound order start =
+    λ nodes m levels. plan m (ArrayOf (type_of nodes element) (bound_of bound)) order levels start
 
 abbrev pub as_elements : (element : ℕ) → Extent → Order → (start : ℕ) → Planned Opened
 as_elements element extent order start = λ nodes m levels.
-    elements_plan (element_plan (type_of nodes element) (plan m (type_of nodes element) order)) m start extent (count_of m (least_width (type_of nodes element))) 0 levels start
+    elements_plan (element_plan (type_of nodes element) (plan m (type_of nodes element) order)) m start extent
+    (count_of m (least_width (type_of nodes element))) 0 levels start
 
 abbrev pub as_array_level : (element : ℕ) → Extent → Order → (start : ℕ) → Planned Value
-as_array_level element extent order start = λ nodes m levels. then_ok (as_elements element extent order start nodes m levels) (array_closes (type_of nodes element) start)
+as_array_level element extent order start = λ nodes m levels.
+    then_ok (as_elements element extent order start nodes m levels) (array_closes (type_of nodes element) start)
 
 -- a struct, its fields, and its frame with them
 abbrev pub as_struct : (at : ℕ) → (pinned : Bool) → List Field → Order → (start : ℕ) → Planned Value
@@ -78,11 +81,13 @@ as_struct at pinned fields order start = λ nodes m levels.
     plan m (StructOf (title_at nodes at) pinned (open_fields (type_of nodes) fields)) order levels start
 
 abbrev pub as_fields : (pinned : Bool) → List Field → Order → (start : ℕ) → Planned Opened
-as_fields pinned fields order start = λ nodes m levels. fields_plan m pinned start (open_fields (type_of nodes) fields) order levels start start
+as_fields pinned fields order start =
+    λ nodes m levels. fields_plan m pinned start (open_fields (type_of nodes) fields) order levels start start
 
 abbrev pub as_struct_level : (at : ℕ) → (pinned : Bool) → List Field → Order → (start : ℕ) → Planned Value
 as_struct_level at pinned fields order start = λ nodes m levels.
-    then_ok (as_fields pinned fields order start nodes m levels) (struct_closes (title_at nodes at) (field_names (open_fields (type_of nodes) fields)) start)
+    then_ok (as_fields pinned fields order start nodes m levels)
+    (struct_closes (title_at nodes at) (field_names (open_fields (type_of nodes) fields)) start)
 
 -- a union, its alternatives, and its frame with them
 abbrev pub as_union : (at : ℕ) → List Part → Order → (start : ℕ) → Planned Value
@@ -90,18 +95,21 @@ as_union at alternatives order start = λ nodes m levels.
     plan m (UnionOf (title_at nodes at) (open_parts (type_of nodes) alternatives)) order levels start
 
 abbrev pub as_alternatives : List Part → Order → (start : ℕ) → Planned Taken
-as_alternatives alternatives order start = λ nodes m levels. alternatives_plan m (open_parts (type_of nodes) alternatives) 0 order levels start
+as_alternatives alternatives order start =
+    λ nodes m levels. alternatives_plan m (open_parts (type_of nodes) alternatives) 0 order levels start
 
 abbrev pub as_union_level : (at : ℕ) → List Part → Order → (start : ℕ) → Planned Value
 as_union_level at alternatives order start = λ nodes m levels.
-    then_ok (as_alternatives alternatives order start nodes m levels) (union_closes (title_at nodes at) (outer_of levels) start)
+    then_ok (as_alternatives alternatives order start nodes m levels)
+    (union_closes (title_at nodes at) (outer_of levels) start)
 
 -- ---- what a call that reads the space did
 
 module _ (nodes : List Node) (space : SpaceView) (meter meter' : Meter) (store store' : Held) where
   -- it stored one more value in these frames, or stopped
   abbrev pub MapsIn : Levels → Plan (Result Value FaultAt) → Result ℕ Stop → Type 0
-  MapsIn before p result = KeepsOrStops (world_of space store store') meter.limit p meter.steps meter.made (state_of store) meter'.steps meter'.made (state_of store') before (levels nodes store') (λ end. end) result
+  MapsIn before p result = KeepsOrStops (world_of space store store') meter.limit p meter.steps meter.made
+      (state_of store) meter'.steps meter'.made (state_of store') before (levels nodes store') (λ end. end) result
 
   -- it stored one more value in the innermost frame
   abbrev pub Maps : Planned Value → Result ℕ Stop → Type 0
@@ -109,7 +117,8 @@ module _ (nodes : List Node) (space : SpaceView) (meter meter' : Meter) (store s
 
   -- it closed the innermost frame as a value
   abbrev pub Closes : Planned Value → Result ℕ Stop → Type 0
-  Closes planned result = MapsIn (outer_of (levels nodes store)) (planned nodes (8 * space.len) (levels nodes store)) result
+  Closes planned result =
+      MapsIn (outer_of (levels nodes store)) (planned nodes (8 * space.len) (levels nodes store)) result
 
   -- it stored parts of the innermost frame, which end at a bit
   abbrev pub FillsBy : Plan (Result Opened FaultAt) → Result ℕ Stop → Type 0
@@ -124,7 +133,8 @@ module _ (nodes : List Node) (space : SpaceView) (meter meter' : Meter) (store s
     pub value : Value
     pub keeps : levels nodes store' ≡ pushed (levels nodes store) (Some value)
     pub ends : end_of value ≡ end
-    pub follows : Runs space meter meter' store store' p (Done (Ok (record { index = index; name = unwrap_or (slice_get names index) None; value = value })))
+    pub follows : Runs space meter meter' store store' p
+        (Done (Ok (record { index = index; name = unwrap_or (slice_get names index) None; value = value })))
 
   abbrev pub TakesBy : List Naming → Plan (Result Taken FaultAt) → Result (ℕ × ℕ) Stop → Type 0
   TakesBy names p (Ok r) = TakesOne names p r.0 r.1
@@ -133,11 +143,13 @@ module _ (nodes : List Node) (space : SpaceView) (meter meter' : Meter) (store s
   -- it stored one of these alternatives
   abbrev pub Takes : List Part → Order → (start : ℕ) → Result (ℕ × ℕ) Stop → Type 0
   Takes alternatives order start result =
-      TakesBy (map part_name alternatives) (as_alternatives alternatives order start nodes (8 * space.len) (levels nodes store)) result
+      TakesBy (map part_name alternatives)
+      (as_alternatives alternatives order start nodes (8 * space.len) (levels nodes store)) result
 
   -- it packed the elements of an array in the innermost frame, which end at a bit
   abbrev pub PacksBy : Shape → (start : ℕ) → Plan (Result Opened FaultAt) → Result ℕ Stop → Type 0
-  PacksBy shape start p (Ok end) = Packs nodes space meter meter' store store' shape start (outer_of (levels nodes store)) p end
+  PacksBy shape start p (Ok end) =
+      Packs nodes space meter meter' store store' shape start (outer_of (levels nodes store)) p end
   PacksBy shape start p (Err stop) = Runs space meter meter' store store' p (stop_finish stop)
 
   abbrev pub PacksRow : Shape → (element : ℕ) → Extent → Order → (start : ℕ) → Result ℕ Stop → Type 0
@@ -154,26 +166,31 @@ module _ (nodes : List Node) (meter meter' : Meter) (store store' : Held) where
   -- it stored one more value in these frames, which ends at `end`, or stopped
   abbrev pub PlacesIn : Levels → Plan (Result Value FaultAt) → (end : ℕ) → Result (Unit {0}) Stop → Type 0
   PlacesIn before p end result =
-      (known : Option (List ℕ)) → KeepsOrStops (world_between known store store') meter.limit p meter.steps meter.made (state_of store) meter'.steps meter'.made (state_of store') before (levels nodes store') (λ u. end) result
+      (known : Option (List ℕ)) →
+      KeepsOrStops (world_between known store store') meter.limit p meter.steps meter.made (state_of store) meter'.steps
+      meter'.made (state_of store') before (levels nodes store') (λ u. end) result
 
   -- it stored the number as a value of a type, after its own first step
   abbrev pub Places : PokeType → (digits start : ℕ) → Result (Unit {0}) Stop → Type 0
   Places ty digits start result =
-      PlacesIn (levels nodes store) (number_plan ty digits (levels nodes store) start) (start + width_in (number_type ty)) result
+      PlacesIn (levels nodes store) (number_plan ty digits (levels nodes store) start)
+      (start + width_in (number_type ty)) result
 
   -- it stored the fields of an integral struct in the innermost frame, and closed that frame
   abbrev pub PlacesLevel : (at : ℕ) → IntegerType → List Part → (digits start : ℕ) → Result (Unit {0}) Stop → Type 0
   PlacesLevel at number fields digits start result =
       PlacesIn (outer_of (levels nodes store))
       (then_ok (digits_plan (open_parts (type_of nodes) fields) digits number.width (levels nodes store) start)
-      (closes ClosesFrame (struct_value (title_at nodes at) (part_names (open_parts (type_of nodes) fields)) start (start + number.width))))
+      (closes ClosesFrame
+      (struct_value (title_at nodes at) (part_names (open_parts (type_of nodes) fields)) start (start + number.width))))
       (start + number.width) result
 
   -- it stored a field of an integral struct, whose constraint holds
   abbrev pub PlacesPart : Part → (digits start : ℕ) → Result (Unit {0}) Stop → Type 0
   PlacesPart part digits start result =
       PlacesIn (levels nodes store)
-      (then_ok (Tick (number_plan (type_of nodes part.node) digits (levels nodes store) start)) (constrained (optional_term part.constraint) (levels nodes store) start))
+      (then_ok (Tick (number_plan (type_of nodes part.node) digits (levels nodes store) start))
+      (constrained (optional_term part.constraint) (levels nodes store) start))
       (start + width_in (number_type (type_of nodes part.node))) result
 
   -- it stored the fields that a number of that width is cut into

@@ -58,12 +58,18 @@ pub record LacksRoom (world : World) (state : State) (move : Move) (levels : Lev
 
 -- a walk along a plan, after k steps with j values made in a store of that state, to its rest, after k' steps with j'
 -- values made in a store of the state `last`; all that was stored fitted
-pub data Walk (world : World) {A : Type 0} (rest : Plan A) (k' j' : ℕ) (last : State) : Plan A → ℕ → ℕ → State → Type 0 where
+pub data Walk (world : World) {A : Type 0} (rest : Plan A) (k' j' : ℕ) (last : State) : Plan A → ℕ → ℕ →
+    State → Type 0 where
   arrived : Walk world rest k' j' last rest k' j' last
-  stepped : {p : Plan A} {k j : ℕ} {state : State} → Walk world rest k' j' last p (k + 1) j state → Walk world rest k' j' last (Tick p) k j state
-  kept : {count : ℕ} {move : Move} {levels : Levels} {p : Plan A} {k j : ℕ} {state : State} → HasRoom world (after_move world move state) → Walk world rest k' j' last p k (j + count) (after_move world move state) →
+  stepped : {p : Plan A} {k j : ℕ} {state : State} → Walk world rest k' j' last p (k + 1) j state →
+      Walk world rest k' j' last (Tick p) k j state
+  kept : {count : ℕ} {move : Move} {levels : Levels} {p : Plan A} {k j : ℕ} {state : State} →
+      HasRoom world (after_move world move state) →
+      Walk world rest k' j' last p k (j + count) (after_move world move state) →
       Walk world rest k' j' last (Made count move levels p) k j state
-  read : {place width : ℕ} {order : Order} {ps : ℕ → Plan A} {k j : ℕ} {state : State} (n : ℕ) → MayRead world.known order place width n → Walk world rest k' j' last (ps n) k j state → Walk world rest k' j' last (Read place width order ps) k j state
+  read : {place width : ℕ} {order : Order} {ps : ℕ → Plan A} {k j : ℕ} {state : State} (n : ℕ) →
+      MayRead world.known order place width n → Walk world rest k' j' last (ps n) k j state →
+      Walk world rest k' j' last (Read place width order ps) k j state
 
 -- how a call ends: with the plan's result, without a step left, by a device, or by an allocation failure; and the state
 -- of a loop
@@ -106,7 +112,8 @@ EndsAs world (Partly q) rest at now limit k = (rest ≡ q) × (at ≡ now)
 
 -- a call that began after k steps with j values made in a store of that state, and ended after k' steps with j' made,
 -- followed the plan
-pub record Follows (world : World) (limit : ℕ) {A : Type 0} (p : Plan A) (k j : ℕ) (state : State) (k' j' : ℕ) (state' : State) (finish : Finish A) : Type 0 where
+pub record Follows (world : World) (limit : ℕ) {A : Type 0} (p : Plan A) (k j : ℕ) (state : State) (k' j' : ℕ)
+    (state' : State) (finish : Finish A) : Type 0 where
   pub rest : Plan A
   pub at : State
   pub walk : Walk world rest k' j' at p k j state

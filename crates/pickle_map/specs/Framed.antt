@@ -20,7 +20,8 @@ use Rattle.value_store.specs.Slots.{Held, HoldsInRoom, KeepsRoom, levels, level_
 -- What every call leaves, whatever its result: the meter's limit, the store's capacity, which may only rise, and the
 -- bytes of the space. A count of failures never falls. A call makes no more values than it takes steps, counting the
 -- steps taken before it for which no value is made yet. Where a device stopped it, the space has failed.
-pub record Frame {A : Type 0} (space space' : SpaceView) (meter meter' : Meter) (store store' : Held) (ahead : ℕ) (result : Result A Stop) : Type 0 where
+pub record Frame {A : Type 0} (space space' : SpaceView) (meter meter' : Meter) (store store' : Held) (ahead : ℕ)
+    (result : Result A Stop) : Type 0 where
   pub limit : meter'.limit ≡ meter.limit
   pub len : space'.len ≡ space.len
   pub bytes : space'.bytes ≡ space.bytes
@@ -30,7 +31,8 @@ pub record Frame {A : Type 0} (space space' : SpaceView) (meter meter' : Meter) 
   pub device : IfErr result (λ stop. stop ≡ Device → HasRisen space.failures space'.failures)
 
 -- the same for a call that reads nothing, which no device stops
-pub record WorkFrame {A : Type 0} (meter meter' : Meter) (store store' : Held) (ahead : ℕ) (result : Result A Stop) : Type 0 where
+pub record WorkFrame {A : Type 0} (meter meter' : Meter) (store store' : Held) (ahead : ℕ)
+    (result : Result A Stop) : Type 0 where
   pub limit : meter'.limit ≡ meter.limit
   pub room : KeepsRoom store store'
   pub made : meter'.made + meter.steps ≤ meter.made + meter'.steps + ahead
@@ -74,31 +76,39 @@ DropsStopped store store' (Err stop) = DropsLevel store store'
 
 -- the world of a call over a file's bits, where they are known, between two states of a store
 abbrev pub world_between : Option (List ℕ) → (store store' : Held) → World
-world_between known store store' = record { known = known; room = store.room; before = store.capacity; filled = store'.capacity }
+world_between known store store' =
+    record { known = known; room = store.room; before = store.capacity; filled = store'.capacity }
 
 -- the world of a call over a space
 abbrev pub world_of : SpaceView → (store store' : Held) → World
 world_of space store store' = world_between (known_bits space) store store'
 
 -- a call that stored one more value in these frames, which ends at `end`, and followed the plan to it
-pub record KeepsOne (world : World) (limit : ℕ) (p : Plan (Result Value FaultAt)) (k j : ℕ) (state : State) (k' j' : ℕ) (state' : State) (levels levels' : Levels) (end : ℕ) : Type 0 where
+pub record KeepsOne (world : World) (limit : ℕ) (p : Plan (Result Value FaultAt)) (k j : ℕ) (state : State) (k' j' : ℕ)
+    (state' : State) (levels levels' : Levels) (end : ℕ) : Type 0 where
   pub value : Value
   pub kept : levels' ≡ pushed levels (Some value)
   pub ends : end_of value ≡ end
   pub follows : Follows world limit p k j state k' j' state' (Done (Ok value))
 
 -- a call that stored one more value in that way, ending where `ends` says for its result, or stopped
-abbrev pub KeepsOrStops : {A : Type 0} → World → (limit : ℕ) → Plan (Result Value FaultAt) → (k j : ℕ) → State → (k' j' : ℕ) → State → (levels levels' : Levels) → (ends : A → ℕ) → Result A Stop → Type 0
-KeepsOrStops world limit p k j state k' j' state' levels levels' ends (Ok x) = KeepsOne world limit p k j state k' j' state' levels levels' (ends x)
-KeepsOrStops world limit p k j state k' j' state' levels levels' ends (Err stop) = Follows world limit p k j state k' j' state' (stop_finish stop)
+abbrev pub KeepsOrStops : {A : Type 0} → World → (limit : ℕ) → Plan (Result Value FaultAt) → (k j : ℕ) → State →
+    (k' j' : ℕ) → State → (levels levels' : Levels) → (ends : A → ℕ) → Result A Stop → Type 0
+KeepsOrStops world limit p k j state k' j' state' levels levels' ends (Ok x) =
+    KeepsOne world limit p k j state k' j' state' levels levels' (ends x)
+KeepsOrStops world limit p k j state k' j' state' levels levels' ends (Err stop) =
+    Follows world limit p k j state k' j' state' (stop_finish stop)
 
 -- what a call did between two states of the meter and of a store, by a plan
 abbrev pub Runs : {A : Type 0} → SpaceView → (meter meter' : Meter) → (store store' : Held) → Plan A → Finish A → Type 0
-Runs space meter meter' store store' p finish = Follows (world_of space store store') meter.limit p meter.steps meter.made (state_of store) meter'.steps meter'.made (state_of store') finish
+Runs space meter meter' store store' p finish = Follows (world_of space store store') meter.limit p meter.steps
+    meter.made (state_of store) meter'.steps meter'.made (state_of store') finish
 
 -- what a call did that read nothing
 abbrev pub Works : {A : Type 0} → (meter meter' : Meter) → (store store' : Held) → Plan A → Finish A → Type 0
-Works meter meter' store store' p finish = (known : Option (List ℕ)) → Follows (world_between known store store') meter.limit p meter.steps meter.made (state_of store) meter'.steps meter'.made (state_of store') finish
+Works meter meter' store store' p finish = (known : Option (List ℕ)) →
+    Follows (world_between known store store') meter.limit p meter.steps meter.made (state_of store) meter'.steps
+    meter'.made (state_of store') finish
 
 -- the stop of a refused read, with its fault at `place`
 abbrev pub refusal_at : BitFault → (place : ℕ) → Stop
@@ -108,14 +118,18 @@ refusal_at refused.Limit place = Limit
 
 -- why a read of the bits from `start` up to `end` stopped
 abbrev pub ReadStops : Stop → (start end : ℕ) → (before after : SpaceView) → (limit steps steps' : ℕ) → Type 0
-ReadStops (Fault kind place) start end before after limit steps steps' = (kind ≡ End) × (place ≡ start) × (steps' ≡ steps + 1) × (8 * before.len < end)
+ReadStops (Fault kind place) start end before after limit steps steps' =
+    (kind ≡ End) × (place ≡ start) × (steps' ≡ steps + 1) × (8 * before.len < end)
 ReadStops Limit start end before after limit steps steps' = (steps ≡ limit) × (steps' ≡ steps)
-ReadStops Device start end before after limit steps steps' = (steps' ≡ steps + 1) × (end ≤ 8 * before.len) × HasRisen before.failures after.failures
+ReadStops Device start end before after limit steps steps' =
+    (steps' ≡ steps + 1) × (end ≤ 8 * before.len) × HasRisen before.failures after.failures
 ReadStops Memory start end before after limit steps steps' = ⊥
 
 -- the same, and why the read itself was refused, between two states of the meter
 abbrev pub StopsReading : (start end : ℕ) → (before after : SpaceView) → (meter meter' : Meter) → Stop → Type 0
-StopsReading start end before after meter meter' stop = ReadStops stop start end before after meter.limit meter.steps meter'.steps
+StopsReading start end before after meter meter' stop =
+    ReadStops stop start end before after meter.limit meter.steps meter'.steps
 
 abbrev pub RefusesReading : (end : ℕ) → (before after : SpaceView) → (meter meter' : Meter) → BitFault → Type 0
-RefusesReading end before after meter meter' fault = IsRefused fault end before after meter.limit meter.steps meter'.steps
+RefusesReading end before after meter meter' fault =
+    IsRefused fault end before after meter.limit meter.steps meter'.steps

@@ -59,18 +59,23 @@ fault_finish faults.Memory at = NoRoom
 fault_finish kind at = Done (Err (kind, at))
 
 -- what a mapping into an empty store did by a plan, up to the state `last` of the store
-abbrev pub RunsUpTo : {A : Type 0} → SpaceView → (meter meter' : Meter) → (store store' : Held) → (last : State) → Plan A → Finish A → Type 0
-RunsUpTo space meter meter' store store' last p finish = Follows (world_of space store store') meter.limit p meter.steps meter.made no_state meter'.steps meter'.made last finish
+abbrev pub RunsUpTo : {A : Type 0} → SpaceView → (meter meter' : Meter) → (store store' : Held) → (last : State) →
+    Plan A → Finish A → Type 0
+RunsUpTo space meter meter' store store' last p finish = Follows (world_of space store store') meter.limit p meter.steps
+    meter.made no_state meter'.steps meter'.made last finish
 
 -- whatever that state was: after a fault the store is cleared
-pub record RunsTo {A : Type 0} (space : SpaceView) (meter meter' : Meter) (store store' : Held) (p : Plan A) (finish : Finish A) : Type 0 where
+pub record RunsTo {A : Type 0} (space : SpaceView) (meter meter' : Meter) (store store' : Held) (p : Plan A)
+    (finish : Finish A) : Type 0 where
   pub last : State
   pub follows : RunsUpTo space meter meter' store store' last p finish
 
 -- on these bytes, within the steps that are left: vectors of this capacity hold all that the mapping of a type stores
-abbrev pub HasRoomFor : Room → (capacity : Marks) → PokeType → Order → (start : ℕ) → SpaceView → Meter → (bytes : List ℕ) → Type 0
+abbrev pub HasRoomFor : Room → (capacity : Marks) → PokeType → Order → (start : ℕ) → SpaceView → Meter →
+    (bytes : List ℕ) → Type 0
 HasRoomFor room capacity type order start space meter bytes =
-    KeepsBy (λ state. IsWithin state capacity) (packs room) (bits_of bytes) (plan (8 * space.len) type order no_values start) (meter.limit - meter.steps) no_state
+    KeepsBy (λ state. IsWithin state capacity) (packs room) (bits_of bytes)
+    (plan (8 * space.len) type order no_values start) (meter.limit - meter.steps) no_state
 
 -- a fact about a mapping that neither a device nor an allocation failure broke off
 abbrev pub UnlessBreaks : MapFaultKind → Type 0 → Type 0
@@ -84,15 +89,20 @@ UnlessBroken (Err f) P = UnlessBreaks f.kind P
 
 -- Where the bytes are known, and the mapping wasn't broken off: in the end the store has capacity for all that it
 -- stores.
-abbrev pub KeptInRoom : PokeType → Order → (start : ℕ) → SpaceView → Meter → (store store' : Held) → Result (Unit {0}) MapFault → Type 0
+abbrev pub KeptInRoom : PokeType → Order → (start : ℕ) → SpaceView → Meter → (store store' : Held) →
+    Result (Unit {0}) MapFault → Type 0
 KeptInRoom type order start space meter store store' result =
-    (bytes : List ℕ) → space.bytes ≡ Some bytes → UnlessBroken result (HasRoomFor store.room store'.capacity type order start space meter bytes)
+    (bytes : List ℕ) → space.bytes ≡ Some bytes →
+    UnlessBroken result (HasRoomFor store.room store'.capacity type order start space meter bytes)
 
 -- Where they are known, and `Memory` was returned: before, the store lacked the capacity for all that the mapping
 -- stores.
-abbrev pub WantedMore : PokeType → Order → (start : ℕ) → SpaceView → Meter → (store : Held) → Result (Unit {0}) MapFault → Type 0
+abbrev pub WantedMore : PokeType → Order → (start : ℕ) → SpaceView → Meter → (store : Held) →
+    Result (Unit {0}) MapFault → Type 0
 WantedMore type order start space meter store result =
-    (bytes : List ℕ) → space.bytes ≡ Some bytes → IfErr result (λ f. f.kind ≡ faults.Memory → HasRoomFor store.room store.capacity type order start space meter bytes → ⊥)
+    (bytes : List ℕ) → space.bytes ≡ Some bytes →
+    IfErr result
+    (λ f. f.kind ≡ faults.Memory → HasRoomFor store.room store.capacity type order start space meter bytes → ⊥)
 
 -- faults that end a run, which no type means
 abbrev pub EndsRun : MapFaultKind → Type 0
@@ -106,21 +116,25 @@ module _ (type : PokeType) (order : Order) (start : ℕ) (space : SpaceView) (me
   abbrev pub MeansValue : List Node → (store' : Held) → Result (Unit {0}) MapFault → Type 0
   MeansValue nodes store' result =
       (bytes : List ℕ) → space.bytes ≡ Some bytes →
-      OnOk result (Gives nodes store' (λ v. Answer (bits_of bytes) type order start (meter.limit - meter.steps) (Ok v) (meter'.steps - meter.steps) (meter'.made - meter.made)))
+      OnOk result (Gives nodes store' (λ v. Answer (bits_of bytes) type order start (meter.limit - meter.steps) (Ok v)
+      (meter'.steps - meter.steps) (meter'.made - meter.made)))
 
   -- where they are known: the fault that the type means there, or Limit where that takes more steps than are left
   abbrev pub MeansFault : Result (Unit {0}) MapFault → Type 0
   MeansFault result =
       (bytes : List ℕ) → space.bytes ≡ Some bytes →
-      IfErr result (λ f. FaultMeans (bits_of bytes) type order start (meter.limit - meter.steps) f.kind f.at (meter'.steps - meter.steps) (meter'.made - meter.made))
+      IfErr result (λ f. FaultMeans (bits_of bytes) type order start (meter.limit - meter.steps) f.kind f.at
+      (meter'.steps - meter.steps) (meter'.made - meter.made))
 
   -- Whatever the space gives: the mapping runs along its type's plan on the numbers that were read, to this value or
   -- fault. Its steps and values made are those of the run.
   abbrev pub RunsPlan : List Node → (store store' : Held) → Result (Unit {0}) MapFault → Type 0
   RunsPlan nodes store store' (Ok u) =
-      Gives nodes store' (λ v. RunsUpTo space meter meter' store store' (state_of store') (plan (8 * space.len) type order no_values start) (Done (Ok v)))
+      Gives nodes store' (λ v. RunsUpTo space meter meter' store store' (state_of store')
+      (plan (8 * space.len) type order no_values start) (Done (Ok v)))
   RunsPlan nodes store store' (Err f) =
-      RunsTo space meter meter' store store' (plan (8 * space.len) type order no_values start) (fault_finish f.kind f.at)
+      RunsTo space meter meter' store store' (plan (8 * space.len) type order no_values start)
+      (fault_finish f.kind f.at)
 
 module _ (nodes : List Node) (store' : Held) where
   -- a value fits its type by the stored parts
@@ -129,23 +143,28 @@ module _ (nodes : List Node) (store' : Held) where
 
   -- each part was counted
   abbrev pub CountsParts : (meter meter' : Meter) → Result (Unit {0}) MapFault → Type 0
-  CountsParts meter meter' result = OnOk result (Gives nodes store' (λ v. meter.made + (value_slots NodeSlot v + value_slots ByteSlot v) ≤ meter'.made))
+  CountsParts meter meter' result = OnOk result
+      (Gives nodes store' (λ v. meter.made + (value_slots NodeSlot v + value_slots ByteSlot v) ≤ meter'.made))
 
   -- the most that a store holds which never grows
   abbrev pub HoldsAtMost : (store : Held) → Result (Unit {0}) MapFault → Type 0
-  HoldsAtMost store result = OnOk result (store.room.growth ≡ Never → (kind : Slot) → slots kind (levels nodes store') ≤ store.room.least)
+  HoldsAtMost store result =
+      OnOk result (store.room.growth ≡ Never → (kind : Slot) → slots kind (levels nodes store') ≤ store.room.least)
 
 -- Limit is returned only where all steps were taken, which are fewer than the type's bound
 abbrev pub ReachesLimit : PokeType → SpaceView → (meter meter' : Meter) → Result (Unit {0}) MapFault → Type 0
 ReachesLimit type space meter meter' result =
-    IfErr result (λ f. f.kind ≡ faults.Limit → (meter'.steps ≡ meter.limit) × (meter.limit < meter.steps + cost type (8 * space.len)))
+    IfErr result (λ f. f.kind ≡ faults.Limit →
+    (meter'.steps ≡ meter.limit) × (meter.limit < meter.steps + cost type (8 * space.len)))
 
 -- `Memory` is returned only where the store was made with fewer slots than the type's bound
 abbrev pub LacksBound : PokeType → SpaceView → (store : Held) → Result (Unit {0}) MapFault → Type 0
-LacksBound type space store result = IfErr result (λ f. f.kind ≡ faults.Memory → store.room.least < room_of type (8 * space.len))
+LacksBound type space store result =
+    IfErr result (λ f. f.kind ≡ faults.Memory → store.room.least < room_of type (8 * space.len))
 
 -- what a mapping of a type from the bit `start` on does, into an empty store
-pub record IsMapped (nodes : List Node) (type : PokeType) (order : Order) (start : ℕ) (space space' : SpaceView) (meter meter' : Meter) (store store' : Held) (result : Result (Unit {0}) MapFault) : Type 0 where
+pub record IsMapped (nodes : List Node) (type : PokeType) (order : Order) (start : ℕ) (space space' : SpaceView)
+    (meter meter' : Meter) (store store' : Held) (result : Result (Unit {0}) MapFault) : Type 0 where
   -- Where the bytes are known: the value that the type means there, in its steps and with its values made.
   pub value : MeansValue type order start space meter meter' nodes store' result
   -- Where they are known: the fault that the type means there, or Limit where that takes more steps than are left.
@@ -179,21 +198,25 @@ pub record IsMapped (nodes : List Node) (type : PokeType) (order : Order) (start
   pub failures : space.failures ≤ space'.failures
 
 -- a mapping of a type of a table runs along its plan
-abbrev pub RunsNamed : Table → TypeId → Order → (start : ℕ) → SpaceView → (meter meter' : Meter) → (store store' : Held) → Result (Unit {0}) MapFault → Type 0
+abbrev pub RunsNamed : Table → TypeId → Order → (start : ℕ) → SpaceView → (meter meter' : Meter) →
+    (store store' : Held) → Result (Unit {0}) MapFault → Type 0
 RunsNamed table id order start space meter meter' store store' result =
     RunsPlan (type_named table id) order start space meter meter' (nodes_of table) store store' result
 
 -- a run along the plan of a type from the bit `start` on, under a limit, on numbers that were read of a space, whatever
 -- they were: it comes to this fault
-pub record RunsToFault (space : SpaceView) (type : PokeType) (order : Order) (start limit : ℕ) (kind : MapFaultKind) (at : ℕ) : Type 0 where
+pub record RunsToFault (space : SpaceView) (type : PokeType) (order : Order) (start limit : ℕ) (kind : MapFaultKind)
+    (at : ℕ) : Type 0 where
   pub world : World
   pub known : world.known ≡ known_bits space
   pub steps : ℕ
   pub made : ℕ
   pub state : State
-  pub follows : Follows world limit (plan (8 * space.len) type order no_values start) 0 0 no_state steps made state (fault_finish kind at)
+  pub follows : Follows world limit (plan (8 * space.len) type order no_values start) 0 0 no_state steps made state
+      (fault_finish kind at)
 
 -- what a mapping of a type of a table does
-abbrev pub MapsNamed : Table → TypeId → Order → (start : ℕ) → (space space' : SpaceView) → (meter meter' : Meter) → (store store' : Held) → Result (Unit {0}) MapFault → Type 0
+abbrev pub MapsNamed : Table → TypeId → Order → (start : ℕ) → (space space' : SpaceView) → (meter meter' : Meter) →
+    (store store' : Held) → Result (Unit {0}) MapFault → Type 0
 MapsNamed table id order start space space' meter meter' store store' result =
     IsMapped (nodes_of table) (type_named table id) order start space space' meter meter' store store' result

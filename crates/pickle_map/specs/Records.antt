@@ -46,7 +46,8 @@ pub record IsAmong (nodes : List Node) (h : Held) (at : ℕ) (cs : List Shape) (
   pub begins : start ≡ first + struct_bits cs * length rows
 
 -- the array may have one more struct, of these bytes
-pub record TakesRow (nodes : List Node) (h : Held) (at : ℕ) (cs : List Shape) (start end : ℕ) (row : List ℕ) : Type 0 where
+pub record TakesRow (nodes : List Node) (h : Held) (at : ℕ) (cs : List Shape) (start end : ℕ)
+    (row : List ℕ) : Type 0 where
   pub among : IsAmong nodes h at cs start
   pub digits : List ℕ
   pub are : AreDigits cs digits
@@ -61,7 +62,8 @@ OpensArray nodes before after at cs start =
     start ≡ first + struct_bits cs * length rows → IsPackingStructs nodes after at cs first rows outer
 
 -- the array has a struct of these numbers after those that it had
-abbrev pub AddsStruct : List Node → (before after : Held) → (at : ℕ) → List Shape → (start : ℕ) → (digits : List ℕ) → Type 0
+abbrev pub AddsStruct : List Node → (before after : Held) → (at : ℕ) → List Shape → (start : ℕ) →
+    (digits : List ℕ) → Type 0
 AddsStruct nodes before after at cs start digits =
     (first : ℕ) (rows : List (List ℕ)) (outer : Levels) → HasStructs nodes before at cs first outer rows →
     start ≡ first + struct_bits cs * length rows → IsPackingStructs nodes after at cs first (rows ++ digits ∷ []) outer
@@ -69,7 +71,8 @@ AddsStruct nodes before after at cs start digits =
 -- the same, by the bytes
 abbrev pub AddsRow : List Node → (before after : Held) → (at : ℕ) → List Shape → (start : ℕ) → (row : List ℕ) → Type 0
 AddsRow nodes before after at cs start row =
-    (digits : List ℕ) → AreDigits cs digits → row ≡ struct_row cs digits → AddsStruct nodes before after at cs start digits
+    (digits : List ℕ) → AreDigits cs digits → row ≡ struct_row cs digits →
+    AddsStruct nodes before after at cs start digits
 
 -- numbers became the template of an array of packed structs
 abbrev pub Drafts : List Node → (before after : Held) → List Shape → (start : ℕ) → Type 0
@@ -115,14 +118,17 @@ struct_packs stride name names s r = closes (PacksStruct stride) (struct_value n
 -- its fields in a frame of its own, after its first step
 abbrev pub as_packed : (at : ℕ) → List Field → Order → (start : ℕ) → Planned Value
 as_packed at fields order start = λ nodes m levels.
-    framed levels (then_ok (fields_plan m false start (open_fields (type_of nodes) fields) order (opened levels) start start)
+    framed levels
+    (then_ok (fields_plan m false start (open_fields (type_of nodes) fields) order (opened levels) start start)
     (struct_packs (struct_bytes (shapes_of (type_of nodes) fields)) (title_at nodes at)
     (field_names (open_fields (type_of nodes) fields)) start))
 
 abbrev pub as_record : (at : ℕ) → List Field → Order → (start : ℕ) → Planned Value
-as_record at fields order start = λ nodes m levels. from_inside m start (Tick (as_packed at fields order start nodes m levels))
+as_record at fields order start =
+    λ nodes m levels. from_inside m start (Tick (as_packed at fields order start nodes m levels))
 
-module _ (nodes : List Node) (space : SpaceView) (meter meter' : Meter) (store store' : Held) (at : ℕ) (cs : List Shape) where
+module _ (nodes : List Node) (space : SpaceView) (meter meter' : Meter) (store store' : Held) (at : ℕ)
+    (cs : List Shape) where
   -- a struct was packed after those that the array had, by a plan
   pub record PacksOne (start : ℕ) (p : Plan (Result Value FaultAt)) (end : ℕ) : Type 0 where
     pub digits : List ℕ

@@ -30,7 +30,8 @@ pub record IsUnbroken (result : Result (Unit {0}) MapFault) : Type 0 where
 
 -- A second mapping over the same bytes, with no more steps left than the first one had, into a store that packs as the
 -- first one's does and has at least the capacity that the first one's had in the end.
-pub record IsAgain {type : PokeType} {order : Order} {start : ℕ} (first second : OneMapping type order start) : Type 0 where
+pub record IsAgain {type : PokeType} {order : Order} {start : ℕ}
+    (first second : OneMapping type order start) : Type 0 where
   pub bytes : List ℕ
   pub known : first.space.bytes ≡ Some bytes
   pub same : second.space.bytes ≡ Some bytes
@@ -41,4 +42,5 @@ pub record IsAgain {type : PokeType} {order : Order} {start : ℕ} (first second
 
 -- after a mapping that was not broken off, the same mapping again returns no `Memory`
 abbrev pub WantsNoMore : Type 0
-WantsNoMore = (type : PokeType) (order : Order) (start : ℕ) (first second : OneMapping type order start) → IsUnbroken first.result → IsAgain first second → IfErr second.result (λ f. f.kind ≡ faults.Memory → ⊥)
+WantsNoMore = (type : PokeType) (order : Order) (start : ℕ) (first second : OneMapping type order start) →
+    IsUnbroken first.result → IsAgain first second → IfErr second.result (λ f. f.kind ≡ faults.Memory → ⊥)

@@ -70,7 +70,8 @@ abbrev pub row_levels : Shape → List ℕ → (start : ℕ) → Levels → Leve
 row_levels shape numbers start outer = elements shape start numbers ∷ outer
 
 -- an array of packed numbers whose elements are mapped, by the plan of its elements
-pub record Packs (nodes : List Node) (space : SpaceView) (meter meter' : Meter) (store store' : Held) (shape : Shape) (start : ℕ) (outer : Levels) (p : Plan (Result Opened FaultAt)) (end : ℕ) : Type 0 where
+pub record Packs (nodes : List Node) (space : SpaceView) (meter meter' : Meter) (store store' : Held) (shape : Shape)
+    (start : ℕ) (outer : Levels) (p : Plan (Result Opened FaultAt)) (end : ℕ) : Type 0 where
   pub numbers : List ℕ
   pub packing : IsPacking nodes store' shape numbers start outer
   pub ends : end ≡ start + element_width shape * length numbers

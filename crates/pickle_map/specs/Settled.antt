@@ -19,27 +19,34 @@ module _ (nodes : List Node) (meter meter' : Meter) (store : Held) where
   -- a constraint was checked; its faults are at `place`
   abbrev pub Checks : Option (Box Resolved Global) → (place : ℕ) → Result (Unit {0}) Stop → Type 0
   Checks clause place result =
-      Settles meter.limit meter.steps meter'.steps result (constraint (optional_term clause) (levels nodes store) place) (clause_steps (optional_term clause) (levels nodes store))
+      Settles meter.limit meter.steps meter'.steps result (constraint (optional_term clause) (levels nodes store) place)
+      (clause_steps (optional_term clause) (levels nodes store))
 
   -- a condition was evaluated to decide whether its field is present
   abbrev pub TellsThere : Option (Box Resolved Global) → (start : ℕ) → Result Bool Stop → Type 0
   TellsThere clause start result =
-      Settles meter.limit meter.steps meter'.steps result (condition (optional_term clause) (levels nodes store) start) (clause_steps (optional_term clause) (levels nodes store))
+      Settles meter.limit meter.steps meter'.steps result (condition (optional_term clause) (levels nodes store) start)
+      (clause_steps (optional_term clause) (levels nodes store))
 
   -- a field's start was found, by its label or after the field before it
   abbrev pub FindsStart : (pinned : Bool) → Option (Box Resolved Global) → (start behind : ℕ) → Result ℕ Stop → Type 0
   FindsStart pinned label start behind result =
-      Settles meter.limit meter.steps meter'.steps result (field_start pinned (optional_term label) (levels nodes store) start behind) (label_steps pinned (optional_term label) (levels nodes store))
+      Settles meter.limit meter.steps meter'.steps result
+      (field_start pinned (optional_term label) (levels nodes store) start behind)
+      (label_steps pinned (optional_term label) (levels nodes store))
 
   -- the extent of an array was found
   abbrev pub FindsExtent : Bound → (start : ℕ) → Result Extent Stop → Type 0
   FindsExtent bound start result =
-      Settles meter.limit meter.steps meter'.steps result (extent_of (bound_of bound) (levels nodes store) start) (bound_steps (bound_of bound) (levels nodes store))
+      Settles meter.limit meter.steps meter'.steps result (extent_of (bound_of bound) (levels nodes store) start)
+      (bound_steps (bound_of bound) (levels nodes store))
 
   -- an expression was evaluated; what its value gives has its fault at `place`, as the expression has
   abbrev pub TellsOf : {A : Type 0} → Resolved → (place : ℕ) → (Label → Result A FaultAt) → Result A Stop → Type 0
   TellsOf e place told result =
-      Settles meter.limit meter.steps meter'.steps result (told_at place told (evaluation (term_of e) (levels nodes store)).outcome) (evaluation (term_of e) (levels nodes store)).steps
+      Settles meter.limit meter.steps meter'.steps result
+      (told_at place told (evaluation (term_of e) (levels nodes store)).outcome)
+      (evaluation (term_of e) (levels nodes store)).steps
 
   -- its truth is returned
   abbrev pub TellsTruth : Resolved → (place : ℕ) → Result Bool Stop → Type 0
@@ -47,4 +54,5 @@ module _ (nodes : List Node) (meter meter' : Meter) (store : Held) where
 
   -- its value is returned as operators need it
   abbrev pub ShowsValue : Resolved → (place : ℕ) → Result Content Stop → Type 0
-  ShowsValue e place result = Sees meter.limit meter.steps meter'.steps place result (evaluation (term_of e) (levels nodes store))
+  ShowsValue e place result =
+      Sees meter.limit meter.steps meter'.steps place result (evaluation (term_of e) (levels nodes store))

@@ -30,8 +30,10 @@ Settles limit before after (Err stop.Memory) o steps = ⊥
 
 -- what matters to an operator about an expression's value, or its fault at `place`
 abbrev pub Sees : (limit before after place : ℕ) → Result Content Stop → Evaluation → Type 0
-Sees limit before after place (Ok content) a = (x : Operand) × (a.outcome ≡ Ok x) × IsHeld content (operand_label x) × (after ≡ before + a.steps)
-Sees limit before after place (Err (stop.Fault kind at)) a = (a.outcome ≡ Err kind) × (at ≡ place) × (after ≡ before + a.steps)
+Sees limit before after place (Ok content) a =
+    (x : Operand) × (a.outcome ≡ Ok x) × IsHeld content (operand_label x) × (after ≡ before + a.steps)
+Sees limit before after place (Err (stop.Fault kind at)) a =
+    (a.outcome ≡ Err kind) × (at ≡ place) × (after ≡ before + a.steps)
 Sees limit before after place (Err stop.Limit) a = (after ≡ limit) × (limit < before + a.steps)
 Sees limit before after place (Err stop.Device) a = ⊥
 Sees limit before after place (Err stop.Memory) a = ⊥

@@ -47,7 +47,8 @@ pub fn map<S: Space>(
     requires known { IsInTable table.now id }
     requires empty { store.old ≡ emptied store.old }
     // Where the bytes are known: the value that the type means there, in its steps and with its values made.
-    ensures value { MeansValue (type_named table.now id) order start (S.view space.old) meter.old meter.new (nodes_of table.now) store.new result }
+    ensures value { MeansValue (type_named table.now id) order start (S.view space.old) meter.old meter.new
+        (nodes_of table.now) store.new result }
     // Where they are known: the fault that the type means there, or Limit where that takes more steps than are left.
     ensures fault { MeansFault (type_named table.now id) order start (S.view space.old) meter.old meter.new result }
     // Whatever the space gives: a value fits its type by the stored parts, and each part was counted.
@@ -55,16 +56,20 @@ pub fn map<S: Space>(
     ensures size { CountsParts (nodes_of table.now) store.new meter.old meter.new result }
     ensures rise { meter.old.steps ≤ meter.new.steps }
     ensures steps { meter.new.steps ≤ meter.old.steps + cost (type_named table.now id) (8 * (S.view space.old).len) }
-    ensures made { (meter.old.made ≤ meter.new.made) × (meter.new.made + meter.old.steps ≤ meter.old.made + meter.new.steps) }
+    ensures made { (meter.old.made ≤ meter.new.made)
+        × (meter.new.made + meter.old.steps ≤ meter.old.made + meter.new.steps) }
     ensures limit { ReachesLimit (type_named table.now id) (S.view space.old) meter.old meter.new result }
     ensures memory { LacksBound (type_named table.now id) (S.view space.old) store.old result }
-    ensures device { IfErr result (λ f. f.kind ≡ MapFaultKind.Device → HasRisen (S.view space.old).failures (S.view space.new).failures) }
+    ensures device { IfErr result
+        (λ f. f.kind ≡ MapFaultKind.Device → HasRisen (S.view space.old).failures (S.view space.new).failures) }
     // Whatever the space gives: the mapping runs along its type's plan on the numbers that were read, to this value or
     // fault, in the steps and with the values made of that run.
-    ensures counts { RunsNamed table.now id order start (S.view space.old) meter.old meter.new store.old store.new result }
+    ensures counts { RunsNamed table.now id order start (S.view space.old) meter.old meter.new
+        store.old store.new result }
     // In the end there is capacity for all that was to be stored. `Memory` is returned only where there was too little
     // before.
-    ensures kept { KeptInRoom (type_named table.now id) order start (S.view space.old) meter.old store.old store.new result }
+    ensures kept { KeptInRoom (type_named table.now id) order start (S.view space.old) meter.old
+        store.old store.new result }
     ensures asked { WantedMore (type_named table.now id) order start (S.view space.old) meter.old store.old result }
     // A fault that ends a run has the mapping's start as its place.
     ensures place { IfErr result (λ f. EndsRun f.kind → f.at ≡ start) }
@@ -96,7 +101,8 @@ pub fn map_watched<S: Space, W: Watch>(
 ) -> Result<(), MapFault>
     requires known { IsInTable table.now id }
     requires empty { store.old ≡ emptied store.old }
-    ensures { MapsNamed table.now id order start (S.view space.old) (S.view space.new) meter.old meter.new store.old store.new result }
+    ensures { MapsNamed table.now id order start (S.view space.old) (S.view space.new) meter.old meter.new
+        store.old store.new result }
 {
     let mut mapper = Mapper {
         nodes: table.nodes(),

@@ -42,7 +42,8 @@ is_signed_in width (negsuc n) = nat_lt n (2 ^ (width - 1))
 
 -- z brought to a type: modulo 2 ^ width for an unsigned type; z itself for a signed type, if it is in range
 unfoldable pub brought : IntegerType → ℤ → Result ℤ MapFaultKind
-brought type z = if type.signed then (if is_signed_in type.width z then Ok z else Err fault.Overflow) else Ok (pos (modulo type.width z))
+brought type z = if type.signed then (if is_signed_in type.width z then Ok z else Err fault.Overflow)
+    else Ok (pos (modulo type.width z))
 
 abbrev pub as_integer : IntegerType → Result ℤ MapFaultKind → Computed
 as_integer type (Ok z) = Ok (IntegerLabel z type)
@@ -142,7 +143,8 @@ on_bits GreaterEqual type unit x y = truth (int_le y x)
 on_bits Add type unit x y = brought_offset type unit (int_div (x +ℤ y) (pos unit))
 on_bits Subtract type unit x y = brought_offset type unit (int_div (x -ℤ y) (pos unit))
 on_bits Divide type unit x y = if is_zero y then Err fault.Zero else brought_integer type (int_div x y)
-on_bits Remainder type unit x y = if is_zero y then Err fault.Zero else brought_offset type unit (int_div (int_rem x y) (pos unit))
+on_bits Remainder type unit x y =
+    if is_zero y then Err fault.Zero else brought_offset type unit (int_div (int_rem x y) (pos unit))
 on_bits op type unit x y = wrong_sort
 
 -- the product of a number and an offset, of a type and unit
@@ -160,7 +162,8 @@ unfoldable pub combined : Infix → Label → Label → Computed
 combined op (IntegerLabel x t) (IntegerLabel y u) = on_integers op x t y u
 combined op (IntegerLabel x t) (OffsetLabel y u n) = on_scaled op (common t u) n x y
 combined op (OffsetLabel x t m) (IntegerLabel y u) = on_scaled op (common t u) m x y
-combined op (OffsetLabel x t m) (OffsetLabel y u n) = on_bits op (common t u) (greatest_divisor m n) (bits_in x m) (bits_in y n)
+combined op (OffsetLabel x t m) (OffsetLabel y u n) =
+    on_bits op (common t u) (greatest_divisor m n) (bits_in x m) (bits_in y n)
 combined op (TextLabel x) (TextLabel y) = on_texts op x y
 combined op x y = wrong_sort
 

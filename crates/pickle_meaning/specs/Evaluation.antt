@@ -109,18 +109,21 @@ as_common (Some type) x = to_integer type x
 abbrev pub selected : Operand → ℕ → Option Value
 selected (Plain label) place = None
 selected (AtPath (Mapped (StructLabel name fields) start end members)) place = member_at members place
-selected (AtPath (Mapped (UnionLabel name index alternative) start end members)) place = if nat_eq index place then member_at members 0 else None
+selected (AtPath (Mapped (UnionLabel name index alternative) start end members)) place =
+    if nat_eq index place then member_at members 0 else None
 selected (AtPath value) place = None
 
 -- the element of an array; an index that is negative or not less than the count is Index
 abbrev pub element : Operand → Label → Result Value MapFaultKind
-element (AtPath (Mapped ArrayLabel start end members)) (IntegerLabel (pos i) type) = if nat_lt i (member_count members) then present (member_at members i) else Err fault.Index
+element (AtPath (Mapped ArrayLabel start end members)) (IntegerLabel (pos i) type) =
+    if nat_lt i (member_count members) then present (member_at members i) else Err fault.Index
 element (AtPath (Mapped ArrayLabel start end _)) (IntegerLabel (negsuc i) type) = Err fault.Index
 element p i = Err fault.Absent
 
 -- the number of elements of an array, or the size of a value in bits
 abbrev pub attribute_of : Attribute → Operand → Computed
-attribute_of Length (AtPath (Mapped ArrayLabel start end members)) = Ok (IntegerLabel (pos (member_count members)) (unsigned_type 64))
+attribute_of Length (AtPath (Mapped ArrayLabel start end members)) =
+    Ok (IntegerLabel (pos (member_count members)) (unsigned_type 64))
 attribute_of Size (AtPath (Mapped label start end _)) = Ok (OffsetLabel (pos (end - start)) (unsigned_type 64) 1)
 attribute_of attribute x = Err fault.Absent
 
@@ -130,7 +133,8 @@ evaluation (Number type value) levels = with_steps 1 (gives (Ok (IntegerLabel (p
 evaluation (Text bytes) levels = with_steps 1 (gives (Ok (TextLabel bytes)))
 evaluation (Name level place) levels = with_steps 1 (leads_to (present (value_at levels level place)))
 evaluation (Bracket e) levels = with_steps 1 (evaluation e levels)
-evaluation (Before op e) levels = with_steps 1 (and_operand (evaluation e levels) (λ x. gives (prefixed op (operand_label x))))
+evaluation (Before op e) levels =
+    with_steps 1 (and_operand (evaluation e levels) (λ x. gives (prefixed op (operand_label x))))
 evaluation (Between op a b) levels =
     with_steps 1 (and_operand (evaluation a levels) (λ x.
     unless_settled (settled op (truth_of (operand_label x))) (and_operand (evaluation b levels) (λ y.
@@ -139,9 +143,15 @@ evaluation (Choice common c x y) levels =
     with_steps 1 (and_operand (evaluation c levels) (λ t.
     and_operand (chosen (truth_of (operand_label t)) (evaluation x levels) (evaluation y levels)) (λ z.
     gives (as_common common (operand_label z)))))
-evaluation (Index e i) levels = with_steps 1 (and_operand (evaluation e levels) (λ p. and_operand (evaluation i levels) (λ n. leads_to (element p (operand_label n)))))
-evaluation (Select e place) levels = with_steps 1 (and_operand (evaluation e levels) (λ p. leads_to (present (selected p place))))
-evaluation (AttributeOf attribute e) levels = with_steps 1 (and_operand (evaluation e levels) (λ p. gives (attribute_of attribute p)))
-evaluation (ToInteger type e) levels = with_steps 1 (and_operand (evaluation e levels) (λ x. gives (to_integer type (operand_label x))))
-evaluation (ToOffset type unit e) levels = with_steps 1 (and_operand (evaluation e levels) (λ x. gives (to_offset type unit (operand_label x))))
-evaluation (InUnit unit e) levels = with_steps 1 (and_operand (evaluation e levels) (λ x. gives (in_unit unit (operand_label x))))
+evaluation (Index e i) levels = with_steps 1 (and_operand (evaluation e levels)
+    (λ p. and_operand (evaluation i levels) (λ n. leads_to (element p (operand_label n)))))
+evaluation (Select e place) levels =
+    with_steps 1 (and_operand (evaluation e levels) (λ p. leads_to (present (selected p place))))
+evaluation (AttributeOf attribute e) levels =
+    with_steps 1 (and_operand (evaluation e levels) (λ p. gives (attribute_of attribute p)))
+evaluation (ToInteger type e) levels =
+    with_steps 1 (and_operand (evaluation e levels) (λ x. gives (to_integer type (operand_label x))))
+evaluation (ToOffset type unit e) levels =
+    with_steps 1 (and_operand (evaluation e levels) (λ x. gives (to_offset type unit (operand_label x))))
+evaluation (InUnit unit e) levels =
+    with_steps 1 (and_operand (evaluation e levels) (λ x. gives (in_unit unit (operand_label x))))

@@ -20,9 +20,12 @@ IsWhole (Size z) s n end = end - s ≡ z
 
 -- elements that fit one after the other, each of at least one bit. The last three arguments are the frames, place and
 -- number before them, and `inside`, `end` and `n` those after them.
-pub data ElementsFit (Fit : Levels → ℕ → Value → Type 0) (inside : Levels) (end n : ℕ) : Levels → (place i : ℕ) → Type 0 where
+pub data ElementsFit (Fit : Levels → ℕ → Value → Type 0) (inside : Levels) (end n : ℕ) : Levels →
+    (place i : ℕ) → Type 0 where
   no_more_fit : ElementsFit Fit inside end n inside end n
-  one_more_fits : {levels : Levels} {place i : ℕ} (v : Value) → Fit levels place v → place < end_of v → ElementsFit Fit inside end n (pushed levels (Some v)) (end_of v) (i + 1) → ElementsFit Fit inside end n levels place i
+  one_more_fits : {levels : Levels} {place i : ℕ} (v : Value) → Fit levels place v → place < end_of v →
+      ElementsFit Fit inside end n (pushed levels (Some v)) (end_of v) (i + 1) →
+      ElementsFit Fit inside end n levels place i
 
 unfoldable mutual
   -- a field of an integral struct that starts at s
@@ -33,25 +36,32 @@ unfoldable mutual
   FitsNumber (ArrayOf element bound) levels s v = ⊥
   FitsNumber (StructOf name pinned _) levels s v = ⊥
   FitsNumber (IntegralOf name type fields) levels s v =
-      (inside : Levels) × DigitsFit fields (opened levels) s inside × (v ≡ struct_value name (part_names fields) s (s + type.width) inside)
+      (inside : Levels) × DigitsFit fields (opened levels) s inside
+      × (v ≡ struct_value name (part_names fields) s (s + type.width) inside)
   FitsNumber (UnionOf name alternatives) levels s v = ⊥
 
   pub DigitsFit : Parts → Levels → (s : ℕ) → Levels → Type 0
   DigitsFit NoParts levels s inside = inside ≡ levels
   DigitsFit (PartThen name order ty c rest) levels s inside =
-      (v : Value) × FitsNumber ty levels s v × (constraint c (pushed levels (Some v)) s ≡ Ok tt) × DigitsFit rest (pushed levels (Some v)) s inside
+      (v : Value) × FitsNumber ty levels s v × (constraint c (pushed levels (Some v)) s ≡ Ok tt)
+      × DigitsFit rest (pushed levels (Some v)) s inside
 
 unfoldable mutual
   -- v fits the type at s, over frames that hold the stored parts
   pub Fits : (m : ℕ) → PokeType → Levels → (s : ℕ) → Value → Type 0
   Fits m (IntegerOf type) levels s v = FitsNumber (IntegerOf type) levels s v × (s + type.width ≤ m)
   Fits m (OffsetOf type unit) levels s v = FitsNumber (OffsetOf type unit) levels s v × (s + type.width ≤ m)
-  Fits m StringOf levels s v = (bytes : List ℕ) × IsText bytes × (v ≡ text_value bytes s (s + 8 * (length bytes + 1))) × (s + 8 * (length bytes + 1) ≤ m)
+  Fits m StringOf levels s v = (bytes : List ℕ) × IsText bytes × (v ≡ text_value bytes s (s + 8 * (length bytes + 1)))
+      × (s + 8 * (length bytes + 1) ≤ m)
   Fits m (ArrayOf element bound) levels s v =
-      (extent : Extent) × (extent_of bound levels s ≡ Ok extent) × (inside : Levels) × (end : ℕ) × (n : ℕ) × ElementsFit (Fits m element) inside end n (opened levels) s 0 × IsWhole extent s n end × (end ≤ m) × (v ≡ array_value s end inside)
+      (extent : Extent) × (extent_of bound levels s ≡ Ok extent) × (inside : Levels) × (end : ℕ) × (n : ℕ)
+      × ElementsFit (Fits m element) inside end n (opened levels) s 0 × IsWhole extent s n end × (end ≤ m)
+      × (v ≡ array_value s end inside)
   Fits m (StructOf name pinned fields) levels s v =
-      (inside : Levels) × (end : ℕ) × FieldsFit m pinned s fields (opened levels) s s inside end × (end ≤ m) × (v ≡ struct_value name (field_names fields) s end inside)
-  Fits m (IntegralOf name type fields) levels s v = FitsNumber (IntegralOf name type fields) levels s v × (s + type.width ≤ m)
+      (inside : Levels) × (end : ℕ) × FieldsFit m pinned s fields (opened levels) s s inside end × (end ≤ m)
+      × (v ≡ struct_value name (field_names fields) s end inside)
+  Fits m (IntegralOf name type fields) levels s v =
+      FitsNumber (IntegralOf name type fields) levels s v × (s + type.width ≤ m)
   Fits m (UnionOf name alternatives) levels s v =
       (t : Taken) × AlternativeFits m alternatives 0 (opened levels) s t × (v ≡ union_value name s t)
 
@@ -60,11 +70,14 @@ unfoldable mutual
   FieldsFit m pinned s NoFields levels behind top inside end = (inside ≡ levels) × (end ≡ top)
   FieldsFit m pinned s (FieldThen name set ty c label when rest) levels behind top inside end =
       ((condition when levels s ≡ Ok false) × FieldsFit m pinned s rest (pushed levels None) behind top inside end)
-      ⊎ ((condition when levels s ≡ Ok true) × (p : ℕ) × (field_start pinned label levels s behind ≡ Ok p) × (s ≤ p) × (v : Value) × Fits m ty levels p v × (constraint c (pushed levels (Some v)) p ≡ Ok tt) × FieldsFit m pinned s rest (pushed levels (Some v)) (end_of v) (max top (end_of v)) inside end)
+      ⊎ ((condition when levels s ≡ Ok true) × (p : ℕ) × (field_start pinned label levels s behind ≡ Ok p) × (s ≤ p)
+      × (v : Value) × Fits m ty levels p v × (constraint c (pushed levels (Some v)) p ≡ Ok tt)
+      × FieldsFit m pinned s rest (pushed levels (Some v)) (end_of v) (max top (end_of v)) inside end)
 
   -- the alternative that matched fits, and its constraint holds
   pub AlternativeFits : (m : ℕ) → Parts → (index : ℕ) → Levels → (s : ℕ) → Taken → Type 0
   AlternativeFits m NoParts index levels s t = ⊥
   AlternativeFits m (PartThen name set ty c rest) index levels s t =
-      ((t.index ≡ index) × (t.name ≡ name) × Fits m ty levels s t.value × (constraint c (pushed levels (Some t.value)) s ≡ Ok tt) × (end_of t.value ≤ m))
+      ((t.index ≡ index) × (t.name ≡ name) × Fits m ty levels s t.value
+      × (constraint c (pushed levels (Some t.value)) s ≡ Ok tt) × (end_of t.value ≤ m))
       ⊎ AlternativeFits m rest (index + 1) levels s t

@@ -18,11 +18,13 @@ pub record OneOutcome (bits : List ℕ) (ty : PokeType) (order : Order) (levels 
   pub steps : ℕ
   pub made : ℕ
   pub means : Means bits ty order levels s outcome steps made
-  pub only : (r : Result Value FaultAt) (k j : ℕ) → Means bits ty order levels s r k j → (r ≡ outcome) × (k ≡ steps) × (j ≡ made)
+  pub only : (r : Result Value FaultAt) (k j : ℕ) → Means bits ty order levels s r k j →
+      (r ≡ outcome) × (k ≡ steps) × (j ≡ made)
 
 -- each type has exactly one outcome at each place of each file
 abbrev pub HasOneOutcome : Type 0
-HasOneOutcome = (bits : List ℕ) (ty : PokeType) (order : Order) (levels : Levels) (s : ℕ) → OneOutcome bits ty order levels s
+HasOneOutcome = (bits : List ℕ) (ty : PokeType) (order : Order) (levels : Levels) (s : ℕ) →
+    OneOutcome bits ty order levels s
 
 -- exactly one answer and number of steps under a limit
 pub record OneAnswer (bits : List ℕ) (ty : PokeType) (order : Order) (s limit : ℕ) : Type 0 where
@@ -42,15 +44,19 @@ value_size (Err f) = 0
 
 -- a value starts where it is mapped
 abbrev pub ValuesStartThere : Type 0
-ValuesStartThere = (bits : List ℕ) (ty : PokeType) (order : Order) (levels : Levels) (s : ℕ) (v : Value) (k j : ℕ) → Means bits ty order levels s (Ok v) k j → start_of v ≡ s
+ValuesStartThere = (bits : List ℕ) (ty : PokeType) (order : Order) (levels : Levels) (s : ℕ) (v : Value) (k j : ℕ) →
+    Means bits ty order levels s (Ok v) k j → start_of v ≡ s
 
 -- a value ends in the file; its size is at least its type's least width
 abbrev pub ValuesAreWide : Type 0
-ValuesAreWide = (bits : List ℕ) (ty : PokeType) (order : Order) (levels : Levels) (s : ℕ) (v : Value) (k j : ℕ) → Means bits ty order levels s (Ok v) k j → (s + least_width ty ≤ end_of v) × (end_of v ≤ length bits)
+ValuesAreWide = (bits : List ℕ) (ty : PokeType) (order : Order) (levels : Levels) (s : ℕ) (v : Value) (k j : ℕ) →
+    Means bits ty order levels s (Ok v) k j → (s + least_width ty ≤ end_of v) × (end_of v ≤ length bits)
 
 -- at most as many elements of an array are values as fit in the file; one more may be tried
 abbrev pub TriesAreFew : Type 0
-TriesAreFew = (bits : List ℕ) (ty : PokeType) (order : Order) (s : ℕ) (extent : Extent) (levels : Levels) (n : ℕ) (inside : Levels) (pn k j : ℕ) → s ≤ length bits → Elements bits ty order s extent 0 levels s n inside pn k j → n ≤ length bits / max 1 (least_width ty)
+TriesAreFew = (bits : List ℕ) (ty : PokeType) (order : Order) (s : ℕ) (extent : Extent) (levels : Levels) (n : ℕ)
+    (inside : Levels) (pn k j : ℕ) → s ≤ length bits → Elements bits ty order s extent 0 levels s n inside pn k j →
+    n ≤ length bits / max 1 (least_width ty)
 
 -- a value fits; nothing is said of a fault
 abbrev pub ValueFits : (m : ℕ) → PokeType → Levels → (s : ℕ) → Result Value FaultAt → Type 0
@@ -66,8 +72,12 @@ pub record IsBounded (bits : List ℕ) (ty : PokeType) (r : Result Value FaultAt
 
 -- each outcome that a type means is bounded
 abbrev pub OutcomesAreBounded : Type 0
-OutcomesAreBounded = (bits : List ℕ) (ty : PokeType) (order : Order) (levels : Levels) (s : ℕ) (r : Result Value FaultAt) (k j : ℕ) → Means bits ty order levels s r k j → IsBounded bits ty r k j
+OutcomesAreBounded =
+    (bits : List ℕ) (ty : PokeType) (order : Order) (levels : Levels) (s : ℕ) (r : Result Value FaultAt) (k j : ℕ) →
+    Means bits ty order levels s r k j → IsBounded bits ty r k j
 
 -- each value that a type means on a file's bits fits the type there
 abbrev pub OutcomesFit : Type 0
-OutcomesFit = (bytes : List ℕ) (ty : PokeType) (order : Order) (levels : Levels) (s : ℕ) (r : Result Value FaultAt) (k j : ℕ) → Means (bits_of bytes) ty order levels s r k j → ValueFits (length (bits_of bytes)) ty levels s r
+OutcomesFit =
+    (bytes : List ℕ) (ty : PokeType) (order : Order) (levels : Levels) (s : ℕ) (r : Result Value FaultAt) (k j : ℕ) →
+    Means (bits_of bytes) ty order levels s r k j → ValueFits (length (bits_of bytes)) ty levels s r

@@ -86,9 +86,11 @@ mutual
     -- each field is a value whose constraint holds
     integral : {name : Naming} {type : IntegerType} {fields : Parts} {n : ℕ} {levels inside : Levels} {s k j : ℕ}
         → DigitsMean fields n type.width (opened levels) s (Ok inside) k j
-        → NumberMeans (IntegralOf name type fields) n levels s (Ok (struct_value name (part_names fields) s (s + type.width) inside)) (1 + k) (j + 1)
+        → NumberMeans (IntegralOf name type fields) n levels s
+        (Ok (struct_value name (part_names fields) s (s + type.width) inside)) (1 + k) (j + 1)
     -- the first fault is the struct's
-    integral_fault : {name : Naming} {type : IntegerType} {fields : Parts} {n : ℕ} {levels : Levels} {s k j : ℕ} {f : FaultAt}
+    integral_fault : {name : Naming} {type : IntegerType} {fields : Parts} {n : ℕ} {levels : Levels}
+        {s k j : ℕ} {f : FaultAt}
         → DigitsMean fields n type.width (opened levels) s (Err f) k j
         → NumberMeans (IntegralOf name type fields) n levels s (Err f) (1 + k) j
     -- the other types aren't read as one number
@@ -98,22 +100,28 @@ mutual
 
   -- The fields of an integral struct from here on. Each is cut from the front of the remaining binary digits, and all
   -- start at s, where the outermost integral struct starts.
-  pub data DigitsMean : Parts → (n left : ℕ) → Levels → (s : ℕ) → Result Levels FaultAt → (steps made : ℕ) → Type 0 where
+  pub data DigitsMean : Parts → (n left : ℕ) → Levels → (s : ℕ) → Result Levels FaultAt →
+      (steps made : ℕ) → Type 0 where
     -- no field is left
     no_digits : {n left : ℕ} {levels : Levels} {s : ℕ} → DigitsMean NoParts n left levels s (Ok levels) 0 0
     -- the next field is a value whose constraint holds, and the fields after it have the outcome r
-    next_digits : {name : Naming} {order : Option ByteOrder} {ty : PokeType} {c : Option Term} {rest : Parts} {n left : ℕ} {levels : Levels} {s k j k' j' : ℕ} {v : Value} {r : Result Levels FaultAt}
+    next_digits : {name : Naming} {order : Option ByteOrder} {ty : PokeType} {c : Option Term} {rest : Parts}
+        {n left : ℕ} {levels : Levels} {s k j k' j' : ℕ} {v : Value} {r : Result Levels FaultAt}
         → NumberMeans ty (first_digits n left (width_in (number_type ty))) levels s (Ok v) k j
         → constraint c (pushed levels (Some v)) s ≡ Ok tt
         → DigitsMean rest n (left - width_in (number_type ty)) (pushed levels (Some v)) s r k' j'
-        → DigitsMean (PartThen name order ty c rest) n left levels s r (1 + k + clause_steps c (pushed levels (Some v)) + k') (j + j')
+        → DigitsMean (PartThen name order ty c rest) n left levels s r
+        (1 + k + clause_steps c (pushed levels (Some v)) + k') (j + j')
     -- its constraint is 0 or has a fault
-    digits_refused : {name : Naming} {order : Option ByteOrder} {ty : PokeType} {c : Option Term} {rest : Parts} {n left : ℕ} {levels : Levels} {s k j : ℕ} {v : Value} {f : FaultAt}
+    digits_refused : {name : Naming} {order : Option ByteOrder} {ty : PokeType} {c : Option Term} {rest : Parts}
+        {n left : ℕ} {levels : Levels} {s k j : ℕ} {v : Value} {f : FaultAt}
         → NumberMeans ty (first_digits n left (width_in (number_type ty))) levels s (Ok v) k j
         → constraint c (pushed levels (Some v)) s ≡ Err f
-        → DigitsMean (PartThen name order ty c rest) n left levels s (Err f) (1 + k + clause_steps c (pushed levels (Some v))) j
+        → DigitsMean (PartThen name order ty c rest) n left levels s (Err f)
+        (1 + k + clause_steps c (pushed levels (Some v))) j
     -- it has a fault itself
-    digits_fault : {name : Naming} {order : Option ByteOrder} {ty : PokeType} {c : Option Term} {rest : Parts} {n left : ℕ} {levels : Levels} {s k j : ℕ} {f : FaultAt}
+    digits_fault : {name : Naming} {order : Option ByteOrder} {ty : PokeType} {c : Option Term} {rest : Parts}
+        {n left : ℕ} {levels : Levels} {s k j : ℕ} {f : FaultAt}
         → NumberMeans ty (first_digits n left (width_in (number_type ty))) levels s (Err f) k j
         → DigitsMean (PartThen name order ty c rest) n left levels s (Err f) (1 + k) j
 
@@ -128,13 +136,15 @@ pub data Run (bits : List ℕ) : (p : ℕ) → List ℕ → (q : ℕ) → Type 0
 
 mutual
   -- at bit s, in a byte order, the type has the outcome r in `steps` steps, with `made` values made
-  pub data Means (bits : List ℕ) : PokeType → Order → Levels → (s : ℕ) → Result Value FaultAt → (steps made : ℕ) → Type 0 where
+  pub data Means (bits : List ℕ) : PokeType → Order → Levels → (s : ℕ) → Result Value FaultAt →
+      (steps made : ℕ) → Type 0 where
     -- a start past the last bit
     past_end : {ty : PokeType} {order : Order} {levels : Levels} {s : ℕ}
         → length bits < s
         → Means bits ty order levels s (Err (fault.End, s)) 0 0
     -- an integer, an offset or an integral struct, all of whose bits are in the file
-    number_read : {ty : PokeType} {type : IntegerType} {order : Order} {levels : Levels} {s k j : ℕ} {r : Result Value FaultAt}
+    number_read : {ty : PokeType} {type : IntegerType} {order : Order} {levels : Levels} {s k j : ℕ}
+        {r : Result Value FaultAt}
         → s ≤ length bits
         → number_type ty ≡ Some type
         → s + type.width ≤ length bits
@@ -160,7 +170,8 @@ mutual
         → length bits < q + 8
         → Means bits StringOf order levels s (Err (fault.End, s)) (1 + length bytes + 1) (length bytes)
     -- the elements between the cut points, and how the array ends after them
-    array : {ty : PokeType} {bound : Bound} {order : Order} {extent : Extent} {levels inside : Levels} {s n pn k j k' j' : ℕ} {r : Result Value FaultAt}
+    array : {ty : PokeType} {bound : Bound} {order : Order} {extent : Extent} {levels inside : Levels}
+        {s n pn k j k' j' : ℕ} {r : Result Value FaultAt}
         → s ≤ length bits
         → extent_of bound levels s ≡ Ok extent
         → Elements bits ty order s extent 0 (opened levels) s n inside pn k j
@@ -175,9 +186,11 @@ mutual
     struct : {name : Naming} {pinned : Bool} {fields : Fields} {order : Order} {levels inside : Levels} {s end k j : ℕ}
         → s ≤ length bits
         → FieldsMean bits pinned s fields order (opened levels) s s (Ok (inside, end)) k j
-        → Means bits (StructOf name pinned fields) order levels s (Ok (struct_value name (field_names fields) s end inside)) (1 + k) (j + 1)
+        → Means bits (StructOf name pinned fields) order levels s
+        (Ok (struct_value name (field_names fields) s end inside)) (1 + k) (j + 1)
     -- the first fault of a field is the struct's
-    struct_fault : {name : Naming} {pinned : Bool} {fields : Fields} {order : Order} {levels : Levels} {s k j : ℕ} {f : FaultAt}
+    struct_fault : {name : Naming} {pinned : Bool} {fields : Fields} {order : Order} {levels : Levels}
+        {s k j : ℕ} {f : FaultAt}
         → s ≤ length bits
         → FieldsMean bits pinned s fields order (opened levels) s s (Err f) k j
         → Means bits (StructOf name pinned fields) order levels s (Err f) (1 + k) j
@@ -194,10 +207,12 @@ mutual
 
   -- The elements of an array from s between its cut points of number i, at p, and of number n, at pn. Each is due, and
   -- is a value from one cut point to the next, which is greater.
-  pub data Elements (bits : List ℕ) : PokeType → Order → (s : ℕ) → Extent → (i : ℕ) → Levels → (p : ℕ) → (n : ℕ) → Levels → (pn : ℕ) → (steps made : ℕ) → Type 0 where
+  pub data Elements (bits : List ℕ) : PokeType → Order → (s : ℕ) → Extent → (i : ℕ) → Levels → (p : ℕ) → (n : ℕ) →
+      Levels → (pn : ℕ) → (steps made : ℕ) → Type 0 where
     no_more : {ty : PokeType} {order : Order} {extent : Extent} {inside : Levels} {s i p : ℕ}
         → Elements bits ty order s extent i inside p i inside p 0 0
-    next_element : {ty : PokeType} {order : Order} {extent : Extent} {levels inside : Levels} {s i p n pn k j k' j' : ℕ} {v : Value}
+    next_element : {ty : PokeType} {order : Order} {extent : Extent} {levels inside : Levels}
+        {s i p n pn k j k' j' : ℕ} {v : Value}
         → is_due extent (length bits) s i p ≡ true
         → Means bits ty order levels p (Ok v) k j
         → p < end_of v
@@ -205,7 +220,8 @@ mutual
         → Elements bits ty order s extent i levels p n inside pn (1 + k + k') (j + j')
 
   -- how an array from s ends at its last cut point, of number n at pn
-  pub data Closing (bits : List ℕ) : PokeType → Order → (s : ℕ) → Extent → (n : ℕ) → Levels → (pn : ℕ) → Result Value FaultAt → (steps made : ℕ) → Type 0 where
+  pub data Closing (bits : List ℕ) : PokeType → Order → (s : ℕ) → Extent → (n : ℕ) → Levels → (pn : ℕ) →
+      Result Value FaultAt → (steps made : ℕ) → Type 0 where
     -- no element is due, and a size is met
     none_due : {ty : PokeType} {order : Order} {extent : Extent} {inside : Levels} {s n pn : ℕ}
         → is_due extent (length bits) s n pn ≡ false
@@ -236,14 +252,16 @@ mutual
         → Closing bits ty order s extent n inside pn (Err f) (1 + k) j
 
   -- a field or an alternative, with its constraint
-  pub data PartMeans (bits : List ℕ) : PokeType → Option Term → Order → Levels → (s : ℕ) → Result Value FaultAt → (steps made : ℕ) → Type 0 where
+  pub data PartMeans (bits : List ℕ) : PokeType → Option Term → Order → Levels → (s : ℕ) → Result Value FaultAt →
+      (steps made : ℕ) → Type 0 where
     -- a value whose constraint holds
     part : {ty : PokeType} {c : Option Term} {order : Order} {levels : Levels} {s k j : ℕ} {v : Value}
         → Means bits ty order levels s (Ok v) k j
         → constraint c (pushed levels (Some v)) s ≡ Ok tt
         → PartMeans bits ty c order levels s (Ok v) (k + clause_steps c (pushed levels (Some v))) j
     -- its constraint is 0 or has a fault
-    part_refused : {ty : PokeType} {c : Option Term} {order : Order} {levels : Levels} {s k j : ℕ} {v : Value} {f : FaultAt}
+    part_refused : {ty : PokeType} {c : Option Term} {order : Order} {levels : Levels} {s k j : ℕ}
+        {v : Value} {f : FaultAt}
         → Means bits ty order levels s (Ok v) k j
         → constraint c (pushed levels (Some v)) s ≡ Err f
         → PartMeans bits ty c order levels s (Err f) (k + clause_steps c (pushed levels (Some v))) j
@@ -254,56 +272,73 @@ mutual
 
   -- The fields of a struct at s from here on, in order: each is absent, or a value, or the first fault, which is the
   -- struct's. The last present field ended at `behind`, and the greatest end is `top`.
-  pub data FieldsMean (bits : List ℕ) : (pinned : Bool) → (s : ℕ) → Fields → Order → Levels → (behind top : ℕ) → Result Opened FaultAt → (steps made : ℕ) → Type 0 where
+  pub data FieldsMean (bits : List ℕ) : (pinned : Bool) → (s : ℕ) → Fields → Order → Levels → (behind top : ℕ) →
+      Result Opened FaultAt → (steps made : ℕ) → Type 0 where
     -- no field is left
     all_fields : {pinned : Bool} {order : Order} {levels : Levels} {s behind top : ℕ}
         → FieldsMean bits pinned s NoFields order levels behind top (Ok (levels, top)) 0 0
     -- the next field is absent; its label and constraint are not evaluated
-    absent : {pinned : Bool} {name : Naming} {set : Option ByteOrder} {ty : PokeType} {c label when : Option Term} {rest : Fields} {order : Order} {levels : Levels} {s behind top k j : ℕ} {r : Result Opened FaultAt}
+    absent : {pinned : Bool} {name : Naming} {set : Option ByteOrder} {ty : PokeType} {c label when : Option Term}
+        {rest : Fields} {order : Order} {levels : Levels} {s behind top k j : ℕ} {r : Result Opened FaultAt}
         → condition when levels s ≡ Ok false
         → FieldsMean bits pinned s rest order (pushed levels None) behind top r k j
-        → FieldsMean bits pinned s (FieldThen name set ty c label when rest) order levels behind top r (1 + clause_steps when levels + k) j
+        → FieldsMean bits pinned s (FieldThen name set ty c label when rest) order levels behind top r
+        (1 + clause_steps when levels + k) j
     -- it is a value whose constraint holds, and the fields after it have the outcome r
-    field : {pinned : Bool} {name : Naming} {set : Option ByteOrder} {ty : PokeType} {c label when : Option Term} {rest : Fields} {order : Order} {levels : Levels} {s behind top p k j k' j' : ℕ} {v : Value} {r : Result Opened FaultAt}
+    field : {pinned : Bool} {name : Naming} {set : Option ByteOrder} {ty : PokeType} {c label when : Option Term}
+        {rest : Fields} {order : Order} {levels : Levels} {s behind top p k j k' j' : ℕ} {v : Value}
+        {r : Result Opened FaultAt}
         → condition when levels s ≡ Ok true
         → field_start pinned label levels s behind ≡ Ok p
         → PartMeans bits ty c (ordered set order) levels p (Ok v) k j
         → FieldsMean bits pinned s rest order (pushed levels (Some v)) (end_of v) (max top (end_of v)) r k' j'
-        → FieldsMean bits pinned s (FieldThen name set ty c label when rest) order levels behind top r (1 + clause_steps when levels + label_steps pinned label levels + k + k') (j + j')
+        → FieldsMean bits pinned s (FieldThen name set ty c label when rest) order levels behind top r
+        (1 + clause_steps when levels + label_steps pinned label levels + k + k') (j + j')
     -- its condition has a fault
-    condition_fault : {pinned : Bool} {name : Naming} {set : Option ByteOrder} {ty : PokeType} {c label when : Option Term} {rest : Fields} {order : Order} {levels : Levels} {s behind top : ℕ} {f : FaultAt}
+    condition_fault : {pinned : Bool} {name : Naming} {set : Option ByteOrder} {ty : PokeType}
+        {c label when : Option Term} {rest : Fields} {order : Order} {levels : Levels} {s behind top : ℕ} {f : FaultAt}
         → condition when levels s ≡ Err f
-        → FieldsMean bits pinned s (FieldThen name set ty c label when rest) order levels behind top (Err f) (1 + clause_steps when levels) 0
+        → FieldsMean bits pinned s (FieldThen name set ty c label when rest) order levels behind top (Err f)
+        (1 + clause_steps when levels) 0
     -- its label has a fault or is negative
-    label_fault : {pinned : Bool} {name : Naming} {set : Option ByteOrder} {ty : PokeType} {c label when : Option Term} {rest : Fields} {order : Order} {levels : Levels} {s behind top : ℕ} {f : FaultAt}
+    label_fault : {pinned : Bool} {name : Naming} {set : Option ByteOrder} {ty : PokeType} {c label when : Option Term}
+        {rest : Fields} {order : Order} {levels : Levels} {s behind top : ℕ} {f : FaultAt}
         → condition when levels s ≡ Ok true
         → field_start pinned label levels s behind ≡ Err f
-        → FieldsMean bits pinned s (FieldThen name set ty c label when rest) order levels behind top (Err f) (1 + clause_steps when levels + label_steps pinned label levels) 0
+        → FieldsMean bits pinned s (FieldThen name set ty c label when rest) order levels behind top (Err f)
+        (1 + clause_steps when levels + label_steps pinned label levels) 0
     -- it has a fault, or its constraint is 0
-    field_fault : {pinned : Bool} {name : Naming} {set : Option ByteOrder} {ty : PokeType} {c label when : Option Term} {rest : Fields} {order : Order} {levels : Levels} {s behind top p k j : ℕ} {f : FaultAt}
+    field_fault : {pinned : Bool} {name : Naming} {set : Option ByteOrder} {ty : PokeType} {c label when : Option Term}
+        {rest : Fields} {order : Order} {levels : Levels} {s behind top p k j : ℕ} {f : FaultAt}
         → condition when levels s ≡ Ok true
         → field_start pinned label levels s behind ≡ Ok p
         → PartMeans bits ty c (ordered set order) levels p (Err f) k j
-        → FieldsMean bits pinned s (FieldThen name set ty c label when rest) order levels behind top (Err f) (1 + clause_steps when levels + label_steps pinned label levels + k) j
+        → FieldsMean bits pinned s (FieldThen name set ty c label when rest) order levels behind top (Err f)
+        (1 + clause_steps when levels + label_steps pinned label levels + k) j
 
   -- the alternatives from here on: some don't match, and the next one matches, has a fault that ends the union, or
   -- doesn't exist
-  pub data AlternativesMean (bits : List ℕ) : Parts → (index : ℕ) → Order → Levels → (s : ℕ) → Result Taken FaultAt → (steps made : ℕ) → Type 0 where
+  pub data AlternativesMean (bits : List ℕ) : Parts → (index : ℕ) → Order → Levels → (s : ℕ) → Result Taken FaultAt →
+      (steps made : ℕ) → Type 0 where
     -- none matches
     none_left : {index s : ℕ} {order : Order} {levels : Levels}
         → AlternativesMean bits NoParts index order levels s (Err (fault.Constraint, s)) 0 0
     -- the next one matches
-    fits : {name : Naming} {set : Option ByteOrder} {ty : PokeType} {c : Option Term} {rest : Parts} {index s k j : ℕ} {order : Order} {levels : Levels} {v : Value}
+    fits : {name : Naming} {set : Option ByteOrder} {ty : PokeType} {c : Option Term} {rest : Parts} {index s k j : ℕ}
+        {order : Order} {levels : Levels} {v : Value}
         → PartMeans bits ty c (ordered set order) levels s (Ok v) k j
-        → AlternativesMean bits (PartThen name set ty c rest) index order levels s (Ok (record { index = index; name = name; value = v })) (1 + k) j
+        → AlternativesMean bits (PartThen name set ty c rest) index order levels s
+        (Ok (record { index = index; name = name; value = v })) (1 + k) j
     -- it doesn't match, and the alternatives after it have the outcome r
-    misses_it : {name : Naming} {set : Option ByteOrder} {ty : PokeType} {c : Option Term} {rest : Parts} {index s k j k' j' : ℕ} {order : Order} {levels : Levels} {f : FaultAt} {r : Result Taken FaultAt}
+    misses_it : {name : Naming} {set : Option ByteOrder} {ty : PokeType} {c : Option Term} {rest : Parts}
+        {index s k j k' j' : ℕ} {order : Order} {levels : Levels} {f : FaultAt} {r : Result Taken FaultAt}
         → PartMeans bits ty c (ordered set order) levels s (Err f) k j
         → misses f.0 ≡ true
         → AlternativesMean bits rest (index + 1) order levels s r k' j'
         → AlternativesMean bits (PartThen name set ty c rest) index order levels s r (1 + k + k') (j + j')
     -- it has a fault that ends the union
-    other_fault : {name : Naming} {set : Option ByteOrder} {ty : PokeType} {c : Option Term} {rest : Parts} {index s k j : ℕ} {order : Order} {levels : Levels} {f : FaultAt}
+    other_fault : {name : Naming} {set : Option ByteOrder} {ty : PokeType} {c : Option Term} {rest : Parts}
+        {index s k j : ℕ} {order : Order} {levels : Levels} {f : FaultAt}
         → PartMeans bits ty c (ordered set order) levels s (Err f) k j
         → misses f.0 ≡ false
         → AlternativesMean bits (PartThen name set ty c rest) index order levels s (Err f) (1 + k) j

@@ -9,4 +9,5 @@ use Rattle.run_parts.specs.Accepted.{IsAccepted}
 -- one
 pub data Explains (pickle path : List ℕ) : List ℕ → Type 0 where
   placed : {text : List ℕ} → TellsPlace pickle (called_by path) text → Explains pickle path text
-  unplaced : {declarations : List DeclarationTree} {types : Names} {text : List ℕ} → IsAccepted pickle declarations types → Explains pickle path text
+  unplaced : {declarations : List DeclarationTree} {types : Names} {text : List ℕ} →
+      IsAccepted pickle declarations types → Explains pickle path text

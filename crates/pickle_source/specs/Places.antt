@@ -20,7 +20,8 @@ place_text called line column = called ++ (58 ∷ (decimal line ++ (58 ∷ decim
 
 -- the line of a place: two blanks, the name of the pickle, line, column and a sentence
 abbrev pub place_line : (called : List ℕ) (line column : ℕ) (sentence : List ℕ) → List ℕ
-place_line called line column sentence = codes "  " ++ (called ++ (58 ∷ (decimal line ++ (58 ∷ (decimal column ++ (codes ": " ++ (sentence ++ 10 ∷ [])))))))
+place_line called line column sentence =
+    codes "  " ++ (called ++ (58 ∷ (decimal line ++ (58 ∷ (decimal column ++ (codes ": " ++ (sentence ++ 10 ∷ [])))))))
 
 -- a text begins with a place inside the pickle, by line and column, and a sentence about it
 pub record TellsPlace (pickle called text : List ℕ) : Type 0 where
@@ -39,7 +40,8 @@ pub record IsPlaceIn (pickle : List ℕ) (line column : ℕ) : Type 0 where
 
 -- a byte as it is printed: one outside 0x20 to 0x7e is escaped
 abbrev pub shown_byte : ℕ → List ℕ
-shown_byte byte = if nat_le 32 byte && nat_le byte 126 then (byte ∷ []) else (codes "\\x" ++ hex_digit (byte / 16) ∷ hex_digit (byte % 16) ∷ [])
+shown_byte byte = if nat_le 32 byte && nat_le byte 126 then (byte ∷ [])
+    else (codes "\\x" ++ hex_digit (byte / 16) ∷ hex_digit (byte % 16) ∷ [])
 
 abbrev pub shown_behind : (shown : List ℕ) (byte : ℕ) → List ℕ
 shown_behind shown byte = shown ++ shown_byte byte

@@ -54,7 +54,8 @@ impl Text {
 
     /// Adds a place to the text: the name of the pickle, the line and the column, with colons between them.
     pub fn say_place(self, called: &[u8], place: Place) -> Result<Text, AllocError>
-        ensures { IfOk result (λ text. text.bytes.items ≡ self.bytes.items ++ place_text called.now place.line place.column) }
+        ensures { IfOk result
+            (λ text. text.bytes.items ≡ self.bytes.items ++ place_text called.now place.line place.column) }
     {
         let text = self.say(called)?.say(b":")?;
         let text = text.say_number(place.line)?.say(b":")?;

@@ -22,7 +22,9 @@ module _ (limits : Limits) (sub : FormReader) where
   base_none [] h = refl
   base_none (k ∷ ks) h = absurd (omega arith)
 
-  pub base_word : (kinds : List Kind) (first : Kind) (word : Word) → 1 ≤ length kinds → first ≡ slice_index_or kinds 0 first → first ≡ kind.Word word → base_at limits sub (tokens_of kinds) ≡ word_form limits sub (tokens_of (take (length kinds - 1) (drop 1 kinds))) word
+  pub base_word : (kinds : List Kind) (first : Kind) (word : Word) → 1 ≤ length kinds →
+      first ≡ slice_index_or kinds 0 first → first ≡ kind.Word word → base_at limits sub (tokens_of kinds)
+      ≡ word_form limits sub (tokens_of (take (length kinds - 1) (drop 1 kinds))) word
   unfolding base_at
   base_word [] first word some at is = absurd (omega arith)
   base_word (k ∷ ks) first word some at is =
@@ -31,7 +33,9 @@ module _ (limits : Limits) (sub : FormReader) where
       rw (n, take-length ks, same) refl
 
 pub form_string : form_tree form.String ≡ StringForm
-form_string = ap form_tree (sym form.rolls-String) ∙ fold-roll-Form FormTree FieldTree form_step field_step Form-F.String
+form_string = ap form_tree (sym form.rolls-String)
+    ∙ fold-roll-Form FormTree FieldTree form_step field_step Form-F.String
 
 pub form_union : (fields : Vec Field Global) → form_tree (form.Union fields) ≡ UnionForm (fields_tree fields.items)
-form_union fields = ap form_tree (sym (form.rolls-Union fields)) ∙ fold-roll-Form FormTree FieldTree form_step field_step (Form-F.Union fields)
+form_union fields = ap form_tree (sym (form.rolls-Union fields))
+    ∙ fold-roll-Form FormTree FieldTree form_step field_step (Form-F.Union fields)

@@ -12,19 +12,24 @@ plus-suc : (n : ℕ) (o : Option ℕ) → plus n (option_map suc o) ≡ plus (n 
 plus-suc n None = refl
 plus-suc n (Some k) = let e : n + suc k ≡ n + 1 + k = omega arith in ap (λ (m : ℕ). Some m) e
 
-ends_at : (i : ℕ) (bytes : List ℕ) → i < length bytes → ends_block (get_or bytes i 0 ∷ drop (i + 1) bytes) 0 ≡ ends_block bytes i
+ends_at : (i : ℕ) (bytes : List ℕ) → i < length bytes →
+    ends_block (get_or bytes i 0 ∷ drop (i + 1) bytes) 0 ≡ ends_block bytes i
 ends_at i bytes lt = let e : i + 1 + 0 ≡ i + 1 = omega arith in rw (get_or-drop (i + 1) bytes 0 0, e) refl
 
-pub block_found : (i : ℕ) (bytes : List ℕ) → i < length bytes → ends_block bytes i ≡ true → plus i (block_len (drop i bytes)) ≡ Some (i + 2)
+pub block_found : (i : ℕ) (bytes : List ℕ) → i < length bytes → ends_block bytes i ≡ true →
+    plus i (block_len (drop i bytes)) ≡ Some (i + 2)
 unfolding block_len
 block_found i bytes lt is =
-    let e : block_len (drop i bytes) ≡ Some 2 = at_drop_more block_len bytes i 0 lt ∙ rw (ends_at i bytes lt, is) refl in
+    let e : block_len (drop i bytes) ≡ Some 2 = at_drop_more block_len bytes i 0 lt
+    ∙ rw (ends_at i bytes lt, is) refl in
     rw e refl
 
-pub block_more : (i : ℕ) (bytes : List ℕ) → i < length bytes → ends_block bytes i ≡ false → plus i (block_len (drop i bytes)) ≡ plus (i + 1) (block_len (drop (i + 1) bytes))
+pub block_more : (i : ℕ) (bytes : List ℕ) → i < length bytes → ends_block bytes i ≡ false →
+    plus i (block_len (drop i bytes)) ≡ plus (i + 1) (block_len (drop (i + 1) bytes))
 unfolding block_len
 block_more i bytes lt is =
-    let e : block_len (drop i bytes) ≡ option_map suc (block_len (drop (i + 1) bytes)) = at_drop_more block_len bytes i 0 lt ∙ rw (ends_at i bytes lt, is) refl in
+    let e : block_len (drop i bytes) ≡ option_map suc (block_len (drop (i + 1) bytes)) =
+    at_drop_more block_len bytes i 0 lt ∙ rw (ends_at i bytes lt, is) refl in
     rw e (plus-suc i (block_len (drop (i + 1) bytes)))
 
 pub block_end : (i : ℕ) (bytes : List ℕ) → length bytes ≤ i → plus i (block_len (drop i bytes)) ≡ None

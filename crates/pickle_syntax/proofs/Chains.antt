@@ -6,7 +6,8 @@ use Rattle.std.proofs.lemmas.Bool.Decides.{Decides-eqb}
 use Rattle.std.proofs.lemmas.Slice.Eq.{starts_is}
 
 -- what a test that found something says
-pub tested : {A : Type 0} (b : Bool) (x : A) (more : Option A) (y : A) → cond b (Some x) more ≡ Some y → ((b ≡ true) × (x ≡ y)) ⊎ (more ≡ Some y)
+pub tested : {A : Type 0} (b : Bool) (x : A) (more : Option A) (y : A) → cond b (Some x) more ≡ Some y →
+    ((b ≡ true) × (x ≡ y)) ⊎ (more ≡ Some y)
 tested true x more y e = inl (refl, cc)
 tested false x more y e = inr e
 
@@ -15,9 +16,15 @@ pub record Begins {A : Type 0} (spelling : A → List ℕ) (bytes : List ℕ) (y
   pub front : bytes ≡ spelling y.0 ++ drop y.1 bytes
   pub size : length (spelling y.0) ≡ y.1
 
-pub begun : {A : Type 0} (spelling : A → List ℕ) (bytes : List ℕ) (x y : A × ℕ) (more : Option (A × ℕ)) → length (spelling x.0) ≡ x.1 → cond (starts_with ◌==◌ bytes (spelling x.0)) (Some x) more ≡ Some y → (more ≡ Some y → Begins spelling bytes y) → Begins spelling bytes y
+pub begun : {A : Type 0} (spelling : A → List ℕ) (bytes : List ℕ) (x y : A × ℕ) (more : Option (A × ℕ)) →
+    length (spelling x.0) ≡ x.1 → cond (starts_with ◌==◌ bytes (spelling x.0)) (Some x) more ≡ Some y →
+    (more ≡ Some y → Begins spelling bytes y) → Begins spelling bytes y
 begun spelling bytes x y more size is others = elim (tested (starts_with ◌==◌ bytes (spelling x.0)) x more y is) [
-  | inl hit ↦ subst (Begins spelling bytes) hit.1 (record { front = rw (← size) ((starts_is Decides-eqb bytes (spelling x.0) (starts_with ◌==◌ bytes (spelling x.0)) refl).0 hit.0); size = size })
+  | inl hit ↦ subst (Begins spelling bytes) hit.1 (record {
+    front =
+        rw (← size) ((starts_is Decides-eqb bytes (spelling x.0) (starts_with ◌==◌ bytes (spelling x.0)) refl).0 hit.0);
+    size = size;
+  })
   | inr e ↦ others e
 ]
 

@@ -11,12 +11,14 @@ use Rattle.pickle_syntax.specs.Bytes.{digit_of, is_in, starts}
 use Rattle.pickle_syntax.specs.Pieces.{AllIn, begins}
 
 -- bytes of a class at the front are no more than the run there
-pub run_reaches : (c : Class) (front after : List ℕ) → AllIn c front → length front ≤ prefix_len (is_in c) (front ++ after)
+pub run_reaches : (c : Class) (front after : List ℕ) → AllIn c front →
+    length front ≤ prefix_len (is_in c) (front ++ after)
 run_reaches c [] after all = omega arith
 run_reaches c (b ∷ front) after all = rw all.0 (omega (arith, run_reaches c front after all.1))
 
 -- a run ends where the class does
-pub run_is : (c : Class) (front after : List ℕ) → AllIn c front → begins c after ≡ false → prefix_len (is_in c) (front ++ after) ≡ length front
+pub run_is : (c : Class) (front after : List ℕ) → AllIn c front → begins c after ≡ false →
+    prefix_len (is_in c) (front ++ after) ≡ length front
 run_is c [] [] all ends = refl
 run_is c [] (a ∷ after) all ends = rw ends refl
 run_is c (b ∷ front) after all ends = rw all.0 (omega (arith, run_is c front after all.1 ends))
@@ -71,13 +73,18 @@ Tells start.Slash b = b ≡ 47
 Tells start.Sign b = (b ≢ 34) × (b ≢ 47) × (10 ≤ digit_of b)
 
 pub tells : (b : ℕ) (s : Start) → starts b ≡ s → Tells s b
-tells b s e = subst (λ (s : Start). Tells s b) e (by (is_in class.Blank b) (is_in class.Letter b) (ltb (digit_of b) 10) (eqb b 34) (eqb b 39) (eqb b 47) refl refl refl refl refl refl)
+tells b s e = subst (λ (s : Start). Tells s b) e (by (is_in class.Blank b) (is_in class.Letter b) (ltb (digit_of b) 10)
+    (eqb b 34) (eqb b 39) (eqb b 47) refl refl refl refl refl refl)
   where
-    by : (t u v w x y : Bool) → is_in class.Blank b ≡ t → is_in class.Letter b ≡ u → ltb (digit_of b) 10 ≡ v → eqb b 34 ≡ w → eqb b 39 ≡ x → eqb b 47 ≡ y → Tells (cond t start.Blank (cond u start.Word (cond v start.Number (cond w start.Text (cond x start.Apostrophe (cond y start.Slash start.Sign)))))) b
+    by : (t u v w x y : Bool) → is_in class.Blank b ≡ t → is_in class.Letter b ≡ u → ltb (digit_of b) 10 ≡ v →
+        eqb b 34 ≡ w → eqb b 39 ≡ x → eqb b 47 ≡ y → Tells (cond t start.Blank (cond u start.Word
+        (cond v start.Number (cond w start.Text (cond x start.Apostrophe (cond y start.Slash start.Sign))))))
+        b
     by true u v w x y et eu ev ew ex ey = et
     by false true v w x y et eu ev ew ex ey = eu
     by false false true w x y et eu ev ew ex ey = ltb-true (digit_of b) 10 ev
     by false false false true x y et eu ev ew ex ey = eqb-true b 34 ew
     by false false false false true y et eu ev ew ex ey = eqb-true b 39 ex
     by false false false false false true et eu ev ew ex ey = eqb-true b 47 ey
-    by false false false false false false et eu ev ew ex ey = (eqb-false b 34 ew, eqb-false b 47 ey, ltb-false (digit_of b) 10 ev)
+    by false false false false false false et eu ev ew ex ey =
+        (eqb-false b 34 ew, eqb-false b 47 ey, ltb-false (digit_of b) 10 ev)

@@ -140,15 +140,21 @@ pub record Fair (own left : ℕ) : Type 0 where
   pub gap : left ≤ 13 → own ≤ 12
 
 infix_fair : (n : ℕ) → Middle n → Fair n n
-infix_fair n m = let least = m.least in let most = m.most in record { order = omega arith; lowest = λ h. absurd (omega arith); gap = λ h. omega arith }
+infix_fair n m =
+    let least = m.least in
+    let most = m.most in record { order = omega arith; lowest = λ h. absurd (omega arith); gap = λ h. omega arith }
 
 pub next_fair : (n : Next) → Fair (own_of n) (left_of n)
 next_fair (next.Infix op) = infix_fair (level op) (level_middle op)
 next_fair next.Choice = record { order = omega arith; lowest = λ h. absurd (omega arith); gap = λ h. omega arith }
-next_fair next.Index = record { order = omega arith; lowest = λ h. absurd (omega arith); gap = λ h. absurd (omega arith) }
-next_fair next.Select = record { order = omega arith; lowest = λ h. absurd (omega arith); gap = λ h. absurd (omega arith) }
-next_fair next.Unit = record { order = omega arith; lowest = λ h. absurd (omega arith); gap = λ h. absurd (omega arith) }
-next_fair (next.Attribute a) = record { order = omega arith; lowest = λ h. absurd (omega arith); gap = λ h. absurd (omega arith) }
+next_fair next.Index =
+    record { order = omega arith; lowest = λ h. absurd (omega arith); gap = λ h. absurd (omega arith) }
+next_fair next.Select =
+    record { order = omega arith; lowest = λ h. absurd (omega arith); gap = λ h. absurd (omega arith) }
+next_fair next.Unit =
+    record { order = omega arith; lowest = λ h. absurd (omega arith); gap = λ h. absurd (omega arith) }
+next_fair (next.Attribute a) =
+    record { order = omega arith; lowest = λ h. absurd (omega arith); gap = λ h. absurd (omega arith) }
 next_fair next.Convert = record { order = omega arith; lowest = λ h. absurd (omega arith); gap = λ h. omega arith }
 next_fair next.Nothing = record { order = omega arith; lowest = λ h. refl; gap = λ h. omega arith }
 

@@ -23,7 +23,8 @@ abbrev alias : List DeclarationTree
 alias = record { name = codes "A"; form = Plain (Called (codes "byte")) } ∷ []
 
 abbrev alias_tokens : List Token
-alias_tokens = Reserved word.Type ∷ Named (codes "A") ∷ Mark sign.Assign ∷ Named (codes "byte") ∷ Mark sign.Semicolon ∷ []
+alias_tokens =
+    Reserved word.Type ∷ Named (codes "A") ∷ Mark sign.Assign ∷ Named (codes "byte") ∷ Mark sign.Semicolon ∷ []
 
 alias_cut : lexed (codes "type A = byte;") ≡ Ok (alias_tokens, (0, 4) ∷ (5, 6) ∷ (7, 8) ∷ (9, 13) ∷ (13, 14) ∷ [])
 unfolding lexed lexed_from piece_at word_piece reserved_word opener_at attribute_at sign_piece double_sign single_sign
@@ -44,7 +45,8 @@ apart : (m n : ℕ) → m < n → m ≡ n → ⊥
 apart m n less e = absurd (omega (arith, less, e))
 
 -- a declaration that lacks its `;`, and none at all, are not that pickle
-no_semicolon : IsPickleOf (Reserved word.Type ∷ Named (codes "A") ∷ Mark sign.Assign ∷ Named (codes "byte") ∷ []) alias → ⊥
+no_semicolon : IsPickleOf (Reserved word.Type ∷ Named (codes "A") ∷ Mark sign.Assign ∷ Named (codes "byte") ∷ [])
+    alias → ⊥
 no_semicolon p = apart 1 2 (omega arith) (ap signs_in p.shown)
 
 nothing_declared : IsPickleOf alias_tokens [] → ⊥
@@ -86,7 +88,8 @@ wrong_byte_is : IsLexFault (codes "a $ $") (BadByte, 2)
 wrong_byte_is = (faults_are (codes "a $ $") (BadByte, 2)).0 wrong_byte
 
 the_second_wrong_byte : IsLexFault (codes "a $ $") (BadByte, 4) → ⊥
-the_second_wrong_byte h = apart 3 5 (omega arith) (ap place_of (sym wrong_byte ∙ (faults_are (codes "a $ $") (BadByte, 4)).1 h))
+the_second_wrong_byte h =
+    apart 3 5 (omega arith) (ap place_of (sym wrong_byte ∙ (faults_are (codes "a $ $") (BadByte, 4)).1 h))
 
 a_name : lexed (codes "a") ≡ Ok (Named (codes "a") ∷ [], (0, 1) ∷ [])
 unfolding lexed lexed_from piece_at word_piece reserved_word opener_at attribute_at

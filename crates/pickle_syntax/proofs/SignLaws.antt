@@ -16,14 +16,18 @@ use Rattle.pickle_syntax.proofs.Chains.{tested}
 use Rattle.pickle_syntax.proofs.Cuts.{Cuts, Reaches}
 
 -- a test in a chain of tests for two bytes
-on_two : (b next x y : ℕ) (v s : Sign) (more : Option Sign) → sign_spelling v ≡ x ∷ y ∷ [] → cond (eqb b x && eqb next y) (Some v) more ≡ Some s → (more ≡ Some s → sign_spelling s ≡ b ∷ next ∷ []) → sign_spelling s ≡ b ∷ next ∷ []
+on_two : (b next x y : ℕ) (v s : Sign) (more : Option Sign) → sign_spelling v ≡ x ∷ y ∷ [] →
+    cond (eqb b x && eqb next y) (Some v) more ≡ Some s → (more ≡ Some s → sign_spelling s ≡ b ∷ next ∷ []) →
+    sign_spelling s ≡ b ∷ next ∷ []
 on_two b next x y v s more spelled is others = elim (tested (eqb b x && eqb next y) v more s is) [
-  | inl hit ↦ (let both = and_parts (eqb b x) (eqb next y) hit.0 in rw (← hit.1, eqb-true b x both.0, eqb-true next y both.1) spelled)
+  | inl hit ↦ (let both = and_parts (eqb b x) (eqb next y) hit.0 in
+      rw (← hit.1, eqb-true b x both.0, eqb-true next y both.1) spelled)
   | inr e ↦ others e
 ]
 
 -- and for one
-on_one : (b x : ℕ) (v s : Sign) (more : Option Sign) → sign_spelling v ≡ x ∷ [] → cond (eqb b x) (Some v) more ≡ Some s → (more ≡ Some s → sign_spelling s ≡ b ∷ []) → sign_spelling s ≡ b ∷ []
+on_one : (b x : ℕ) (v s : Sign) (more : Option Sign) → sign_spelling v ≡ x ∷ [] →
+    cond (eqb b x) (Some v) more ≡ Some s → (more ≡ Some s → sign_spelling s ≡ b ∷ []) → sign_spelling s ≡ b ∷ []
 on_one b x v s more spelled is others = elim (tested (eqb b x) v more s is) [
   | inl hit ↦ rw (← hit.1, eqb-true b x hit.0) spelled
   | inr e ↦ others e
@@ -114,7 +118,8 @@ no_nul sign.ShiftRight e = omega (arith, e)
 no_nul sign.AndAnd e = omega (arith, e)
 no_nul sign.OrOr e = omega (arith, e)
 
-pub sign_may : (s : Sign) (after : List ℕ) → (s ≡ sign.Slash → (more : List ℕ) → after ≢ 42 ∷ more) → MayPrecede (Mark s) after
+pub sign_may : (s : Sign) (after : List ℕ) → (s ≡ sign.Slash → (more : List ℕ) → after ≢ 42 ∷ more) →
+    MayPrecede (Mark s) after
 sign_may sign.Slash after h = h refl
 sign_may _ after h = tt
 
@@ -122,21 +127,41 @@ two_not_slash : (s : Sign) (b next : ℕ) → sign_spelling s ≡ b ∷ next ∷
 two_not_slash s b next is e = let f : 47 ∷ [] ≡ b ∷ next ∷ [] = sym (ap sign_spelling e) ∙ is in cc
 
 module _ (at b : ℕ) where
-  sign_cuts : (rest : List ℕ) (d s : Option Sign) (cut : Cut) → double_sign b (slice_index rest 0) ≡ d → single_sign b ≡ s → (b ≡ 47 → (more : List ℕ) → rest ≢ 42 ∷ more) → sign_cut at d s ≡ Ok cut → Cuts cut (b ∷ rest)
+  sign_cuts : (rest : List ℕ) (d s : Option Sign) (cut : Cut) → double_sign b (slice_index rest 0) ≡ d →
+      single_sign b ≡ s → (b ≡ 47 → (more : List ℕ) → rest ≢ 42 ∷ more) → sign_cut at d s ≡ Ok cut → Cuts cut (b ∷ rest)
   sign_cuts [] (Some d) s cut ed es star is = absurd (no_nul d (rw (double_is b 0 d ed) refl))
   sign_cuts (c ∷ rest) (Some d) s cut ed es star is =
       let e : (Some (Mark d), 2) ≡ cut = cc in
       let spelled = double_is b c d ed in
-      subst (λ (k : Cut). Cuts k (b ∷ c ∷ rest)) e (record { front = b ∷ c ∷ []; after = rest; whole = refl; size = refl; some = omega arith; is = (sym spelled, sign_may d rest (λ h. absurd (two_not_slash d b c spelled h))) })
+      subst (λ (k : Cut). Cuts k (b ∷ c ∷ rest)) e (record {
+        front = b ∷ c ∷ [];
+        after = rest;
+        whole = refl;
+        size = refl;
+        some = omega arith;
+        is = (sym spelled, sign_may d rest (λ h. absurd (two_not_slash d b c spelled h)));
+      })
   sign_cuts rest None (Some s) cut ed es star is =
       let e : (Some (Mark s), 1) ≡ cut = cc in
       let spelled = single_is b s es in
-      subst (λ (k : Cut). Cuts k (b ∷ rest)) e (record { front = b ∷ []; after = rest; whole = refl; size = refl; some = omega arith; is = (sym spelled, sign_may s rest (λ h. star (let f : 47 ∷ [] ≡ b ∷ [] = sym (ap sign_spelling h) ∙ spelled in cc))) })
+      subst (λ (k : Cut). Cuts k (b ∷ rest)) e (record {
+        front = b ∷ [];
+        after = rest;
+        whole = refl;
+        size = refl;
+        some = omega arith;
+        is = (
+          sym spelled,
+          sign_may s rest (λ h. star (let f : 47 ∷ [] ≡ b ∷ [] = sym (ap sign_spelling h) ∙ spelled in cc)),
+        );
+      })
   sign_cuts rest None None cut ed es star is = absurd cc
 
-  pub sign_piece_cuts : (rest : List ℕ) (cut : Cut) → (b ≡ 47 → (more : List ℕ) → rest ≢ 42 ∷ more) → sign_piece at b rest ≡ Ok cut → Cuts cut (b ∷ rest)
+  pub sign_piece_cuts : (rest : List ℕ) (cut : Cut) → (b ≡ 47 → (more : List ℕ) → rest ≢ 42 ∷ more) →
+      sign_piece at b rest ≡ Ok cut → Cuts cut (b ∷ rest)
   unfolding sign_piece
-  sign_piece_cuts rest cut star is = sign_cuts rest (double_sign b (slice_index rest 0)) (single_sign b) cut refl refl star is
+  sign_piece_cuts rest cut star is =
+      sign_cuts rest (double_sign b (slice_index rest 0)) (single_sign b) cut refl refl star is
 
   sign_fails : (d s : Option Sign) (f : Fault) → sign_cut at d s ≡ Err f → f ≡ (BadByte, at)
   sign_fails (Some d) s f is = absurd cc
@@ -148,20 +173,25 @@ module _ (at b : ℕ) where
   sign_piece_fails rest f is = sign_fails (double_sign b (slice_index rest 0)) (single_sign b) f is
 
   one_reaches : (d o : Option Sign) (s : Sign) → o ≡ Some s → Reaches (Some (Mark s)) (b ∷ []) (sign_cut at d o)
-  one_reaches (Some d) o s e = record { cut = (Some (Mark d), 2); reads = refl; far = omega arith; same = λ h. absurd (omega (arith, h)) }
+  one_reaches (Some d) o s e =
+      record { cut = (Some (Mark d), 2); reads = refl; far = omega arith; same = λ h. absurd (omega (arith, h)) }
   one_reaches None (Some o) s e = record { cut = (Some (Mark o), 1); reads = refl; far = omega arith; same = λ h. cc }
   one_reaches None None s e = absurd cc
 
-  pub single_reaches : (after : List ℕ) (s : Sign) → single_sign b ≡ Some s → Reaches (Some (Mark s)) (b ∷ []) (sign_piece at b after)
+  pub single_reaches : (after : List ℕ) (s : Sign) → single_sign b ≡ Some s →
+      Reaches (Some (Mark s)) (b ∷ []) (sign_piece at b after)
   unfolding sign_piece
   single_reaches after s e = one_reaches (double_sign b (slice_index after 0)) (single_sign b) s e
 
 -- at a byte that begins a sign
-one : (at b : ℕ) (after : List ℕ) (s : Sign) → starts b ≡ start.Sign → single_sign b ≡ Some s → Reaches (Some (Mark s)) (b ∷ []) (piece_at at (b ∷ after))
+one : (at b : ℕ) (after : List ℕ) (s : Sign) → starts b ≡ start.Sign → single_sign b ≡ Some s →
+    Reaches (Some (Mark s)) (b ∷ []) (piece_at at (b ∷ after))
 unfolding piece_at
 one at b after s is e = rw is (single_reaches at b after s e)
 
-pub sign_reaches : (at : ℕ) (s : Sign) (after : List ℕ) → (s ≡ sign.Slash → Reaches (Some (Mark s)) (sign_spelling s) (piece_at at (sign_spelling s ++ after))) → Reaches (Some (Mark s)) (sign_spelling s) (piece_at at (sign_spelling s ++ after))
+pub sign_reaches : (at : ℕ) (s : Sign) (after : List ℕ) →
+    (s ≡ sign.Slash → Reaches (Some (Mark s)) (sign_spelling s) (piece_at at (sign_spelling s ++ after))) →
+    Reaches (Some (Mark s)) (sign_spelling s) (piece_at at (sign_spelling s ++ after))
 unfolding piece_at sign_piece double_sign single_sign
 sign_reaches at sign.OpenBrace after slash = one at 123 after sign.OpenBrace refl refl
 sign_reaches at sign.CloseBrace after slash = one at 125 after sign.CloseBrace refl refl
@@ -189,11 +219,19 @@ sign_reaches at sign.Or after slash = one at 124 after sign.Or refl refl
 sign_reaches at sign.Caret after slash = one at 94 after sign.Caret refl refl
 sign_reaches at sign.Less after slash = one at 60 after sign.Less refl refl
 sign_reaches at sign.Greater after slash = one at 62 after sign.Greater refl refl
-sign_reaches at sign.EqualEqual after slash = record { cut = (Some (Mark sign.EqualEqual), 2); reads = refl; far = omega arith; same = λ _. refl }
-sign_reaches at sign.BangEqual after slash = record { cut = (Some (Mark sign.BangEqual), 2); reads = refl; far = omega arith; same = λ _. refl }
-sign_reaches at sign.LessEqual after slash = record { cut = (Some (Mark sign.LessEqual), 2); reads = refl; far = omega arith; same = λ _. refl }
-sign_reaches at sign.GreaterEqual after slash = record { cut = (Some (Mark sign.GreaterEqual), 2); reads = refl; far = omega arith; same = λ _. refl }
-sign_reaches at sign.ShiftLeft after slash = record { cut = (Some (Mark sign.ShiftLeft), 2); reads = refl; far = omega arith; same = λ _. refl }
-sign_reaches at sign.ShiftRight after slash = record { cut = (Some (Mark sign.ShiftRight), 2); reads = refl; far = omega arith; same = λ _. refl }
-sign_reaches at sign.AndAnd after slash = record { cut = (Some (Mark sign.AndAnd), 2); reads = refl; far = omega arith; same = λ _. refl }
-sign_reaches at sign.OrOr after slash = record { cut = (Some (Mark sign.OrOr), 2); reads = refl; far = omega arith; same = λ _. refl }
+sign_reaches at sign.EqualEqual after slash =
+    record { cut = (Some (Mark sign.EqualEqual), 2); reads = refl; far = omega arith; same = λ _. refl }
+sign_reaches at sign.BangEqual after slash =
+    record { cut = (Some (Mark sign.BangEqual), 2); reads = refl; far = omega arith; same = λ _. refl }
+sign_reaches at sign.LessEqual after slash =
+    record { cut = (Some (Mark sign.LessEqual), 2); reads = refl; far = omega arith; same = λ _. refl }
+sign_reaches at sign.GreaterEqual after slash =
+    record { cut = (Some (Mark sign.GreaterEqual), 2); reads = refl; far = omega arith; same = λ _. refl }
+sign_reaches at sign.ShiftLeft after slash =
+    record { cut = (Some (Mark sign.ShiftLeft), 2); reads = refl; far = omega arith; same = λ _. refl }
+sign_reaches at sign.ShiftRight after slash =
+    record { cut = (Some (Mark sign.ShiftRight), 2); reads = refl; far = omega arith; same = λ _. refl }
+sign_reaches at sign.AndAnd after slash =
+    record { cut = (Some (Mark sign.AndAnd), 2); reads = refl; far = omega arith; same = λ _. refl }
+sign_reaches at sign.OrOr after slash =
+    record { cut = (Some (Mark sign.OrOr), 2); reads = refl; far = omega arith; same = λ _. refl }

@@ -35,7 +35,9 @@ reserved_spells word.As = refl
 reserved_spells word.String = refl
 
 -- a test in a chain of tests
-on : (bytes : List ℕ) (w v : Word) (more : Option Word) → cond (bytes_eq bytes (word_spelling v)) (Some v) more ≡ Some w → (more ≡ Some w → bytes ≡ word_spelling w) → bytes ≡ word_spelling w
+on : (bytes : List ℕ) (w v : Word) (more : Option Word) →
+    cond (bytes_eq bytes (word_spelling v)) (Some v) more ≡ Some w → (more ≡ Some w → bytes ≡ word_spelling w) →
+    bytes ≡ word_spelling w
 on bytes w v more is others = elim (tested (bytes_eq bytes (word_spelling v)) v more w is) [
   | inl hit ↦ (bytes_eq-Decides bytes (word_spelling v)).0 hit.0 ∙ ap word_spelling hit.1
   | inr e ↦ others e
@@ -72,15 +74,20 @@ word_front b rest letter =
     let long : 1 + n ≡ suc n = omega arith in
     (b, take n rest, rw (hit, long) refl, letter, run_all class.Word rest)
 
-word_is : (w after : List ℕ) (r : Option Word) → reserved_word w ≡ r → IsWord w → IsPiece (Some (word_token r w)) w after
+word_is : (w after : List ℕ) (r : Option Word) → reserved_word w ≡ r → IsWord w →
+    IsPiece (Some (word_token r w)) w after
 word_is w after (Some r) e is = (reserved_is w r e, tt)
-word_is w after None e is = ((refl, is, λ r same. let f : reserved_word w ≡ Some r = ap reserved_word same ∙ reserved_spells r in absurd cc), tt)
+word_is w after None e is = (
+  (refl, is, λ r same. let f : reserved_word w ≡ Some r = ap reserved_word same ∙ reserved_spells r in absurd cc),
+  tt,
+)
 
 word_some : (w : List ℕ) → IsWord w → 1 ≤ length w
 word_some [] is = absurd (let e : [] ≡ is.0 ∷ is.1 = is.2 in cc)
 word_some (b ∷ w) is = omega arith
 
-opened_cuts : (b : ℕ) (rest : List ℕ) (o : Option (Opener × ℕ)) → is_in class.Letter b ≡ true → opener_at (b ∷ rest) ≡ o → Cuts (opened_or o (b ∷ rest)) (b ∷ rest)
+opened_cuts : (b : ℕ) (rest : List ℕ) (o : Option (Opener × ℕ)) → is_in class.Letter b ≡ true →
+    opener_at (b ∷ rest) ≡ o → Cuts (opened_or o (b ∷ rest)) (b ∷ rest)
 opened_cuts b rest (Some o) letter e =
     let is = opener_is (b ∷ rest) o e in
     record {
@@ -114,22 +121,31 @@ unfolding word_piece
 word_cuts b rest letter = opened_cuts b rest (opener_at (b ∷ rest)) letter refl
 
 -- an opener is one byte longer than its word
-opener_long : (bytes : List ℕ) (o : Opener × ℕ) → Begins opener_spelling bytes o → prefix_len (is_in class.Word) bytes < o.1
+opener_long : (bytes : List ℕ) (o : Opener × ℕ) → Begins opener_spelling bytes o →
+    prefix_len (is_in class.Word) bytes < o.1
 opener_long bytes (opener.Int, n) is = rw is.front (omega (arith, is.size))
 opener_long bytes (opener.Uint, n) is = rw is.front (omega (arith, is.size))
 opener_long bytes (opener.Offset, n) is = rw is.front (omega (arith, is.size))
 
-word_reached : (t : Token) (front after : List ℕ) (o : Option (Opener × ℕ)) → AllIn class.Word front → t ≡ word_token (reserved_word front) front → opener_at (front ++ after) ≡ o → Reaches (Some t) front (Ok (opened_or o (front ++ after)))
+word_reached : (t : Token) (front after : List ℕ) (o : Option (Opener × ℕ)) → AllIn class.Word front →
+    t ≡ word_token (reserved_word front) front → opener_at (front ++ after) ≡ o →
+    Reaches (Some t) front (Ok (opened_or o (front ++ after)))
 word_reached t front after (Some o) all is e =
     let far = run_reaches class.Word front after all in
     let long = opener_long (front ++ after) o (opener_is (front ++ after) o e) in
-    record { cut = opened_or (Some o) (front ++ after); reads = refl; far = omega (arith, far, long); same = λ h. absurd (omega (arith, h, far, long)) }
+    record {
+      cut = opened_or (Some o) (front ++ after);
+      reads = refl;
+      far = omega (arith, far, long);
+      same = λ h. absurd (omega (arith, h, far, long));
+    }
 word_reached t front after None all is e =
     record {
       cut = opened_or None (front ++ after);
       reads = refl;
       far = run_reaches class.Word front after all;
-      same = λ h. (let w : take_while (is_in class.Word) (front ++ after) ≡ front = rw (← h) (take-append_seam front after) in rw (w, is) refl);
+      same = λ h. (let w : take_while (is_in class.Word) (front ++ after) ≡ front =
+          rw (← h) (take-append_seam front after) in rw (w, is) refl);
     }
 
 word_letters : (w : Word) → AllIn class.Word (word_spelling w)
@@ -159,28 +175,42 @@ unfolding piece_at
 at_word at b rest letter = rw (starts_word b letter) refl
 
 -- a word with a token that its bytes spell
-word_reaches : (at : ℕ) (t : Token) (front after : List ℕ) → begins class.Letter front ≡ true → AllIn class.Word front → t ≡ word_token (reserved_word front) front → Reaches (Some t) front (piece_at at (front ++ after))
+word_reaches : (at : ℕ) (t : Token) (front after : List ℕ) → begins class.Letter front ≡ true → AllIn class.Word front →
+    t ≡ word_token (reserved_word front) front → Reaches (Some t) front (piece_at at (front ++ after))
 unfolding word_piece
 word_reaches at t [] after letter all is = absurd cc
-word_reaches at t (b ∷ more) after letter all is = rw (at_word at b (more ++ after) letter) (word_reached t (b ∷ more) after (opener_at (b ∷ more ++ after)) all is refl)
+word_reaches at t (b ∷ more) after letter all is = rw (at_word at b (more ++ after) letter)
+    (word_reached t (b ∷ more) after (opener_at (b ∷ more ++ after)) all is refl)
 
-pub reserved_reaches : (at : ℕ) (w : Word) (front after : List ℕ) → front ≡ word_spelling w → Reaches (Some (Reserved w)) front (piece_at at (front ++ after))
+pub reserved_reaches : (at : ℕ) (w : Word) (front after : List ℕ) → front ≡ word_spelling w →
+    Reaches (Some (Reserved w)) front (piece_at at (front ++ after))
 reserved_reaches at w front after is =
-    rw is (word_reaches at (Reserved w) (word_spelling w) after (word_begins w) (word_letters w) (rw (reserved_spells w) refl))
+    rw is (word_reaches at (Reserved w) (word_spelling w) after (word_begins w) (word_letters w)
+    (rw (reserved_spells w) refl))
 
-named : (bytes : List ℕ) (r : Option Word) → reserved_word bytes ≡ r → ((w : Word) → bytes ≢ word_spelling w) → Named bytes ≡ word_token r bytes
+named : (bytes : List ℕ) (r : Option Word) → reserved_word bytes ≡ r → ((w : Word) → bytes ≢ word_spelling w) →
+    Named bytes ≡ word_token r bytes
 named bytes (Some w) e none = absurd (none w (reserved_is bytes w e))
 named bytes None e none = refl
 
-pub named_reaches : (at : ℕ) (n front after : List ℕ) → n ≡ front → IsWord front → ((w : Word) → front ≢ word_spelling w) → Reaches (Some (Named n)) front (piece_at at (front ++ after))
+pub named_reaches : (at : ℕ) (n front after : List ℕ) → n ≡ front → IsWord front →
+    ((w : Word) → front ≢ word_spelling w) → Reaches (Some (Named n)) front (piece_at at (front ++ after))
 named_reaches at n front after e is none =
-    word_reaches at (Named n) front after (rw is.2 is.3) (rw is.2 (letter_in_word is.0 is.3, is.4)) (rw e (named front (reserved_word front) refl none))
+    word_reaches at (Named n) front after (rw is.2 is.3) (rw is.2 (letter_in_word is.0 is.3, is.4))
+    (rw e (named front (reserved_word front) refl none))
 
-opens : (at : ℕ) (o : Opener) (after : List ℕ) → piece_at at (opener_spelling o ++ after) ≡ Ok (Some (Opens o), length (opener_spelling o))
+opens : (at : ℕ) (o : Opener) (after : List ℕ) →
+    piece_at at (opener_spelling o ++ after) ≡ Ok (Some (Opens o), length (opener_spelling o))
 unfolding piece_at word_piece opener_at
 opens at opener.Int after = refl
 opens at opener.Uint after = refl
 opens at opener.Offset after = refl
 
-pub opener_reaches : (at : ℕ) (o : Opener) (front after : List ℕ) → front ≡ opener_spelling o → Reaches (Some (Opens o)) front (piece_at at (front ++ after))
-opener_reaches at o front after is = rw is (record { cut = (Some (Opens o), length (opener_spelling o)); reads = opens at o after; far = omega arith; same = λ _. refl })
+pub opener_reaches : (at : ℕ) (o : Opener) (front after : List ℕ) → front ≡ opener_spelling o →
+    Reaches (Some (Opens o)) front (piece_at at (front ++ after))
+opener_reaches at o front after is = rw is (record {
+  cut = (Some (Opens o), length (opener_spelling o));
+  reads = opens at o after;
+  far = omega arith;
+  same = λ _. refl;
+})

@@ -52,7 +52,8 @@ IsWellBracketed (tree.Text bytes) = ⊤
 IsWellBracketed (Name n) = ⊤
 IsWellBracketed (Bracket e) = IsWellBracketed e
 IsWellBracketed (Before op e) = IsWellBracketed e × (13 ≤ level_of e)
-IsWellBracketed (Between op a b) = IsWellBracketed a × IsWellBracketed b × (level op ≤ level_of a) × (level op + 1 ≤ level_of b)
+IsWellBracketed (Between op a b) =
+    IsWellBracketed a × IsWellBracketed b × (level op ≤ level_of a) × (level op + 1 ≤ level_of b)
 IsWellBracketed (Choice c x y) = IsWellBracketed c × IsWellBracketed x × IsWellBracketed y × (2 ≤ level_of c)
 IsWellBracketed (Index e i) = IsWellBracketed e × IsWellBracketed i × (14 ≤ level_of e)
 IsWellBracketed (After e s) = IsWellBracketed e × (level_of_suffix s ≤ level_of e)
@@ -62,7 +63,8 @@ IsOptionalWellBracketed None = ⊤
 IsOptionalWellBracketed (Some e) = IsWellBracketed e
 
 abbrev pub ArePartsWellBracketed : FieldParts → Type 0
-ArePartsWellBracketed p = IsOptionalWellBracketed p.constraint × IsOptionalWellBracketed p.label × IsOptionalWellBracketed p.condition
+ArePartsWellBracketed p =
+    IsOptionalWellBracketed p.constraint × IsOptionalWellBracketed p.label × IsOptionalWellBracketed p.condition
 
 -- a type without an array suffix
 abbrev pub IsBase : FormTree → Type 0
@@ -87,7 +89,8 @@ abbrev mutual
 
   pub AreFieldsWellBracketed : FieldTrees → Type 0
   AreFieldsWellBracketed NoFields = ⊤
-  AreFieldsWellBracketed (FieldThen f p rest) = IsFormWellBracketed f × ArePartsWellBracketed p × AreFieldsWellBracketed rest
+  AreFieldsWellBracketed (FieldThen f p rest) =
+      IsFormWellBracketed f × ArePartsWellBracketed p × AreFieldsWellBracketed rest
 
 abbrev pub IsPickleWellBracketed : List DeclarationTree → Type 0
 IsPickleWellBracketed [] = ⊤

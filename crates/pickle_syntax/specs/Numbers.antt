@@ -12,8 +12,10 @@ use Rattle.pickle_tree.specs.declared.tree.Number.{Number}
 abbrev pub base_of : List ℕ → ℕ
 base_of bytes =
     if not (slice_index bytes 0 == 48) then 10
-    else if (slice_index bytes 1 == 120 || slice_index bytes 1 == 88) && nat_lt (digit_of (slice_index bytes 2)) 16 then 16
-    else if (slice_index bytes 1 == 111 || slice_index bytes 1 == 79) && nat_lt (digit_of (slice_index bytes 2)) 8 then 8
+    else if (slice_index bytes 1 == 120 || slice_index bytes 1 == 88) && nat_lt (digit_of (slice_index bytes 2)) 16
+    then 16
+    else if (slice_index bytes 1 == 111 || slice_index bytes 1 == 79) && nat_lt (digit_of (slice_index bytes 2)) 8
+    then 8
     else if (slice_index bytes 1 == 98 || slice_index bytes 1 == 66) && nat_lt (digit_of (slice_index bytes 2)) 2 then 2
     else 10
 
@@ -83,7 +85,8 @@ digits_at at base start digits =
     let len = prefix_len (is_in (class.Digit base)) digits in
     let after = drop len digits in
     let s = suffix_at after in
-    checked at (value_after base 0 (take_while (is_in (class.Digit base)) digits)) s (start + len) (slice_index after s.len)
+    checked at (value_after base 0 (take_while (is_in (class.Digit base)) digits)) s
+    (start + len) (slice_index after s.len)
 
 -- The number at the front: its prefix, the longest run of its digits, the longest suffix, and then no byte of a word.
 unfoldable pub number_at : ℕ → List ℕ → Result Read Fault

@@ -38,7 +38,8 @@ IsLineComment bytes = (line : List ℕ) × (bytes ≡ codes "//" ++ line) × All
 
 -- `/*` and the bytes after it up to the first `*/`
 abbrev pub IsBlockComment : List ℕ → Type 0
-IsBlockComment bytes = (inner : List ℕ) × (bytes ≡ codes "/*" ++ inner ++ codes "*/") × ((before after : List ℕ) → inner ++ codes "*/" ≡ before ++ codes "*/" ++ after → after ≡ [])
+IsBlockComment bytes = (inner : List ℕ) × (bytes ≡ codes "/*" ++ inner ++ codes "*/")
+    × ((before after : List ℕ) → inner ++ codes "*/" ≡ before ++ codes "*/" ++ after → after ≡ [])
 
 -- a letter or `_`, and then letters, digits and `_`
 abbrev pub IsWord : List ℕ → Type 0
@@ -181,7 +182,8 @@ pub data IsEscape (value : ℕ) (bytes : List ℕ) : Type 0 where
   Itself : (value ≡ 92) ⊎ ((value ≡ 39) ⊎ (value ≡ 34)) → bytes ≡ 92 ∷ value ∷ [] → IsEscape value bytes
   LineFeed : value ≡ 10 → bytes ≡ codes "\\n" → IsEscape value bytes
   Tab : value ≡ 9 → bytes ≡ codes "\\t" → IsEscape value bytes
-  HexadecimalByte : (high low : ℕ) → digit_of high < 16 → digit_of low < 16 → value ≡ digit_of high * 16 + digit_of low → bytes ≡ 92 ∷ 120 ∷ high ∷ low ∷ [] → IsEscape value bytes
+  HexadecimalByte : (high low : ℕ) → digit_of high < 16 → digit_of low < 16 →
+      value ≡ digit_of high * 16 + digit_of low → bytes ≡ 92 ∷ 120 ∷ high ∷ low ∷ [] → IsEscape value bytes
 
 -- a byte between two quotes: a plain one, or an escape
 pub data IsPart (quote value : ℕ) (bytes : List ℕ) : Type 0 where
@@ -191,7 +193,8 @@ pub data IsPart (quote value : ℕ) (bytes : List ℕ) : Type 0 where
 -- the bytes of a text, one part after the other
 abbrev pub AreParts : List ℕ → List ℕ → Type 0
 AreParts [] bytes = bytes ≡ []
-AreParts (v ∷ values) bytes = (part : List ℕ) × (rest : List ℕ) × (bytes ≡ part ++ rest) × IsPart 34 v part × AreParts values rest
+AreParts (v ∷ values) bytes =
+    (part : List ℕ) × (rest : List ℕ) × (bytes ≡ part ++ rest) × IsPart 34 v part × AreParts values rest
 
 abbrev pub IsCharacter : ℕ → List ℕ → Type 0
 IsCharacter value bytes = (part : List ℕ) × (bytes ≡ 39 ∷ part ++ 39 ∷ []) × IsPart 39 value part
@@ -224,12 +227,14 @@ IsPiece (Some t) bytes rest = Spells t bytes × MayPrecede t rest
 -- the longest piece at the front: no piece there is longer, and no other is as long
 pub record IsLongest (piece : Option Token) (bytes rest : List ℕ) : Type 0 where
   pub is : IsPiece piece bytes rest
-  pub longest : (other : Option Token) (front after : List ℕ) → front ++ after ≡ bytes ++ rest → IsPiece other front after → length front ≤ length bytes
+  pub longest : (other : Option Token) (front after : List ℕ) → front ++ after ≡ bytes ++ rest →
+      IsPiece other front after → length front ≤ length bytes
   pub only : (other : Option Token) → IsPiece other bytes rest → other ≡ piece
 
 -- no front of the bytes is a piece
 abbrev pub HasNoPiece : List ℕ → Type 0
-HasNoPiece bytes = (piece : Option Token) (front after : List ℕ) → front ++ after ≡ bytes → IsPiece piece front after → ⊥
+HasNoPiece bytes = (piece : Option Token) (front after : List ℕ) → front ++ after ≡ bytes →
+    IsPiece piece front after → ⊥
 
 -- Read on from the opening quote: the next thing after the last part is a line feed, the end of the pickle, or a byte
 -- that begins no part, such as a backslash that begins no whole escape.
@@ -237,14 +242,18 @@ abbrev pub EndsBadly : ℕ → ℕ → List ℕ → Fault → Type 0
 EndsBadly quote at [] fault = fault ≡ (Unclosed, quote)
 EndsBadly quote at (b ∷ rest) fault =
     ((b ≡ 10) × (fault ≡ (Unclosed, quote)))
-    ⊎ ((b ≢ 10) × (b ≢ 34) × (fault ≡ (BadByte, at)) × ((value : ℕ) (front after : List ℕ) → front ++ after ≡ b ∷ rest → IsPart 34 value front → ⊥))
+    ⊎ ((b ≢ 10) × (b ≢ 34) × (fault ≡ (BadByte, at))
+    × ((value : ℕ) (front after : List ℕ) → front ++ after ≡ b ∷ rest → IsPart 34 value front → ⊥))
 
 -- the fault of bytes that begin with no piece; their place is `at`
 pub data IsFaultAt (at : ℕ) (bytes : List ℕ) (fault : Fault) : Type 0 where
-  InNumber : (b : ℕ) (rest : List ℕ) → bytes ≡ b ∷ rest → digit_of b < 10 → fault ≡ (BadNumber, at) → IsFaultAt at bytes fault
+  InNumber : (b : ℕ) (rest : List ℕ) → bytes ≡ b ∷ rest → digit_of b < 10 → fault ≡ (BadNumber, at) →
+      IsFaultAt at bytes fault
   InComment : (rest : List ℕ) → bytes ≡ codes "/*" ++ rest → fault ≡ (Unclosed, at) → IsFaultAt at bytes fault
-  InText : (values parts rest : List ℕ) → bytes ≡ 34 ∷ parts ++ rest → AreParts values parts → EndsBadly at (at + 1 + length parts) rest fault → IsFaultAt at bytes fault
-  Elsewhere : (b : ℕ) (rest : List ℕ) → bytes ≡ b ∷ rest → 10 ≤ digit_of b → b ≢ 34 → ((more : List ℕ) → bytes ≢ codes "/*" ++ more) → fault ≡ (BadByte, at) → IsFaultAt at bytes fault
+  InText : (values parts rest : List ℕ) → bytes ≡ 34 ∷ parts ++ rest → AreParts values parts →
+      EndsBadly at (at + 1 + length parts) rest fault → IsFaultAt at bytes fault
+  Elsewhere : (b : ℕ) (rest : List ℕ) → bytes ≡ b ∷ rest → 10 ≤ digit_of b → b ≢ 34 →
+      ((more : List ℕ) → bytes ≢ codes "/*" ++ more) → fault ≡ (BadByte, at) → IsFaultAt at bytes fault
 
 -- a piece with its bytes
 pub record Piece : Type 0 where
@@ -254,7 +263,8 @@ pub record Piece : Type 0 where
 -- the pieces follow one another from the front, each the longest at its place, and leave the rest
 abbrev pub pieces : List Piece → List ℕ → List ℕ → Type 0
 pieces [] bytes rest = bytes ≡ rest
-pieces (p ∷ ps) bytes rest = (after : List ℕ) × (bytes ≡ p.bytes ++ after) × IsLongest p.token p.bytes after × pieces ps after rest
+pieces (p ∷ ps) bytes rest =
+    (after : List ℕ) × (bytes ≡ p.bytes ++ after) × IsLongest p.token p.bytes after × pieces ps after rest
 
 abbrev pub tokens_in : List Piece → List Token
 tokens_in [] = []
@@ -276,7 +286,8 @@ AreTokens at bytes x = (ps : List Piece) × pieces ps bytes [] × (x.0 ≡ token
 
 -- the fault is the first one of the bytes
 abbrev pub IsFirstFault : ℕ → List ℕ → Fault → Type 0
-IsFirstFault at bytes fault = (ps : List Piece) × (rest : List ℕ) × pieces ps bytes rest × HasNoPiece rest × IsFaultAt (place_after at ps) rest fault
+IsFirstFault at bytes fault = (ps : List Piece) × (rest : List ℕ) × pieces ps bytes rest × HasNoPiece rest
+    × IsFaultAt (place_after at ps) rest fault
 
 -- the tokens of a pickle, which has no fault
 abbrev pub IsLexed : List ℕ → List Token × List Span → Type 0
@@ -284,4 +295,5 @@ IsLexed bytes x = (length bytes ≤ 1048576) × AreTokens 0 bytes x
 
 -- the fault of a pickle: it is too long, or has the fault of the first place without a piece
 abbrev pub IsLexFault : List ℕ → Fault → Type 0
-IsLexFault bytes fault = ((1048576 < length bytes) × (fault ≡ (TooLong, 1048576))) ⊎ ((length bytes ≤ 1048576) × IsFirstFault 0 bytes fault)
+IsLexFault bytes fault =
+    ((1048576 < length bytes) × (fault ≡ (TooLong, 1048576))) ⊎ ((length bytes ≤ 1048576) × IsFirstFault 0 bytes fault)

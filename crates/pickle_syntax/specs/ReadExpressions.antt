@@ -71,14 +71,16 @@ unfoldable pub chain : Reader → ℕ → ℕ → ℕ → Tree → List Token �
 chain sub room zero least left tokens = if goes_on least left (next_of tokens) then Err Deep else Ok (left, tokens)
 chain sub room (suc n) least left tokens =
     if goes_on least left (next_of tokens)
-    then (if nat_lt room (depth left) then Err Deep else step_at sub left (drop 1 tokens) (next_of tokens) >>= λ x. chain sub room n least x.0 x.1)
+    then (if nat_lt room (depth left) then Err Deep else step_at sub left (drop 1 tokens) (next_of tokens) >>= λ x.
+    chain sub room n least x.0 x.1)
     else Ok (left, tokens)
 
 -- an expression of at least this level, no deeper than the first number
 unfoldable pub expression_at : ℕ → Reader
 expression_at zero least [] = Err (Wrong 0)
 expression_at zero least (t ∷ rest) = Err Deep
-expression_at (suc room) least tokens = operand_at (expression_at room) tokens >>= λ x. chain (expression_at room) room room least x.0 x.1
+expression_at (suc room) least tokens =
+    operand_at (expression_at room) tokens >>= λ x. chain (expression_at room) room room least x.0 x.1
 
 -- the reading gives the expression that a function found, and the tokens that it left
 abbrev pub ReadsExpression : Result (FoundExpression × Bor (List Kind)) Stop → Read Tree → Type 0

@@ -69,7 +69,19 @@ field_at limits sub tokens = do
   label ← part_at limits.expression_depth sign.At constraint.1
   condition ← condition_at limits.expression_depth label.1
   after ← expect sign.Semicolon condition.1
-  Ok (record { form = f.0; parts = record { order = (order_at tokens).0; name = (optional_name_at f.1).0; constraint = constraint.0; label = label.0; condition = condition.0 } }, after)
+  Ok (
+    record {
+      form = f.0;
+      parts = record {
+        order = (order_at tokens).0;
+        name = (optional_name_at f.1).0;
+        constraint = constraint.0;
+        label = label.0;
+        condition = condition.0;
+      };
+    },
+    after,
+  )
 
 abbrev pub with_field : FieldTree → Read FieldTrees → Read FieldTrees
 with_field f (Ok x) = Ok (FieldThen f.form f.parts x.0, x.1)
@@ -82,7 +94,8 @@ unless_closed None read = read
 -- at most so many fields, and the closing brace
 unfoldable pub fields_at : Limits → FormReader → ℕ → List Token → Read FieldTrees
 fields_at limits sub zero tokens = unless_closed (after_sign sign.CloseBrace tokens) (Err Many)
-fields_at limits sub (suc n) tokens = unless_closed (after_sign sign.CloseBrace tokens) (field_at limits sub tokens >>= λ f. with_field f.0 (fields_at limits sub n f.1))
+fields_at limits sub (suc n) tokens = unless_closed (after_sign sign.CloseBrace tokens)
+    (field_at limits sub tokens >>= λ f. with_field f.0 (fields_at limits sub n f.1))
 
 -- the fields between two braces
 unfoldable pub braced_at : Limits → FormReader → List Token → Read FieldTrees
@@ -168,7 +181,8 @@ declaration_at limits tokens = do
   after ← expect sign.Semicolon f.1
   Ok (record { name = name.0; form = f.0 }, after)
 
-abbrev pub with_declaration : DeclarationTree → Result (List DeclarationTree) Fault → Result (List DeclarationTree) Fault
+abbrev pub with_declaration : DeclarationTree → Result (List DeclarationTree) Fault →
+    Result (List DeclarationTree) Fault
 with_declaration d (Ok ds) = Ok (d ∷ ds)
 with_declaration d (Err e) = Err e
 
@@ -180,7 +194,8 @@ is_over (t ∷ rest) = false
 unfoldable pub declarations_at : Limits → ℕ → List Token → Result (List DeclarationTree) Fault
 declarations_at limits n [] = Ok []
 declarations_at limits zero (t ∷ rest) = Err Many
-declarations_at limits (suc n) (t ∷ rest) = declaration_at limits (t ∷ rest) >>= λ d. with_declaration d.0 (declarations_at limits n d.1)
+declarations_at limits (suc n) (t ∷ rest) =
+    declaration_at limits (t ∷ rest) >>= λ d. with_declaration d.0 (declarations_at limits n d.1)
 
 abbrev pub pickle_at : Limits → List Token → Result (List DeclarationTree) Fault
 pickle_at limits tokens = declarations_at limits limits.declarations tokens

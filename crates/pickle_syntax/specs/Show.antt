@@ -58,7 +58,8 @@ show_unit (unit.Bits n) = Numeral n
 
 abbrev pub show_target : TreeTarget → List Token
 show_target (ToReference r) = show_reference r
-show_target (ToOffset r u) = Opens opener.Offset ∷ show_reference r ++ Mark sign.Comma ∷ show_unit u ∷ Mark sign.Greater ∷ []
+show_target (ToOffset r u) =
+    Opens opener.Offset ∷ show_reference r ++ Mark sign.Comma ∷ show_unit u ∷ Mark sign.Greater ∷ []
 
 abbrev pub show_suffix : TreeSuffix → List Token
 show_suffix (Select n) = Mark sign.Dot ∷ Named n ∷ []
@@ -105,7 +106,8 @@ show_pinned false = []
 
 -- the name and the clauses after the type of a field, and the `;` at its end
 abbrev pub show_parts : FieldParts → List Token
-show_parts p = show_name p.name ++ show_part (Mark sign.Colon) p.constraint ++ show_part (Mark sign.At) p.label ++ show_part (Reserved word.If) p.condition ++ Mark sign.Semicolon ∷ []
+show_parts p = show_name p.name ++ show_part (Mark sign.Colon) p.constraint ++ show_part (Mark sign.At) p.label
+    ++ show_part (Reserved word.If) p.condition ++ Mark sign.Semicolon ∷ []
 
 abbrev mutual
   pub show_form : FormTree → List Token
@@ -113,8 +115,10 @@ abbrev mutual
   show_form StringForm = Reserved word.String ∷ []
   show_form (OffsetForm r u) = show_target (ToOffset r u)
   show_form (ArrayForm e b) = show_form e ++ Mark sign.OpenBracket ∷ show_optional b ++ Mark sign.CloseBracket ∷ []
-  show_form (StructForm p fs) = show_pinned p ++ Reserved word.Struct ∷ Mark sign.OpenBrace ∷ show_fields fs ++ Mark sign.CloseBrace ∷ []
-  show_form (IntegralForm r fs) = Reserved word.Struct ∷ show_reference r ++ Mark sign.OpenBrace ∷ show_fields fs ++ Mark sign.CloseBrace ∷ []
+  show_form (StructForm p fs) =
+      show_pinned p ++ Reserved word.Struct ∷ Mark sign.OpenBrace ∷ show_fields fs ++ Mark sign.CloseBrace ∷ []
+  show_form (IntegralForm r fs) =
+      Reserved word.Struct ∷ show_reference r ++ Mark sign.OpenBrace ∷ show_fields fs ++ Mark sign.CloseBrace ∷ []
   show_form (UnionForm fs) = Reserved word.Union ∷ Mark sign.OpenBrace ∷ show_fields fs ++ Mark sign.CloseBrace ∷ []
 
   pub show_fields : FieldTrees → List Token

@@ -13,7 +13,8 @@ use Rattle.pickle_tree.specs.declared.tree.Attribute.{Attribute}
 abbrev pub hex_pair : List ℕ → Part
 hex_pair [] = Bad
 hex_pair (h ∷ []) = Bad
-hex_pair (h ∷ l ∷ rest) = if nat_lt (digit_of h) 16 && nat_lt (digit_of l) 16 then Byte (digit_of h * 16 + digit_of l) 4 else Bad
+hex_pair (h ∷ l ∷ rest) =
+    if nat_lt (digit_of h) 16 && nat_lt (digit_of l) 16 then Byte (digit_of h * 16 + digit_of l) 4 else Bad
 
 -- the escape after a backslash: the byte that it means, and its length with the backslash
 abbrev pub escape : List ℕ → Part
@@ -54,7 +55,8 @@ text_part quote at Breaks more = Err (Unclosed, quote)
 unfoldable pub text_from : ℕ → ℕ → ℕ → List ℕ → Result Read Fault
 text_from quote left at [] = Err (Unclosed, quote)
 text_from quote (suc left) at (b ∷ rest) = text_from quote left (at + 1) rest
-text_from quote zero at (b ∷ rest) = text_part quote at (part_at 34 (b ∷ rest)) (λ left. text_from quote left (at + 1) rest)
+text_from quote zero at (b ∷ rest) =
+    text_part quote at (part_at 34 (b ∷ rest)) (λ left. text_from quote left (at + 1) rest)
 
 -- a part is within the k bytes that are left
 abbrev pub FitsPart : Part → ℕ → Type 0

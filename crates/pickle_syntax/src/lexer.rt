@@ -71,9 +71,12 @@ fn keep<'t>(
     len: usize,
 ) -> Result<(), AllocError>
     requires { at + len < 2 ^ 32 }
-    ensures kinds { OnOk result (tokens_of kinds.new.items ≡ tokens_of kinds.old.items ++ token_list (option_map token_of kind.entry)) }
-    ensures spans { OnOk result (spans.new.items ≡ spans.old.items ++ span_list (option_map token_of kind.entry) at len) }
-    ensures paired { OnOk result (length kinds.old.items ≡ length spans.old.items → length kinds.new.items ≡ length spans.new.items) }
+    ensures kinds { OnOk result
+        (tokens_of kinds.new.items ≡ tokens_of kinds.old.items ++ token_list (option_map token_of kind.entry)) }
+    ensures spans { OnOk result
+        (spans.new.items ≡ spans.old.items ++ span_list (option_map token_of kind.entry) at len) }
+    ensures paired { OnOk result
+        (length kinds.old.items ≡ length spans.old.items → length kinds.new.items ≡ length spans.new.items) }
     ensures one { OnOk result (length kinds.new.items ≤ length kinds.old.items + 1) }
 {
     if let Some(kind) = kind {

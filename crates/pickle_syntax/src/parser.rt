@@ -72,8 +72,10 @@ pub fn one_tree()
 /// Where `Syntax` names a token, it names that token whatever comes after it. No pickle therefore begins with the
 /// tokens up to it and with it.
 pub fn no_pickle_goes_on()
-    ensures same { (front rest more : List Token) (token : Token) → TellsToken front token rest → TellsToken front token more }
-    ensures none { (front rest more : List Token) (token : Token) → TellsToken front token rest → IsPickle (front ++ token ∷ more) → ⊥ }
+    ensures same { (front rest more : List Token) (token : Token) → TellsToken front token rest →
+        TellsToken front token more }
+    ensures none { (front rest more : List Token) (token : Token) → TellsToken front token rest →
+        IsPickle (front ++ token ∷ more) → ⊥ }
 {}
 
 /// Where `Syntax` names a token, some pickle begins with the tokens before it. Where it names their end, some pickle

@@ -54,7 +54,8 @@ IsOptionalWithin most None = ⊤
 IsOptionalWithin most (Some e) = depth e ≤ most
 
 abbrev pub ArePartsWithin : ℕ → FieldParts → Type 0
-ArePartsWithin most p = IsOptionalWithin most p.constraint × IsOptionalWithin most p.label × IsOptionalWithin most p.condition
+ArePartsWithin most p =
+    IsOptionalWithin most p.constraint × IsOptionalWithin most p.label × IsOptionalWithin most p.condition
 
 -- no expression in a type is too deep, and none of its structs and unions has too many fields
 abbrev mutual
@@ -69,12 +70,14 @@ abbrev mutual
 
   pub AreFieldsWithin : Limits → FieldTrees → Type 0
   AreFieldsWithin limits NoFields = ⊤
-  AreFieldsWithin limits (FieldThen f p rest) = IsFormWithin limits f × ArePartsWithin limits.expression_depth p × AreFieldsWithin limits rest
+  AreFieldsWithin limits (FieldThen f p rest) =
+      IsFormWithin limits f × ArePartsWithin limits.expression_depth p × AreFieldsWithin limits rest
 
 -- each declared type is within the limits, and so is its own depth
 abbrev pub AreDeclarationsWithin : Limits → List DeclarationTree → Type 0
 AreDeclarationsWithin limits [] = ⊤
-AreDeclarationsWithin limits (d ∷ ds) = IsFormWithin limits d.form × (form_depth d.form ≤ limits.form_depth) × AreDeclarationsWithin limits ds
+AreDeclarationsWithin limits (d ∷ ds) =
+    IsFormWithin limits d.form × (form_depth d.form ≤ limits.form_depth) × AreDeclarationsWithin limits ds
 
 abbrev pub IsPickleWithin : Limits → List DeclarationTree → Type 0
 IsPickleWithin limits ds = (length ds ≤ limits.declarations) × AreDeclarationsWithin limits ds

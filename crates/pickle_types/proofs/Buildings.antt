@@ -34,7 +34,8 @@ use Rattle.pickle_types.proofs.Tables.{fields_same}
 use Rattle.pickle_types.proofs.Steps.{fails_bind, views_kept, names_kept, named_kept, grows_on}
 
 -- a node that is pushed has the type that it opens to
-pub pushed : (old new : Builder) (node : Node) → IsTable old.nodes → AreNamed old.nodes old.names → NamesBelow (length old.nodes) node.shape → IsSoundShape node.shape →
+pub pushed : (old new : Builder) (node : Node) → IsTable old.nodes → AreNamed old.nodes old.names →
+    NamesBelow (length old.nodes) node.shape → IsSoundShape node.shape →
     new.nodes ≡ old.nodes ++ node ∷ [] → new.names ≡ old.names → new.seen ≡ old.seen →
     (d at : ℕ) → d ≡ depth (open_shape (type_of old.nodes) node.shape) → d ≤ 64 → at ≡ length old.nodes → at < 2 ^ 32 →
     IsBuilt old new (record { node = at; depth = d }) (open_shape (type_of old.nodes) node.shape)
@@ -59,7 +60,8 @@ pushed old new node table named below sound is same seen d at deep low last few 
 
 -- the steps of a meaning where `room` allows it
 module _ (names : Names) (seen : List Visible) (levels : ℕ) (title : Option (List ℕ)) where
-  pub meaning_plain : (room : ℕ) (r : TreeReference) → 0 < room → meaning names seen levels title room (Plain r) ≡ plain room names r
+  pub meaning_plain : (room : ℕ) (r : TreeReference) → 0 < room →
+      meaning names seen levels title room (Plain r) ≡ plain room names r
   unfolding meaning
   meaning_plain zero r some = absurd (omega arith)
   meaning_plain (suc room) r some = refl
@@ -69,60 +71,81 @@ module _ (names : Names) (seen : List Visible) (levels : ℕ) (title : Option (L
   meaning_string zero some = absurd (omega arith)
   meaning_string (suc room) some = refl
 
-  pub meaning_offset : (room : ℕ) (r : TreeReference) (u : PokeUnit) → 0 < room → meaning names seen levels title room (OffsetForm r u) ≡ offset_type names r u
+  pub meaning_offset : (room : ℕ) (r : TreeReference) (u : PokeUnit) → 0 < room →
+      meaning names seen levels title room (OffsetForm r u) ≡ offset_type names r u
   unfolding meaning
   meaning_offset zero r u some = absurd (omega arith)
   meaning_offset (suc room) r u some = refl
 
   pub meaning_array : (room : ℕ) (element : FormTree) (bound : Option Tree) → 0 < room →
-      meaning names seen levels title room (ArrayForm element bound) ≡ (meaning names seen (levels + 1) None (room - 1) element >>= λ t. bound_expression names seen levels bound >>= λ b. Ok (ArrayOf t b))
+      meaning names seen levels title room (ArrayForm element bound)
+      ≡ (meaning names seen (levels + 1) None (room - 1) element >>= λ t.
+      bound_expression names seen levels bound >>= λ b. Ok (ArrayOf t b))
   unfolding meaning
   meaning_array zero element bound some = absurd (omega arith)
   meaning_array (suc room) element bound some = let e : suc room - 1 ≡ room = omega arith in rw e refl
 
   pub meaning_struct : (room : ℕ) (pinned : Bool) (fields : FieldTrees) → 0 < room →
-      meaning names seen levels title room (StructForm pinned fields) ≡ (fields_meaning names (struct_place pinned) seen levels (room - 1) [] fields >>= λ fs. Ok (StructOf title pinned fs))
+      meaning names seen levels title room (StructForm pinned fields)
+      ≡ (fields_meaning names (struct_place pinned) seen levels (room - 1) [] fields >>= λ fs.
+      Ok (StructOf title pinned fs))
   unfolding meaning
   meaning_struct zero pinned forms some = absurd (omega arith)
   meaning_struct (suc room) pinned forms some = let e : suc room - 1 ≡ room = omega arith in rw e refl
 
   pub meaning_integral : (room : ℕ) (r : TreeReference) (fields : FieldTrees) → 0 < room →
-      meaning names seen levels title room (IntegralForm r fields) ≡ (integer_referred names r >>= λ t. fields_meaning names place.Integral seen levels (room - 1) [] fields >>= integral_type title t)
+      meaning names seen levels title room (IntegralForm r fields) ≡ (integer_referred names r >>= λ t.
+      fields_meaning names place.Integral seen levels (room - 1) [] fields >>= integral_type title t)
   unfolding meaning
   meaning_integral zero r forms some = absurd (omega arith)
   meaning_integral (suc room) r forms some = let e : suc room - 1 ≡ room = omega arith in rw e refl
 
   pub meaning_union : (room : ℕ) (alternatives : FieldTrees) → 0 < room →
-      meaning names seen levels title room (UnionForm alternatives) ≡ (if_some_alternative alternatives >>= λ u. fields_meaning names place.Union seen levels (room - 1) [] alternatives >>= λ fs. Ok (UnionOf title (parts_of fs)))
+      meaning names seen levels title room (UnionForm alternatives) ≡ (if_some_alternative alternatives >>= λ u.
+      fields_meaning names place.Union seen levels (room - 1) [] alternatives >>= λ fs.
+      Ok (UnionOf title (parts_of fs)))
   unfolding meaning
   meaning_union zero alternatives some = absurd (omega arith)
   meaning_union (suc room) alternatives some = let e : suc room - 1 ≡ room = omega arith in rw e refl
 
 pub keeps_on : (a b c : Builder) → Keeps a b → Keeps b c → Keeps a c
-keeps_on a b c g h = record { grows = grows_on a.nodes b.nodes c.nodes g.grows h.grows; table = h.table; named = h.named; known = h.known ∙ g.known; numbers = extends_on g.numbers h.numbers }
+keeps_on a b c g h = record {
+  grows = grows_on a.nodes b.nodes c.nodes g.grows h.grows;
+  table = h.table;
+  named = h.named;
+  known = h.known ∙ g.known;
+  numbers = extends_on g.numbers h.numbers;
+}
 
 -- what is built on a table that had grown
-pub built_on : (a b c : Builder) (found : Found) (t : PokeType) → Keeps a b → b.seen ≡ a.seen → IsBuilt b c found t → IsBuilt a c found t
-built_on a b c found t g s h = record { keeps = keeps_on a b c g h.keeps; seen = h.seen ∙ s; inside = h.inside; type = h.type; deep = h.deep }
+pub built_on : (a b c : Builder) (found : Found) (t : PokeType) → Keeps a b → b.seen ≡ a.seen →
+    IsBuilt b c found t → IsBuilt a c found t
+built_on a b c found t g s h =
+    record { keeps = keeps_on a b c g h.keeps; seen = h.seen ∙ s; inside = h.inside; type = h.type; deep = h.deep }
 
-pub built_then : (a b c : Builder) (r : Result Found FaultKind) (given whole : Result PokeType FaultKind) → Keeps a b → b.seen ≡ a.seen → whole ≡ given → Builds b c r given → Builds a c r whole
+pub built_then : (a b c : Builder) (r : Result Found FaultKind) (given whole : Result PokeType FaultKind) → Keeps a b →
+    b.seen ≡ a.seen → whole ≡ given → Builds b c r given → Builds a c r whole
 built_then a b c (Ok found) given whole g s e h = (h.0, e ∙ h.1, built_on a b c found h.0 g s h.2)
 built_then a b c (Err Memory) given whole g s e h = tt
 built_then a b c (Err _) given whole g s e h = e ∙ h
 
 -- what is visible stays the same over a table that grew
-pub visible_kept : (old new : Builder) → IsTable old.nodes → Keeps old new → new.seen ≡ old.seen → (levels : ℕ) → AreBelow (length old.nodes) levels old.seen → visible_in new ≡ visible_in old
-visible_kept old new table keeps same levels below = rw same (views_kept old.nodes new.nodes table keeps.grows levels old.seen below)
+pub visible_kept : (old new : Builder) → IsTable old.nodes → Keeps old new → new.seen ≡ old.seen → (levels : ℕ) →
+    AreBelow (length old.nodes) levels old.seen → visible_in new ≡ visible_in old
+visible_kept old new table keeps same levels below =
+    rw same (views_kept old.nodes new.nodes table keeps.grows levels old.seen below)
 
 pub array_depth : (t : PokeType) (b : Bound) → depth (ArrayOf t b) ≡ 1 + depth t
 unfolding depth
 array_depth t b = refl
 
-pub struct_depth : (title : Option (List ℕ)) (pinned : Bool) (fs : Fields) → depth (StructOf title pinned fs) ≡ 1 + fields_depth fs
+pub struct_depth : (title : Option (List ℕ)) (pinned : Bool) (fs : Fields) →
+    depth (StructOf title pinned fs) ≡ 1 + fields_depth fs
 unfolding depth
 struct_depth title pinned fs = refl
 
-pub integral_depth : (title : Option (List ℕ)) (t : IntegerType) (fs : Fields) → depth (IntegralOf title t (parts_of fs)) ≡ 1 + fields_depth fs
+pub integral_depth : (title : Option (List ℕ)) (t : IntegerType) (fs : Fields) →
+    depth (IntegralOf title t (parts_of fs)) ≡ 1 + fields_depth fs
 unfolding depth
 integral_depth title t fs = ap (λ n. 1 + n) (parts_depth_is fs)
 
@@ -150,7 +173,8 @@ field_count_is [] = refl
 field_count_is (f ∷ fs) = let rest = field_count_is fs in omega arith
 
 -- a union within the limits has few alternatives
-pub parts_few : (fs : List Field) (written : List tree.Field) → length fs ≡ length written → field_count (fields_tree written) ≤ standard.fields → length (map part_of fs) ≤ 2 ^ 16
+pub parts_few : (fs : List Field) (written : List tree.Field) → length fs ≡ length written →
+    field_count (fields_tree written) ≤ standard.fields → length (map part_of fs) ≤ 2 ^ 16
 parts_few fs written same few =
     let count = field_count_is written in
     let parts = length-map fs part_of in
@@ -160,26 +184,33 @@ pub some_alternative : (fs : List tree.Field) → 0 < length fs → if_some_alte
 some_alternative [] some = absurd (omega arith)
 some_alternative (f ∷ fs) some = refl
 
-pub integral_fits : (title : Option (List ℕ)) (t : IntegerType) (fs : Fields) → total_width fs ≡ t.width → integral_type title t fs ≡ Ok (IntegralOf title t (parts_of fs))
+pub integral_fits : (title : Option (List ℕ)) (t : IntegerType) (fs : Fields) → total_width fs ≡ t.width →
+    integral_type title t fs ≡ Ok (IntegralOf title t (parts_of fs))
 integral_fits title t fs e = rw (eq-eqb _ _ e) refl
 
-pub integral_wrong : (title : Option (List ℕ)) (t : IntegerType) (fs : Fields) → (total_width fs ≡ t.width → ⊥) → integral_type title t fs ≡ Err IntegralWidths
+pub integral_wrong : (title : Option (List ℕ)) (t : IntegerType) (fs : Fields) → (total_width fs ≡ t.width → ⊥) →
+    integral_type title t fs ≡ Err IntegralWidths
 integral_wrong title t fs ne = rw (ne_eqb _ _ ne) refl
 
-onto_append : (at : ℕ → PokeType) (fs gs : List Field) (rest : Fields) → fields_onto at (fs ++ gs) rest ≡ fields_onto at fs (fields_onto at gs rest)
+onto_append : (at : ℕ → PokeType) (fs gs : List Field) (rest : Fields) →
+    fields_onto at (fs ++ gs) rest ≡ fields_onto at fs (fields_onto at gs rest)
 onto_append at [] gs rest = refl
 onto_append at (f ∷ fs) gs rest = rw (onto_append at fs gs rest) refl
 
-onto_depth : (at : ℕ → PokeType) (fs : List Field) (rest : Fields) → fields_depth (fields_onto at fs rest) ≡ max (fields_depth (open_fields at fs)) (fields_depth rest)
+onto_depth : (at : ℕ → PokeType) (fs : List Field) (rest : Fields) →
+    fields_depth (fields_onto at fs rest) ≡ max (fields_depth (open_fields at fs)) (fields_depth rest)
 unfolding fields_depth
 onto_depth at [] rest = omega arith
 onto_depth at (f ∷ fs) rest = let h = onto_depth at fs rest in omega arith
 
 front_more : (at at' : ℕ → PokeType) (fields : List Field) (field : Field) (parts : FieldParts) (f : FieldMeaning) →
-    ((rest : Fields) → fields_onto at fields rest ≡ fields_onto at' fields rest) → ((rest : Fields) → fields_onto at' (field ∷ []) rest ≡ field_then parts f rest) →
-    (r : Result Fields FaultKind) → with_front (fields_onto at fields) (r >>= λ fs. Ok (field_then parts f fs)) ≡ with_front (fields_onto at' (fields ++ field ∷ [])) r
+    ((rest : Fields) → fields_onto at fields rest ≡ fields_onto at' fields rest) →
+    ((rest : Fields) → fields_onto at' (field ∷ []) rest ≡ field_then parts f rest) →
+    (r : Result Fields FaultKind) → with_front (fields_onto at fields) (r >>= λ fs. Ok (field_then parts f fs))
+    ≡ with_front (fields_onto at' (fields ++ field ∷ [])) r
 front_more at at' fields field parts f same opened (Ok fs) =
-    ap Ok (same (field_then parts f fs) ∙ ap (fields_onto at' fields) (sym (opened fs)) ∙ sym (onto_append at' fields (field ∷ []) fs))
+    ap Ok (same (field_then parts f fs) ∙ ap (fields_onto at' fields) (sym (opened fs))
+    ∙ sym (onto_append at' fields (field ∷ []) fs))
 front_more at at' fields field parts f same opened (Err e) = refl
 
 pub front_none : (at : ℕ → PokeType) (r : Result Fields FaultKind) → r ≡ with_front (fields_onto at []) r
@@ -187,35 +218,49 @@ front_none at (Ok fs) = refl
 front_none at (Err e) = refl
 
 -- one more field that is built
-pub so_far_more : (a b c : Builder) (fields : List Field) (field : Field) (deepest deepness : ℕ) (here : Place) (levels index : ℕ) (parts : FieldParts) (f : FieldMeaning) (whole rest rest' : Result Fields FaultKind) →
-    FieldsSoFar a b fields deepest whole rest → IsFieldBuilt b c here levels index parts field f → deepness ≡ depth f.type → rest ≡ (rest' >>= λ fs. Ok (field_then parts f fs)) →
+pub so_far_more : (a b c : Builder) (fields : List Field) (field : Field) (deepest deepness : ℕ) (here : Place)
+    (levels index : ℕ) (parts : FieldParts) (f : FieldMeaning) (whole rest rest' : Result Fields FaultKind) →
+    FieldsSoFar a b fields deepest whole rest → IsFieldBuilt b c here levels index parts field f →
+    deepness ≡ depth f.type → rest ≡ (rest' >>= λ fs. Ok (field_then parts f fs)) →
     FieldsSoFar a c (fields ++ field ∷ []) (max deepest deepness) whole rest'
 unfolding fields_depth
 so_far_more a b c fields field deepest deepness here levels index parts f whole rest rest' h g deep next =
     let long = longer b.nodes c.nodes h.keeps.table g.keeps.grows in
     let same : (more : Fields) → fields_onto (type_of b.nodes) fields more ≡ fields_onto (type_of c.nodes) fields more =
-    λ more. sym (fields_same (type_of c.nodes) (type_of b.nodes) (length b.nodes) (λ e lt. type_kept b.nodes c.nodes h.keeps.table g.keeps.grows e lt) fields more h.below) in
-    let opens : open_fields (type_of c.nodes) (fields ++ field ∷ []) ≡ fields_onto (type_of b.nodes) fields (field_then parts f NoFields) =
-    onto_append (type_of c.nodes) fields (field ∷ []) NoFields ∙ ap (fields_onto (type_of c.nodes) fields) (g.opened NoFields) ∙ sym (same (field_then parts f NoFields)) in
+    λ more. sym (fields_same (type_of c.nodes) (type_of b.nodes) (length b.nodes)
+    (λ e lt. type_kept b.nodes c.nodes h.keeps.table g.keeps.grows e lt) fields more h.below) in
+    let opens : open_fields (type_of c.nodes) (fields ++ field ∷ [])
+    ≡ fields_onto (type_of b.nodes) fields (field_then parts f NoFields) =
+    onto_append (type_of c.nodes) fields (field ∷ []) NoFields
+    ∙ ap (fields_onto (type_of c.nodes) fields) (g.opened NoFields) ∙ sym (same (field_then parts f NoFields)) in
     let depths = onto_depth (type_of b.nodes) fields (field_then parts f NoFields) in
     let before = h.deep in
     record {
       keeps = keeps_on a b c h.keeps g.keeps;
-      below = All-append (λ (x : Field). x.node < length c.nodes) fields (field ∷ []) (λ k d lt. let inside = h.below k d lt in omega arith) (λ k d lt. let e : k ≡ 0 = omega arith in rw e g.inside);
-      given = h.given ∙ ap (with_front (fields_onto (type_of b.nodes) fields)) next ∙ front_more (type_of b.nodes) (type_of c.nodes) fields field parts f same g.opened rest';
+      below = All-append (λ (x : Field). x.node < length c.nodes) fields (field ∷ [])
+          (λ k d lt. let inside = h.below k d lt in omega arith)
+          (λ k d lt. let e : k ≡ 0 = omega arith in rw e g.inside);
+      given = h.given ∙ ap (with_front (fields_onto (type_of b.nodes) fields)) next
+          ∙ front_more (type_of b.nodes) (type_of c.nodes) fields field parts f same g.opened rest';
       deep = rw opens (omega arith);
     }
 
 -- the first of some fields, and the rest
-pub fields_step : (names : Names) (here : Place) (seen : List Visible) (levels room : ℕ) (before : List (Option (List ℕ))) (f : tree.Field) (fs : List tree.Field) (m : FieldMeaning) →
-    field_meaning names here seen levels before (field_tree f).parts (meaning names seen (levels + 1) None room (field_tree f).form) ≡ Ok m →
+pub fields_step : (names : Names) (here : Place) (seen : List Visible) (levels room : ℕ)
+    (before : List (Option (List ℕ))) (f : tree.Field) (fs : List tree.Field) (m : FieldMeaning) →
+    field_meaning names here seen levels before (field_tree f).parts
+    (meaning names seen (levels + 1) None room (field_tree f).form) ≡ Ok m →
     fields_meaning names here seen levels room before (fields_tree (f ∷ fs)) ≡
-    (fields_meaning names here (after_field here seen (with_itself here seen levels (length before) (field_tree f).parts m.type)) levels room (before ++ (field_tree f).parts.name ∷ []) (fields_tree fs) >>= λ gs. Ok (field_then (field_tree f).parts m gs))
+    (fields_meaning names here
+    (after_field here seen (with_itself here seen levels (length before) (field_tree f).parts m.type)) levels room
+    (before ++ (field_tree f).parts.name ∷ []) (fields_tree fs) >>= λ gs. Ok (field_then (field_tree f).parts m gs))
 unfolding fields_meaning
 fields_step names here seen levels room before f fs m h = rw h refl
 
-pub fields_stop : (names : Names) (here : Place) (seen : List Visible) (levels room : ℕ) (before : List (Option (List ℕ))) (f : tree.Field) (fs : List tree.Field) (e : FaultKind) →
-    Fails e (field_meaning names here seen levels before (field_tree f).parts (meaning names seen (levels + 1) None room (field_tree f).form)) →
+pub fields_stop : (names : Names) (here : Place) (seen : List Visible) (levels room : ℕ)
+    (before : List (Option (List ℕ))) (f : tree.Field) (fs : List tree.Field) (e : FaultKind) →
+    Fails e (field_meaning names here seen levels before (field_tree f).parts
+    (meaning names seen (levels + 1) None room (field_tree f).form)) →
     Fails e (fields_meaning names here seen levels room before (fields_tree (f ∷ fs)))
 unfolding fields_meaning
 fields_stop names here seen levels room before f fs e h = fails_bind e _ _ h
@@ -229,11 +274,14 @@ names_more [] f = refl
 names_more (g ∷ fs) f = rw (names_more fs f) refl
 
 -- one more visible field
-pub itself_seen : (nodes : List Node) (seen : List Seen) (s : Seen) (here : Place) (index : ℕ) (parts : FieldParts) → bytes_now s.name ≡ parts.name → s.place ≡ place_in here index →
+pub itself_seen : (nodes : List Node) (seen : List Seen) (s : Seen) (here : Place) (index : ℕ) (parts : FieldParts) →
+    bytes_now s.name ≡ parts.name → s.place ≡ place_in here index →
     views_of nodes (seen ++ s ∷ []) ≡ with_itself here (views_of nodes seen) s.level index parts (type_of nodes s.node)
 itself_seen nodes seen s here index parts en ep = map_push (view_of nodes) seen s ∙ rw (en, ep) refl
 
-after_views : (nodes : List Node) (seen : List Seen) (s : Seen) (here : Place) (more : List Visible) → views_of nodes (seen ++ s ∷ []) ≡ more → views_of nodes (after_itself here seen s) ≡ after_field here (views_of nodes seen) more
+after_views : (nodes : List Node) (seen : List Seen) (s : Seen) (here : Place) (more : List Visible) →
+    views_of nodes (seen ++ s ∷ []) ≡ more →
+    views_of nodes (after_itself here seen s) ≡ after_field here (views_of nodes seen) more
 after_views nodes seen s place.Struct more e = e
 after_views nodes seen s place.Pinned more e = e
 after_views nodes seen s place.Integral more e = e
@@ -248,10 +296,13 @@ after_kept seen s place.Pinned = push_kept seen s
 after_kept seen s place.Integral = push_kept seen s
 after_kept seen s place.Union = take_all _ _ (omega arith)
 
-push_below : (n levels : ℕ) (seen : List Seen) (s : Seen) → AreBelow n levels seen → IsInLevel n levels s → AreBelow n levels (seen ++ s ∷ [])
-push_below n levels seen s below h = All-append (IsInLevel n levels) seen (s ∷ []) below (λ k d lt. let e : k ≡ 0 = omega arith in rw e h)
+push_below : (n levels : ℕ) (seen : List Seen) (s : Seen) → AreBelow n levels seen → IsInLevel n levels s →
+    AreBelow n levels (seen ++ s ∷ [])
+push_below n levels seen s below h =
+    All-append (IsInLevel n levels) seen (s ∷ []) below (λ k d lt. let e : k ≡ 0 = omega arith in rw e h)
 
-after_below : (n levels : ℕ) (seen : List Seen) (s : Seen) (here : Place) → AreBelow n levels seen → IsInLevel n levels s → AreBelow n levels (after_itself here seen s)
+after_below : (n levels : ℕ) (seen : List Seen) (s : Seen) (here : Place) → AreBelow n levels seen →
+    IsInLevel n levels s → AreBelow n levels (after_itself here seen s)
 after_below n levels seen s place.Struct below h = push_below n levels seen s below h
 after_below n levels seen s place.Pinned below h = push_below n levels seen s below h
 after_below n levels seen s place.Integral below h = push_below n levels seen s below h
@@ -259,38 +310,63 @@ after_below n levels seen s place.Union below h = below
 
 -- a field that is built on a table that stays the same
 pub field_built : (old new : Builder) (s : Seen) (here : Place) (index : ℕ) (parts : FieldParts) (field : Field) →
-    IsTable old.nodes → AreNamed old.nodes old.names → AreBelow (length old.nodes) (s.level + 1) old.seen → s.node < length old.nodes →
+    IsTable old.nodes → AreNamed old.nodes old.names → AreBelow (length old.nodes) (s.level + 1) old.seen →
+    s.node < length old.nodes →
     new.names ≡ old.names → new.nodes ≡ old.nodes → new.seen ≡ after_itself here old.seen s →
-    bytes_now s.name ≡ parts.name → s.place ≡ place_in here index → field.node ≡ s.node → name_of field.name ≡ parts.name → field.order ≡ parts.order →
+    bytes_now s.name ≡ parts.name → s.place ≡ place_in here index → field.node ≡ s.node →
+    name_of field.name ≡ parts.name → field.order ≡ parts.order →
     IsFieldBuilt old new here s.level index parts field
-    (record { type = type_of old.nodes s.node; constraint = optional_term field.constraint; label = optional_term field.label; condition = optional_term field.condition })
+    (record {
+      type = type_of old.nodes s.node;
+      constraint = optional_term field.constraint;
+      label = optional_term field.label;
+      condition = optional_term field.condition;
+    })
 field_built old new s here index parts field table named below inside names nodes seen en ep node name order =
     record {
-      keeps = record { grows = record { more = []; is = nodes ∙ sym (append-nil _) }; table = rw nodes table; named = rw (names, nodes) named; known = rw (names, nodes) refl; numbers = rw names (extends_none (words_in old.names)) };
+      keeps = record {
+        grows = record { more = []; is = nodes ∙ sym (append-nil _) };
+        table = rw nodes table;
+        named = rw (names, nodes) named;
+        known = rw (names, nodes) refl;
+        numbers = rw names (extends_none (words_in old.names));
+      };
       inside = rw (nodes, node) inside;
       name = name;
       type = rw (nodes, node) refl;
       opened = λ rest. rw (nodes, node, name, order) refl;
-      below = rw (nodes, seen) (after_below (length old.nodes) (s.level + 1) old.seen s here below (record { node = inside; level = omega arith }));
+      below = rw (nodes, seen) (after_below (length old.nodes) (s.level + 1) old.seen s here below
+          (record { node = inside; level = omega arith }));
       kept = rw seen (after_kept old.seen s here);
-      seen = rw (nodes, seen) (after_views old.nodes old.seen s here _ (itself_seen old.nodes old.seen s here index parts en ep));
+      seen = rw (nodes, seen)
+          (after_views old.nodes old.seen s here _ (itself_seen old.nodes old.seen s here index parts en ep));
     }
 
-pub field_meaning_is : (names : Names) (here : Place) (seen : List Visible) (levels : ℕ) (before : List (Option (List ℕ))) (parts : FieldParts) (t : PokeType) (l d c : Option Term) →
+pub field_meaning_is : (names : Names) (here : Place) (seen : List Visible) (levels : ℕ)
+    (before : List (Option (List ℕ))) (parts : FieldParts) (t : PokeType) (l d c : Option Term) →
     if_here (may_stand here (has_some (bit_width t)) parts) ≡ Ok tt → fresh parts.name before ≡ Ok tt →
-    offset_expression names seen (levels + 1) parts.label ≡ Ok l → integer_expression names seen (levels + 1) parts.condition ≡ Ok d →
-    integer_expression names (with_itself here seen levels (length before) parts t) (levels + 1) parts.constraint ≡ Ok c →
-    field_meaning names here seen levels before parts (Ok t) ≡ Ok (record { type = t; constraint = c; label = l; condition = d })
-field_meaning_is names here seen levels before parts t l d c stands new label condition constraint = rw (stands, new, label, condition, constraint) refl
+    offset_expression names seen (levels + 1) parts.label ≡ Ok l →
+    integer_expression names seen (levels + 1) parts.condition ≡ Ok d →
+    integer_expression names (with_itself here seen levels (length before) parts t) (levels + 1) parts.constraint
+    ≡ Ok c →
+    field_meaning names here seen levels before parts (Ok t)
+    ≡ Ok (record { type = t; constraint = c; label = l; condition = d })
+field_meaning_is names here seen levels before parts t l d c stands new label condition constraint =
+    rw (stands, new, label, condition, constraint) refl
 
-pub field_meaning_fails : (names : Names) (here : Place) (seen : List Visible) (levels : ℕ) (before : List (Option (List ℕ))) (parts : FieldParts) (t : PokeType) (l d : Option Term) (e : FaultKind) →
+pub field_meaning_fails : (names : Names) (here : Place) (seen : List Visible) (levels : ℕ)
+    (before : List (Option (List ℕ))) (parts : FieldParts) (t : PokeType) (l d : Option Term) (e : FaultKind) →
     if_here (may_stand here (has_some (bit_width t)) parts) ≡ Ok tt → fresh parts.name before ≡ Ok tt →
-    offset_expression names seen (levels + 1) parts.label ≡ Ok l → integer_expression names seen (levels + 1) parts.condition ≡ Ok d →
-    Fails e (integer_expression names (with_itself here seen levels (length before) parts t) (levels + 1) parts.constraint) →
+    offset_expression names seen (levels + 1) parts.label ≡ Ok l →
+    integer_expression names seen (levels + 1) parts.condition ≡ Ok d →
+    Fails e
+    (integer_expression names (with_itself here seen levels (length before) parts t) (levels + 1) parts.constraint) →
     Fails e (field_meaning names here seen levels before parts (Ok t))
-field_meaning_fails names here seen levels before parts t l d e stands new label condition constraint = rw (stands, new, label, condition) (fails_bind e _ _ constraint)
+field_meaning_fails names here seen levels before parts t l d e stands new label condition constraint =
+    rw (stands, new, label, condition) (fails_bind e _ _ constraint)
 
-pub drop_item : {A : Type 0} (xs : List A) (i : ℕ) (x : A) → i < length xs → x ≡ get_or xs i x → drop i xs ≡ x ∷ drop (i + 1) xs
+pub drop_item : {A : Type 0} (xs : List A) (i : ℕ) (x : A) → i < length xs → x ≡ get_or xs i x →
+    drop i xs ≡ x ∷ drop (i + 1) xs
 drop_item xs i x lt is = drop_more xs i x lt ∙ ap (λ y. y ∷ drop (i + 1) xs) (sym is)
 
 take_within : {A : Type 0} (i j : ℕ) (xs : List A) → i ≤ j → take i (take j xs) ≡ take i xs
@@ -299,31 +375,44 @@ take_within (suc i) zero xs le = absurd (omega arith)
 take_within (suc i) (suc j) [] le = refl
 take_within (suc i) (suc j) (x ∷ xs) le = ap (λ l. x ∷ l) (take_within i j xs (omega arith))
 
-pub kept_on : (mark : ℕ) (xs ys zs : List Seen) → take mark ys ≡ xs → length xs ≡ mark → take (length ys) zs ≡ ys → take mark zs ≡ xs
+pub kept_on : (mark : ℕ) (xs ys zs : List Seen) → take mark ys ≡ xs → length xs ≡ mark →
+    take (length ys) zs ≡ ys → take mark zs ≡ xs
 kept_on mark xs ys zs e n k =
     let long = length-take mark ys in
     let same = ap length e in
     sym (take_within mark (length ys) zs (omega arith)) ∙ ap (take mark) k ∙ e
 
-pub so_far_none : (b : Builder) (fields : List Field) (whole : Result Fields FaultKind) → IsTable b.nodes → AreNamed b.nodes b.names → fields ≡ [] → FieldsSoFar b b fields 0 whole whole
+pub so_far_none : (b : Builder) (fields : List Field) (whole : Result Fields FaultKind) → IsTable b.nodes →
+    AreNamed b.nodes b.names → fields ≡ [] → FieldsSoFar b b fields 0 whole whole
 unfolding fields_depth
 so_far_none b fields whole table named none = rw none (record {
-  keeps = record { grows = record { more = []; is = sym (append-nil _) }; table = table; named = named; known = refl; numbers = extends_none (words_in b.names) };
+  keeps = record {
+    grows = record { more = []; is = sym (append-nil _) };
+    table = table;
+    named = named;
+    known = refl;
+    numbers = extends_none (words_in b.names);
+  };
   below = λ k d lt. absurd (omega arith);
   given = front_none (type_of b.nodes) whole;
   deep = refl;
 })
 
-pub fields_next : (names : Names) (here : Place) (seen seen' : List Visible) (levels room : ℕ) (fields : List Field) (field : Field) (f : tree.Field) (fs : List tree.Field) (m : FieldMeaning) →
-    field_meaning names here seen levels (names_in fields) (field_tree f).parts (meaning names seen (levels + 1) None room (field_tree f).form) ≡ Ok m →
+pub fields_next : (names : Names) (here : Place) (seen seen' : List Visible) (levels room : ℕ) (fields : List Field)
+    (field : Field) (f : tree.Field) (fs : List tree.Field) (m : FieldMeaning) →
+    field_meaning names here seen levels (names_in fields) (field_tree f).parts
+    (meaning names seen (levels + 1) None room (field_tree f).form) ≡ Ok m →
     name_of field.name ≡ (field_tree f).parts.name →
     seen' ≡ after_field here seen (with_itself here seen levels (length fields) (field_tree f).parts m.type) →
     fields_meaning names here seen levels room (names_in fields) (fields_tree (f ∷ fs)) ≡
-    (fields_meaning names here seen' levels room (names_in (fields ++ field ∷ [])) (fields_tree fs) >>= λ gs. Ok (field_then (field_tree f).parts m gs))
+    (fields_meaning names here seen' levels room (names_in (fields ++ field ∷ [])) (fields_tree fs) >>= λ gs.
+    Ok (field_then (field_tree f).parts m gs))
 fields_next names here seen seen' levels room fields field f fs m h en ev =
-    rw (ev, names_more fields field, en, ← names_count fields) (fields_step names here seen levels room (names_in fields) f fs m h)
+    rw (ev, names_more fields field, en, ← names_count fields)
+    (fields_step names here seen levels room (names_in fields) f fs m h)
 
-pub builds_as : (a b : Builder) (r : Result Found FaultKind) (given whole : Result PokeType FaultKind) → whole ≡ given → Builds a b r given → Builds a b r whole
+pub builds_as : (a b : Builder) (r : Result Found FaultKind) (given whole : Result PokeType FaultKind) → whole ≡ given →
+    Builds a b r given → Builds a b r whole
 builds_as a b (Ok found) given whole e h = (h.0, e ∙ h.1, h.2)
 builds_as a b (Err Memory) given whole e h = tt
 builds_as a b (Err _) given whole e h = e ∙ h
@@ -333,7 +422,8 @@ no_alternative [] e = refl
 no_alternative (f ∷ fs) e = absurd (omega arith)
 
 -- a field that is built on a table that had grown
-pub field_on : (a b c : Builder) (here : Place) (levels index : ℕ) (parts : FieldParts) (field : Field) (f : FieldMeaning) → Keeps a b → b.seen ≡ a.seen → visible_in b ≡ visible_in a →
+pub field_on : (a b c : Builder) (here : Place) (levels index : ℕ) (parts : FieldParts) (field : Field)
+    (f : FieldMeaning) → Keeps a b → b.seen ≡ a.seen → visible_in b ≡ visible_in a →
     IsFieldBuilt b c here levels index parts field f → IsFieldBuilt a c here levels index parts field f
 field_on a b c here levels index parts field f g s v h = record {
   keeps = keeps_on a b c g h.keeps;
@@ -346,19 +436,29 @@ field_on a b c here levels index parts field f g s v h = record {
   seen = h.seen ∙ ap (λ w. after_field here w (with_itself here w levels index parts f.type)) v;
 }
 
-pub fields_end : (names : Names) (here : Place) (seen : List Visible) (levels room : ℕ) (before : List (Option (List ℕ))) (fs : List tree.Field) → fs ≡ [] → fields_meaning names here seen levels room before (fields_tree fs) ≡ Ok NoFields
+pub fields_end : (names : Names) (here : Place) (seen : List Visible) (levels room : ℕ)
+    (before : List (Option (List ℕ))) (fs : List tree.Field) →
+    fs ≡ [] → fields_meaning names here seen levels room before (fields_tree fs) ≡ Ok NoFields
 unfolding fields_meaning
 fields_end names here seen levels room before fs none = rw none refl
 
 -- all fields are built
-pub all_built : (a b c : Builder) (fields : List Field) (deepest : ℕ) (whole rest : Result Fields FaultKind) → FieldsSoFar a b fields deepest whole rest → rest ≡ Ok NoFields →
-    c.names ≡ b.names → c.nodes ≡ b.nodes → c.seen ≡ a.seen → (fs : Fields) × (whole ≡ Ok fs) × AreBuilt a c fields deepest fs
+pub all_built : (a b c : Builder) (fields : List Field) (deepest : ℕ) (whole rest : Result Fields FaultKind) →
+    FieldsSoFar a b fields deepest whole rest → rest ≡ Ok NoFields →
+    c.names ≡ b.names → c.nodes ≡ b.nodes → c.seen ≡ a.seen →
+    (fs : Fields) × (whole ≡ Ok fs) × AreBuilt a c fields deepest fs
 all_built a b c fields deepest whole rest h none names nodes seen =
     let k = h.keeps in (
       open_fields (type_of b.nodes) fields,
       h.given ∙ ap (with_front (fields_onto (type_of b.nodes) fields)) none,
       record {
-        keeps = record { grows = rw nodes k.grows; table = rw nodes k.table; named = rw (nodes, names) k.named; known = rw (nodes, names) k.known; numbers = rw names k.numbers };
+        keeps = record {
+          grows = rw nodes k.grows;
+          table = rw nodes k.table;
+          named = rw (nodes, names) k.named;
+          known = rw (nodes, names) k.known;
+          numbers = rw names k.numbers;
+        };
         seen = seen;
         below = rw nodes h.below;
         opened = rw nodes refl;
@@ -367,7 +467,8 @@ all_built a b c fields deepest whole rest h none names nodes seen =
     )
 
 -- names got numbers, and nothing else changed
-pub keeps_numbers : (b c : Builder) → IsTable b.nodes → AreNamed b.nodes b.names → c.nodes ≡ b.nodes → types_in c.names ≡ types_in b.names → Extends (words_in b.names) (words_in c.names) → Keeps b c
+pub keeps_numbers : (b c : Builder) → IsTable b.nodes → AreNamed b.nodes b.names → c.nodes ≡ b.nodes →
+    types_in c.names ≡ types_in b.names → Extends (words_in b.names) (words_in c.names) → Keeps b c
 keeps_numbers b c table named nodes types more = record {
   grows = record { more = []; is = nodes ∙ sym (append-nil _) };
   table = rw nodes table;
@@ -376,8 +477,10 @@ keeps_numbers b c table named nodes types more = record {
   numbers = more;
 }
 
-pub so_far_numbered : (a b c : Builder) (fields : List Field) (deepest : ℕ) (whole rest : Result Fields FaultKind) → FieldsSoFar a b fields deepest whole rest →
-    c.nodes ≡ b.nodes → types_in c.names ≡ types_in b.names → Extends (words_in b.names) (words_in c.names) → FieldsSoFar a c fields deepest whole rest
+pub so_far_numbered : (a b c : Builder) (fields : List Field) (deepest : ℕ) (whole rest : Result Fields FaultKind) →
+    FieldsSoFar a b fields deepest whole rest →
+    c.nodes ≡ b.nodes → types_in c.names ≡ types_in b.names → Extends (words_in b.names) (words_in c.names) →
+    FieldsSoFar a c fields deepest whole rest
 so_far_numbered a b c fields deepest whole rest h nodes types more = record {
   keeps = keeps_on a b c h.keeps (keeps_numbers b c h.keeps.table h.keeps.named nodes types more);
   below = rw nodes h.below;

@@ -12,5 +12,6 @@ reference_form r = ap form_tree (sym (form.rolls-Reference r)) ∙ search (rules
 pub string_form : form_tree form.String ≡ StringForm
 string_form = ap form_tree (sym form.rolls-String) ∙ search (rules, the_lemmas)
 
-pub offset_form : (r : Box Reference Global) (u : PokeUnit) → form_tree (form.Offset r u) ≡ OffsetForm (reference_tree r.value) u
+pub offset_form : (r : Box Reference Global) (u : PokeUnit) →
+    form_tree (form.Offset r u) ≡ OffsetForm (reference_tree r.value) u
 offset_form r u = ap form_tree (sym (form.rolls-Offset r u)) ∙ search (rules, the_lemmas)

@@ -10,7 +10,8 @@ use Rattle.pickle_types.proofs.Items.{get_front, get_last, is_last}
 use Rattle.pickle_types.proofs.Tables.{shape_same, opens_below}
 
 module _ (old more : List Node) (table : IsTable old) where
-  found_grows : (at at' : ℕ → PokeType) (i : ℕ) → ((e : ℕ) → e < i → at e ≡ at' e) → (o : Option Node) → slice_get old i ≡ o → open_found at o ≡ open_found at' o
+  found_grows : (at at' : ℕ → PokeType) (i : ℕ) → ((e : ℕ) → e < i → at e ≡ at' e) → (o : Option Node) →
+      slice_get old i ≡ o → open_found at o ≡ open_found at' o
   found_grows at at' i same None e = refl
   found_grows at at' i same (Some node) e = shape_same at at' i same node.shape (table.below i node e)
 
@@ -19,7 +20,8 @@ module _ (old more : List Node) (table : IsTable old) where
   at_grows zero i lt = refl
   at_grows (suc d) i lt =
       ap (open_found (type_at (old ++ more) d)) (get_front old more i lt)
-      ∙ found_grows (type_at (old ++ more) d) (type_at old d) i (λ e below. at_grows d e (omega arith)) (slice_get old i) refl
+      ∙ found_grows (type_at (old ++ more) d) (type_at old d) i (λ e below. at_grows d e (omega arith))
+      (slice_get old i) refl
 
   pub type_grows : (i : ℕ) → i < length old → type_of (old ++ more) i ≡ type_of old i
   unfolding type_of
@@ -27,14 +29,19 @@ module _ (old more : List Node) (table : IsTable old) where
 
 module _ (old : List Node) (table : IsTable old) (node : Node) (below : NamesBelow (length old) node.shape) where
   push_below : (i : ℕ) (n : Node) → slice_get (old ++ node ∷ []) i ≡ Some n → NamesBelow i n.shape
-  push_below i n is = elim (cases_lt i (length old)) [ inl lt ↦ table.below i n (sym (get_front old (node ∷ []) i lt) ∙ is) | inr le ↦ let e = is_last old node i n is le in rw (e.place, e.item) below ]
+  push_below i n is = elim (cases_lt i (length old)) [
+    | inl lt ↦ table.below i n (sym (get_front old (node ∷ []) i lt) ∙ is)
+    | inr le ↦ let e = is_last old node i n is le in rw (e.place, e.item) below
+  ]
 
   pub push_type : type_of (old ++ node ∷ []) (length old) ≡ open_shape (type_of old) node.shape
   push_type =
       opens_below (old ++ node ∷ []) push_below (length old) node (get_last old node)
-      ∙ shape_same (type_of (old ++ node ∷ [])) (type_of old) (length old) (λ e lt. type_grows old (node ∷ []) table e lt) node.shape below
+      ∙ shape_same (type_of (old ++ node ∷ [])) (type_of old) (length old)
+      (λ e lt. type_grows old (node ∷ []) table e lt) node.shape below
 
-  push_deep : depth (open_shape (type_of old) node.shape) ≤ 64 → (i : ℕ) → i < length (old ++ node ∷ []) → depth (type_of (old ++ node ∷ []) i) ≤ 64
+  push_deep : depth (open_shape (type_of old) node.shape) ≤ 64 → (i : ℕ) → i < length (old ++ node ∷ []) →
+      depth (type_of (old ++ node ∷ []) i) ≤ 64
   push_deep low i within =
       let longer = length-append old (node ∷ []) in
       elim (cases_lt i (length old)) [
@@ -42,10 +49,14 @@ module _ (old : List Node) (table : IsTable old) (node : Node) (below : NamesBel
         | inr le ↦ let last : i ≡ length old = omega arith in rw (last, push_type) low
       ]
 
-  pub push_table : IsSoundShape node.shape → depth (open_shape (type_of old) node.shape) ≤ 64 → length old < 2 ^ 32 → IsTable (old ++ node ∷ [])
+  pub push_table : IsSoundShape node.shape → depth (open_shape (type_of old) node.shape) ≤ 64 → length old < 2 ^ 32 →
+      IsTable (old ++ node ∷ [])
   push_table sound low few = record {
     below = push_below;
-    sound = λ i n is. elim (cases_lt i (length old)) [ inl lt ↦ table.sound i n (sym (get_front old (node ∷ []) i lt) ∙ is) | inr le ↦ let e = is_last old node i n is le in rw e.item sound ];
+    sound = λ i n is. elim (cases_lt i (length old)) [
+      | inl lt ↦ table.sound i n (sym (get_front old (node ∷ []) i lt) ∙ is)
+      | inr le ↦ let e = is_last old node i n is le in rw e.item sound
+    ];
     deep = push_deep low;
     few = let longer = length-append old (node ∷ []) in omega arith;
   }

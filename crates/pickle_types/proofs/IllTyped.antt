@@ -10,6 +10,7 @@ use Rattle.pickle_types.specs.Built.{Fails}
 use Rattle.pickle_types.specs.TypeTable.{IsWellTyped}
 use Rattle.pickle_types.proofs.Meanings.{declared_whole}
 
-pub ill_typed : (kind : FaultKind) (ds : List DeclarationTree) → Fails kind (declared predeclared ds) → kind ≢ Memory → ¬ IsWellTyped ds
+pub ill_typed : (kind : FaultKind) (ds : List DeclarationTree) → Fails kind (declared predeclared ds) →
+    kind ≢ Memory → ¬ IsWellTyped ds
 ill_typed Memory ds h other = absurd (other refl)
 ill_typed _ ds h other = λ well. let e = declared_whole ds predeclared well.0 well.1 in cc

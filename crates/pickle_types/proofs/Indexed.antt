@@ -22,13 +22,17 @@ module _ {P : Type 0} (nodes : List Node) (node : Node) (old new : List (ℕ × 
   }
 
   pub indexed_named : (places : P) → AreDistinct (shape_names node.shape) →
-      ((i : ℕ) → lookup (is_at (nat_cmp i)) new ≡ cond (is_eq (nat_cmp (length nodes) i)) (Some places) (lookup (is_at (nat_cmp i)) old)) → AreIndexed (nodes ++ node ∷ []) new
+      ((i : ℕ) → lookup (is_at (nat_cmp i)) new
+      ≡ cond (is_eq (nat_cmp (length nodes) i)) (Some places) (lookup (is_at (nat_cmp i)) old)) →
+      AreIndexed (nodes ++ node ∷ []) new
   indexed_named places distinct put = record {
     some = λ i x found at kept. elim (cases_lt i (length nodes)) [
-      | inl lt ↦ h.some i x found (sym (get_front nodes (node ∷ []) i lt) ∙ at) (sym (other i (λ e. absurd (omega arith))) ∙ kept)
+      | inl lt ↦ h.some i x found
+          (sym (get_front nodes (node ∷ []) i lt) ∙ at) (sym (other i (λ e. absurd (omega arith))) ∙ kept)
       | inr le ↦ rw (is_last nodes node i x at le).item distinct
     ];
-    past = λ i le. let longer = length-append nodes (node ∷ []) in other i (λ e. absurd (omega arith)) ∙ h.past i (omega arith);
+    past = λ i le.
+        let longer = length-append nodes (node ∷ []) in other i (λ e. absurd (omega arith)) ∙ h.past i (omega arith);
   }
     where
       other : (i : ℕ) → (length nodes ≡ i → ⊥) → lookup (is_at (nat_cmp i)) new ≡ lookup (is_at (nat_cmp i)) old

@@ -23,7 +23,8 @@ pub record IsLast {A : Type 0} (xs : List A) (x : A) (i : ℕ) (y : A) : Type 0 
   pub place : i ≡ length xs
   pub item : y ≡ x
 
-pub is_last : {A : Type 0} (xs : List A) (x : A) (i : ℕ) (y : A) → slice_get (xs ++ x ∷ []) i ≡ Some y → length xs ≤ i → IsLast xs x i y
+pub is_last : {A : Type 0} (xs : List A) (x : A) (i : ℕ) (y : A) → slice_get (xs ++ x ∷ []) i ≡ Some y →
+    length xs ≤ i → IsLast xs x i y
 is_last xs x i y at le =
     let within = slice_get_within (xs ++ x ∷ []) i y at in
     let longer = length-append xs (x ∷ []) in

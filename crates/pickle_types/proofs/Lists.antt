@@ -24,7 +24,8 @@ pub distinct_none : AreDistinct []
 distinct_none = record { first = λ i word at. cc }
 
 -- one more field, whose name no other has
-pub distinct_more : (names : List (Option (List ℕ))) (n : Option (List ℕ)) → AreDistinct names → fresh n names ≡ Ok tt → AreDistinct (names ++ n ∷ [])
+pub distinct_more : (names : List (Option (List ℕ))) (n : Option (List ℕ)) → AreDistinct names → fresh n names ≡ Ok tt →
+    AreDistinct (names ++ n ∷ [])
 distinct_more names n h new = record {
   first = λ i word at. elim (cases_lt i (length names)) [
     | inl lt ↦ before i word (h.first i word (sym (get_front names (n ∷ []) i lt) ∙ at)) (is_named n word) refl
@@ -32,8 +33,10 @@ distinct_more names n h new = record {
   ];
 }
   where
-    before : (i : ℕ) (word : List ℕ) → place_named word names ≡ Some i → (b : Bool) → is_named n word ≡ b → place_named word (names ++ n ∷ []) ≡ Some i
-    before i word at true e = let clash : true ≡ false = ap is_some (sym at) ∙ placed_is word names ∙ apart n names new word e in cc
+    before : (i : ℕ) (word : List ℕ) → place_named word names ≡ Some i → (b : Bool) → is_named n word ≡ b →
+        place_named word (names ++ n ∷ []) ≡ Some i
+    before i word at true e =
+        let clash : true ≡ false = ap is_some (sym at) ∙ placed_is word names ∙ apart n names new word e in cc
     before i word at false e = place_other word names n e ∙ at
 
     last : (i : ℕ) (word : List ℕ) → i ≡ length names → Some word ≡ n → place_named word (names ++ n ∷ []) ≡ Some i
@@ -49,37 +52,48 @@ for_any (Some a) h = h
 pub list_on : (old new : List (List ℕ)) (l : FieldList) → IsFieldList old l → Extends old new → IsFieldList new l
 list_on old new l h e = record { distinct = h.distinct; places = places_on l.places h.places }
   where
-    places_on : (o : Option (IndexMap ℕ ℕ ByNumber)) → IfSome o (λ places. IsNumbered old (in_map places) (λ word. place_named word (names_in l.fields.items))) →
+    places_on : (o : Option (IndexMap ℕ ℕ ByNumber)) →
+        IfSome o (λ places. IsNumbered old (in_map places) (λ word. place_named word (names_in l.fields.items))) →
         IfSome o (λ places. IsNumbered new (in_map places) (λ word. place_named word (names_in l.fields.items)))
     places_on None h = tt
     places_on (Some places) h = numbered_on old new _ _ h e
 
 -- no fields
-pub list_none : (words : List (List ℕ)) (l : FieldList) → l.fields.items ≡ [] → IfSome l.places IsEmpty → IsFieldList words l
+pub list_none : (words : List (List ℕ)) (l : FieldList) → l.fields.items ≡ [] →
+    IfSome l.places IsEmpty → IsFieldList words l
 list_none words l none empty = record { distinct = rw none distinct_none; places = rw none (by l.places empty) }
   where
-    at_none : (words : List (List ℕ)) (at : ℕ → Option ℕ) (word : List ℕ) → ((n : ℕ) → at n ≡ None) → at_number at (number_in words word) ≡ None
+    at_none : (words : List (List ℕ)) (at : ℕ → Option ℕ) (word : List ℕ) → ((n : ℕ) → at n ≡ None) →
+        at_number at (number_in words word) ≡ None
     at_none words at word none = step (number_in words word)
       where
         step : (o : Option ℕ) → at_number at o ≡ None
         step None = refl
         step (Some n) = none n
 
-    by : (o : Option (IndexMap ℕ ℕ ByNumber)) → IfSome o IsEmpty → IfSome o (λ places. IsNumbered words (in_map places) (λ word. place_named word []))
+    by : (o : Option (IndexMap ℕ ℕ ByNumber)) → IfSome o IsEmpty →
+        IfSome o (λ places. IsNumbered words (in_map places) (λ word. place_named word []))
     by None h = tt
-    by (Some places) h = record { kept = λ word. at_none words (in_map places) word (λ n. rw h refl); unused = λ n le. rw h refl }
+    by (Some places) h =
+        record { kept = λ word. at_none words (in_map places) word (λ n. rw h refl); unused = λ n le. rw h refl }
 
 called_is : (n : Option (List ℕ)) (word : List ℕ) → is_named n word ≡ true → n ≡ Some word
 called_is None word e = cc
 called_is (Some name) word e = ap Some ((bytes_decides name word).0 e)
 
 -- the name of the field at a place
-pub field_called : (fs : List Field) (i : ℕ) (f : Field) (word : List ℕ) → slice_get fs i ≡ Some f → is_named (name_of f.name) word ≡ true → slice_get (names_in fs) i ≡ Some (Some word)
+pub field_called : (fs : List Field) (i : ℕ) (f : Field) (word : List ℕ) → slice_get fs i ≡ Some f →
+    is_named (name_of f.name) word ≡ true → slice_get (names_in fs) i ≡ Some (Some word)
 field_called [] i f word at e = cc
-field_called (g ∷ fs) zero f word at e = let same = called_is (name_of f.name) word e in let one : Some g ≡ Some f = at in ap (option_map (λ (x : Field). name_of x.name)) one ∙ ap Some same
+field_called (g ∷ fs) zero f word at e =
+    let same = called_is (name_of f.name) word e in
+    let one : Some g ≡ Some f = at in ap (option_map (λ (x : Field). name_of x.name)) one ∙ ap Some same
 field_called (g ∷ fs) (suc i) f word at e = field_called fs i f word at e
 
-pub part_called : (ps : List Part) (i : ℕ) (p : Part) (word : List ℕ) → slice_get ps i ≡ Some p → is_named (name_of p.name) word ≡ true → slice_get (part_names ps) i ≡ Some (Some word)
+pub part_called : (ps : List Part) (i : ℕ) (p : Part) (word : List ℕ) → slice_get ps i ≡ Some p →
+    is_named (name_of p.name) word ≡ true → slice_get (part_names ps) i ≡ Some (Some word)
 part_called [] i p word at e = cc
-part_called (q ∷ ps) zero p word at e = let same = called_is (name_of p.name) word e in let one : Some q ≡ Some p = at in ap (option_map (λ (x : Part). name_of x.name)) one ∙ ap Some same
+part_called (q ∷ ps) zero p word at e =
+    let same = called_is (name_of p.name) word e in
+    let one : Some q ≡ Some p = at in ap (option_map (λ (x : Part). name_of x.name)) one ∙ ap Some same
 part_called (q ∷ ps) (suc i) p word at e = part_called ps i p word at e

@@ -30,14 +30,17 @@ module _ (names : Names) (seen : List Visible) (levels : ℕ) where
   integer_sound None = IsTruth.without
   integer_sound (Some e) =
       bind_if (IsMeant e) _ (typed names seen levels e) _ (typed_sound names seen levels e) (λ x h.
-      bind_if _ (IsTruth names seen levels (Some e)) (integer_or_wrong x.1) _ (integer_is x.1) (λ w is. IsTruth.of_integer w (rw is at h)))
+      bind_if _ (IsTruth names seen levels (Some e)) (integer_or_wrong x.1) _ (integer_is x.1)
+      (λ w is. IsTruth.of_integer w (rw is at h)))
 
-  integer_whole : (e : Option Tree) (c : Option Term) → IsTruth names seen levels e c → integer_expression names seen levels e ≡ Ok c
+  integer_whole : (e : Option Tree) (c : Option Term) → IsTruth names seen levels e c →
+      integer_expression names seen levels e ≡ Ok c
   unfolding integer_expression
   integer_whole _ _ IsTruth.without = refl
   integer_whole _ _ (IsTruth.of_integer w h) = rw (typed_whole names seen levels _ _ _ h) refl
 
-  of_scalar : (e : Tree) (x : Term) (s : Scalar) → HasSort names seen levels e x (scalar_sort s) → IfOk (offset_in s >>= λ u. Ok (Some x)) (IsLabel names seen levels (Some e))
+  of_scalar : (e : Tree) (x : Term) (s : Scalar) → HasSort names seen levels e x (scalar_sort s) →
+      IfOk (offset_in s >>= λ u. Ok (Some x)) (IsLabel names seen levels (Some e))
   of_scalar e x (Integer t) h = tt
   of_scalar e x (Offset t n) h = IsLabel.of_offset t n h
 
@@ -46,14 +49,17 @@ module _ (names : Names) (seen : List Visible) (levels : ℕ) where
   offset_sound None = IsLabel.without
   offset_sound (Some e) =
       bind_if (IsMeant e) _ (typed names seen levels e) _ (typed_sound names seen levels e) (λ x h.
-      bind_if _ (IsLabel names seen levels (Some e)) (or_wrong Mismatch (number_in (operand_of x.1))) _ (number_is x.1) (λ s is. of_scalar e x.0 s (rw is at h)))
+      bind_if _ (IsLabel names seen levels (Some e)) (or_wrong Mismatch (number_in (operand_of x.1))) _ (number_is x.1)
+      (λ s is. of_scalar e x.0 s (rw is at h)))
 
-  offset_whole : (e : Option Tree) (c : Option Term) → IsLabel names seen levels e c → offset_expression names seen levels e ≡ Ok c
+  offset_whole : (e : Option Tree) (c : Option Term) → IsLabel names seen levels e c →
+      offset_expression names seen levels e ≡ Ok c
   unfolding offset_expression
   offset_whole _ _ IsLabel.without = refl
   offset_whole _ _ (IsLabel.of_offset w n h) = rw (typed_whole names seen levels _ _ _ h) refl
 
-  of_bound : (e : Tree) (x : Term) (s : Scalar) → HasSort names seen levels e x (scalar_sort s) → IsBound names seen levels (Some e) (bound_by s x)
+  of_bound : (e : Tree) (x : Term) (s : Scalar) → HasSort names seen levels e x (scalar_sort s) →
+      IsBound names seen levels (Some e) (bound_by s x)
   of_bound e x (Integer t) h = IsBound.by_count t h
   of_bound e x (Offset t n) h = IsBound.by_size t n h
 
@@ -62,9 +68,11 @@ module _ (names : Names) (seen : List Visible) (levels : ℕ) where
   bound_sound None = IsBound.without
   bound_sound (Some e) =
       bind_if (IsMeant e) _ (typed names seen levels e) _ (typed_sound names seen levels e) (λ x h.
-      bind_if _ (IsBound names seen levels (Some e)) (or_wrong Mismatch (number_in (operand_of x.1))) _ (number_is x.1) (λ s is. of_bound e x.0 s (rw is at h)))
+      bind_if _ (IsBound names seen levels (Some e)) (or_wrong Mismatch (number_in (operand_of x.1))) _ (number_is x.1)
+      (λ s is. of_bound e x.0 s (rw is at h)))
 
-  bound_whole : (e : Option Tree) (b : Bound) → IsBound names seen levels e b → bound_expression names seen levels e ≡ Ok b
+  bound_whole : (e : Option Tree) (b : Bound) → IsBound names seen levels e b →
+      bound_expression names seen levels e ≡ Ok b
   unfolding bound_expression
   bound_whole _ _ IsBound.without = refl
   bound_whole _ _ (IsBound.by_count w h) = rw (typed_whole names seen levels _ _ _ h) refl
@@ -74,7 +82,8 @@ unless_sound : (b : Bool) → IfOk (unless_found b) (λ u. b ≡ false)
 unless_sound false = refl
 unless_sound true = tt
 
-fresh_sound : (name : Option (List ℕ)) (names : List (Option (List ℕ))) → IfOk (fresh name names) (λ u. IsFresh name names)
+fresh_sound : (name : Option (List ℕ)) (names : List (Option (List ℕ))) →
+    IfOk (fresh name names) (λ u. IsFresh name names)
 unfolding fresh
 fresh_sound None names = tt
 fresh_sound (Some word) names = unless_sound (has_name word names)
@@ -114,22 +123,27 @@ named_is : (o : Option (List ℕ)) → has_some o ≡ true → (word : List ℕ)
 named_is None h = cc
 named_is (Some word) h = (word, refl)
 
-stand_sound : (here : Place) (t : PokeType) (parts : FieldParts) → may_stand here (has_some (bit_width t)) parts ≡ true → MayStand here t parts
+stand_sound : (here : Place) (t : PokeType) (parts : FieldParts) →
+    may_stand here (has_some (bit_width t)) parts ≡ true → MayStand here t parts
 stand_sound place.Struct t parts h = MayStand.in_struct (prefixed_sound parts.order t h)
-stand_sound place.Pinned t parts h = let p = and_parts _ _ h in MayStand.in_pinned (prefixed_sound parts.order t p.0) (none_is parts.label p.1)
+stand_sound place.Pinned t parts h =
+    let p = and_parts _ _ h in MayStand.in_pinned (prefixed_sound parts.order t p.0) (none_is parts.label p.1)
 stand_sound place.Integral t parts h =
     let p = and_parts _ _ h in
     let q = and_parts _ _ p.0 in
     let r = and_parts _ _ q.0 in
-    MayStand.in_integral (width_sound t r.0) (none_is parts.order r.1) (none_is parts.label q.1) (none_is parts.condition p.1)
+    MayStand.in_integral (width_sound t r.0) (none_is parts.order r.1) (none_is parts.label q.1)
+    (none_is parts.condition p.1)
 stand_sound place.Union t parts h =
     let p = and_parts _ _ h in
     let q = and_parts _ _ p.0 in
     let r = and_parts _ _ q.0 in
     let name = named_is parts.name r.1 in
-    MayStand.in_union name.0 (prefixed_sound parts.order t r.0) name.1 (none_is parts.label q.1) (none_is parts.condition p.1)
+    MayStand.in_union name.0 (prefixed_sound parts.order t r.0) name.1 (none_is parts.label q.1)
+    (none_is parts.condition p.1)
 
-stand_whole : (here : Place) (t : PokeType) (parts : FieldParts) → MayStand here t parts → may_stand here (has_some (bit_width t)) parts ≡ true
+stand_whole : (here : Place) (t : PokeType) (parts : FieldParts) → MayStand here t parts →
+    may_stand here (has_some (bit_width t)) parts ≡ true
 stand_whole _ t parts (MayStand.in_struct h) = prefixed_whole parts.order t h
 stand_whole _ t parts (MayStand.in_pinned h l) = rw (prefixed_whole parts.order t h, l) refl
 stand_whole _ t parts (MayStand.in_integral h o l d) = rw (width_whole t h, o, l, d) refl
@@ -140,24 +154,29 @@ here_is true = refl
 here_is false = tt
 
 -- the rules hold, and the type is no deeper than allowed
-record Sound (names : Names) (seen : List Visible) (levels : ℕ) (title : Option (List ℕ)) (room : ℕ) (f : FormTree) (t : PokeType) : Type 0 where
+record Sound (names : Names) (seen : List Visible) (levels : ℕ) (title : Option (List ℕ)) (room : ℕ) (f : FormTree)
+    (t : PokeType) : Type 0 where
   means : Means names seen levels title f t
   low : depth t ≤ room
 
-record FieldsSound (names : Names) (here : Place) (seen : List Visible) (levels room : ℕ) (before : List (Option (List ℕ))) (f : FieldTrees) (fs : Fields) : Type 0 where
+record FieldsSound (names : Names) (here : Place) (seen : List Visible) (levels room : ℕ)
+    (before : List (Option (List ℕ))) (f : FieldTrees) (fs : Fields) : Type 0 where
   means : FieldsMean names here seen levels before f fs
   low : fields_depth fs ≤ room
 
-record FieldSound (names : Names) (here : Place) (seen : List Visible) (levels room : ℕ) (before : List (Option (List ℕ))) (form : FormTree) (parts : FieldParts) (f : FieldMeaning) : Type 0 where
+record FieldSound (names : Names) (here : Place) (seen : List Visible) (levels room : ℕ)
+    (before : List (Option (List ℕ))) (form : FormTree) (parts : FieldParts) (f : FieldMeaning) : Type 0 where
   means : Means names seen (levels + 1) None form f.type
   low : depth f.type ≤ room
   stands : MayStand here f.type parts
   new : IsFresh parts.name before
   label : IsLabel names seen (levels + 1) parts.label f.label
   condition : IsTruth names seen (levels + 1) parts.condition f.condition
-  constraint : IsTruth names (with_itself here seen levels (length before) parts f.type) (levels + 1) parts.constraint f.constraint
+  constraint : IsTruth names (with_itself here seen levels (length before) parts f.type)
+      (levels + 1) parts.constraint f.constraint
 
-limited_sound : (room : ℕ) (t : PokeType) (b : Bool) → nat_le (depth t) room ≡ b → IfOk (if b then Ok t else Err TooDeep) (λ u. (u ≡ t) × (depth u ≤ room))
+limited_sound : (room : ℕ) (t : PokeType) (b : Bool) → nat_le (depth t) room ≡ b →
+    IfOk (if b then Ok t else Err TooDeep) (λ u. (u ≡ t) × (depth u ≤ room))
 limited_sound room t true e = (refl, leb-true _ _ e)
 limited_sound room t false e = tt
 
@@ -168,19 +187,27 @@ if_weaker : {A : Type 0} (P Q : A → Type 0) (r : Result A FaultKind) → ((a :
 if_weaker P Q (Ok a) f h = f a h
 if_weaker P Q (Err e) f h = tt
 
-in_range_refers : (names : Names) (r : TreeReference) (t : Result IntegerType FaultKind) → IfOk (t >>= λ w. Ok (IntegerOf w)) (Refers names r) → (seen : List Visible) (levels : ℕ) (title : Option (List ℕ)) (room : ℕ) →
+in_range_refers : (names : Names) (r : TreeReference) (t : Result IntegerType FaultKind) →
+    IfOk (t >>= λ w. Ok (IntegerOf w)) (Refers names r) →
+    (seen : List Visible) (levels : ℕ) (title : Option (List ℕ)) (room : ℕ) →
     IfOk (t >>= λ w. Ok (IntegerOf w)) (Sound names seen levels title (suc room) (Plain r))
 unfolding depth
 in_range_refers names r (Ok w) h seen levels title room = record { means = Means.plain h; low = omega arith }
 in_range_refers names r (Err e) h seen levels title room = tt
 
-plain_sound : (names : Names) (seen : List Visible) (levels : ℕ) (title : Option (List ℕ)) (room : ℕ) (r : TreeReference) → IfOk (plain (suc room) names r) (Sound names seen levels title (suc room) (Plain r))
-plain_sound names seen levels title room (Int n) = in_range_refers names (Int n) (in_range true n.value) (referred_sound names (Int n)) seen levels title room
-plain_sound names seen levels title room (Uint n) = in_range_refers names (Uint n) (in_range false n.value) (referred_sound names (Uint n)) seen levels title room
+plain_sound : (names : Names) (seen : List Visible) (levels : ℕ) (title : Option (List ℕ)) (room : ℕ)
+    (r : TreeReference) → IfOk (plain (suc room) names r) (Sound names seen levels title (suc room) (Plain r))
+plain_sound names seen levels title room (Int n) =
+    in_range_refers names (Int n) (in_range true n.value) (referred_sound names (Int n)) seen levels title room
+plain_sound names seen levels title room (Uint n) =
+    in_range_refers names (Uint n) (in_range false n.value) (referred_sound names (Uint n)) seen levels title room
 plain_sound names seen levels title room (Called word) =
-    bind_if (λ t. find_type word names ≡ Some t) (Sound names seen levels title (suc room) (Plain (Called word))) (or_wrong UnknownType (find_type word names)) _ (some_is UnknownType (find_type word names)) (λ t is.
+    bind_if (λ t. find_type word names ≡ Some t) (Sound names seen levels title (suc room) (Plain (Called word)))
+    (or_wrong UnknownType (find_type word names)) _ (some_is UnknownType (find_type word names)) (λ t is.
     let P : PokeType → Type 0 = λ u. (u ≡ t) × (depth u ≤ suc room) in
-    if_weaker P (Sound names seen levels title (suc room) (Plain (Called word))) (limited (suc room) t) (λ u h. record { means = Means.plain (Refers.called (is ∙ ap Some (sym h.0))); low = h.1 }) (limited_low (suc room) t))
+    if_weaker P (Sound names seen levels title (suc room) (Plain (Called word))) (limited (suc room) t)
+    (λ u h. record { means = Means.plain (Refers.called (is ∙ ap Some (sym h.0))); low = h.1 })
+    (limited_low (suc room) t))
 
 positive : (t : PokeType) → 1 ≤ depth t
 unfolding depth
@@ -197,31 +224,52 @@ unfolding depth fields_depth parts_depth
 parts_depth_is NoFields = refl
 parts_depth_is (FieldThen name order type constraint label condition rest) = rw (parts_depth_is rest) refl
 
-widths_sound : (title : Option (List ℕ)) (t : IntegerType) (fs : Fields) (b : Bool) → nat_eq (total_width fs) t.width ≡ b →
-    IfOk (if b then Ok (IntegralOf title t (parts_of fs)) else Err IntegralWidths) (λ u. (u ≡ IntegralOf title t (parts_of fs)) × (total_width fs ≡ t.width))
+widths_sound : (title : Option (List ℕ)) (t : IntegerType) (fs : Fields) (b : Bool) →
+    nat_eq (total_width fs) t.width ≡ b →
+    IfOk (if b then Ok (IntegralOf title t (parts_of fs)) else Err IntegralWidths)
+    (λ u. (u ≡ IntegralOf title t (parts_of fs)) × (total_width fs ≡ t.width))
 widths_sound title t fs true e = (refl, eqb-true _ _ e)
 widths_sound title t fs false e = tt
 
-integral_sound : (title : Option (List ℕ)) (t : IntegerType) (fs : Fields) → IfOk (integral_type title t fs) (λ u. (u ≡ IntegralOf title t (parts_of fs)) × (total_width fs ≡ t.width))
+integral_sound : (title : Option (List ℕ)) (t : IntegerType) (fs : Fields) →
+    IfOk (integral_type title t fs) (λ u. (u ≡ IntegralOf title t (parts_of fs)) × (total_width fs ≡ t.width))
 integral_sound title t fs = widths_sound title t fs _ refl
 
-field_sound : (names : Names) (here : Place) (seen : List Visible) (levels room : ℕ) (before : List (Option (List ℕ))) (form : FormTree) (parts : FieldParts) (r : Result PokeType FaultKind) →
-    IfOk r (Sound names seen (levels + 1) None room form) → IfOk (field_meaning names here seen levels before parts r) (FieldSound names here seen levels room before form parts)
+field_sound : (names : Names) (here : Place) (seen : List Visible) (levels room : ℕ) (before : List (Option (List ℕ)))
+    (form : FormTree) (parts : FieldParts) (r : Result PokeType FaultKind) →
+    IfOk r (Sound names seen (levels + 1) None room form) → IfOk (field_meaning names here seen levels before parts r)
+    (FieldSound names here seen levels room before form parts)
 field_sound names here seen levels room before form parts r h =
     bind_if (Sound names seen (levels + 1) None room form) _ r _ h (λ t s.
-    bind_if _ (FieldSound names here seen levels room before form parts) (if_here (may_stand here (has_some (bit_width t)) parts)) _ (here_is (may_stand here (has_some (bit_width t)) parts)) (λ u stands.
+    bind_if _ (FieldSound names here seen levels room before form parts)
+    (if_here (may_stand here (has_some (bit_width t)) parts)) _
+    (here_is (may_stand here (has_some (bit_width t)) parts)) (λ u stands.
     bind_if (λ v. IsFresh parts.name before) _ (fresh parts.name before) _ (fresh_sound parts.name before) (λ v new.
-    bind_if (IsLabel names seen (levels + 1) parts.label) _ (offset_expression names seen (levels + 1) parts.label) _ (offset_sound names seen (levels + 1) parts.label) (λ l label.
-    bind_if (IsTruth names seen (levels + 1) parts.condition) _ (integer_expression names seen (levels + 1) parts.condition) _ (integer_sound names seen (levels + 1) parts.condition) (λ d condition.
-    bind_if (IsTruth names (with_itself here seen levels (length before) parts t) (levels + 1) parts.constraint) _ (integer_expression names (with_itself here seen levels (length before) parts t) (levels + 1) parts.constraint) _
-    (integer_sound names (with_itself here seen levels (length before) parts t) (levels + 1) parts.constraint) (λ c constraint.
-    record { means = s.means; low = s.low; stands = stand_sound here t parts stands; new = new; label = label; condition = condition; constraint = constraint }))))))
+    bind_if (IsLabel names seen (levels + 1) parts.label) _ (offset_expression names seen (levels + 1) parts.label) _
+    (offset_sound names seen (levels + 1) parts.label) (λ l label.
+    bind_if (IsTruth names seen (levels + 1) parts.condition) _
+    (integer_expression names seen (levels + 1) parts.condition) _
+    (integer_sound names seen (levels + 1) parts.condition) (λ d condition.
+    bind_if (IsTruth names (with_itself here seen levels (length before) parts t) (levels + 1) parts.constraint) _
+    (integer_expression names (with_itself here seen levels (length before) parts t) (levels + 1) parts.constraint) _
+    (integer_sound names (with_itself here seen levels (length before) parts t) (levels + 1) parts.constraint)
+    (λ c constraint.
+    record {
+      means = s.means;
+      low = s.low;
+      stands = stand_sound here t parts stands;
+      new = new;
+      label = label;
+      condition = condition;
+      constraint = constraint;
+    }))))))
 
 module _ (names : Names) where
   mutual
     unfolding meaning fields_meaning depth fields_depth
 
-    meaning_sound : (f : FormTree) (seen : List Visible) (levels : ℕ) (title : Option (List ℕ)) (room : ℕ) → IfOk (meaning names seen levels title room f) (Sound names seen levels title room f)
+    meaning_sound : (f : FormTree) (seen : List Visible) (levels : ℕ) (title : Option (List ℕ)) (room : ℕ) →
+        IfOk (meaning names seen levels title room f) (Sound names seen levels title room f)
     meaning_sound (Plain r) seen levels title zero = tt
     meaning_sound StringForm seen levels title zero = tt
     meaning_sound (OffsetForm r u) seen levels title zero = tt
@@ -232,41 +280,66 @@ module _ (names : Names) where
     meaning_sound (Plain r) seen levels title (suc room) = plain_sound names seen levels title room r
     meaning_sound StringForm seen levels title (suc room) = record { means = Means.string; low = omega arith }
     meaning_sound (OffsetForm r u) seen levels title (suc room) =
-        bind_if _ (Sound names seen levels title (suc room) (OffsetForm r u)) (offset_referred names r u) _ (offset_referred_sound names r u) (λ s h.
+        bind_if _ (Sound names seen levels title (suc room) (OffsetForm r u)) (offset_referred names r u) _
+        (offset_referred_sound names r u) (λ s h.
         rw h.2 (record { means = Means.offset h.3 h.4; low = omega arith }))
     meaning_sound (ArrayForm element bound) seen levels title (suc room) =
-        bind_if (Sound names seen (levels + 1) None room element) _ (meaning names seen (levels + 1) None room element) _ (meaning_sound element seen (levels + 1) None room) (λ t h.
-        bind_if (IsBound names seen levels bound) _ (bound_expression names seen levels bound) _ (bound_sound names seen levels bound) (λ b g.
+        bind_if (Sound names seen (levels + 1) None room element) _ (meaning names seen (levels + 1) None room element)
+        _ (meaning_sound element seen (levels + 1) None room) (λ t h.
+        bind_if (IsBound names seen levels bound) _ (bound_expression names seen levels bound) _
+        (bound_sound names seen levels bound) (λ b g.
         let low = h.low in record { means = Means.array h.means g; low = omega arith }))
     meaning_sound (StructForm pinned forms) seen levels title (suc room) =
-        bind_if (FieldsSound names (struct_place pinned) seen levels room [] forms) _ (fields_meaning names (struct_place pinned) seen levels room [] forms) _ (fields_sound forms (struct_place pinned) seen levels room []) (λ fs h.
+        bind_if (FieldsSound names (struct_place pinned) seen levels room [] forms) _
+        (fields_meaning names (struct_place pinned) seen levels room [] forms) _
+        (fields_sound forms (struct_place pinned) seen levels room []) (λ fs h.
         let low = h.low in record { means = Means.struct h.means; low = omega arith })
     meaning_sound (IntegralForm r forms) seen levels title (suc room) =
-        bind_if (λ t. Refers names r (IntegerOf t)) _ (integer_referred names r) _ (integer_referred_sound names r) (λ t g.
-        bind_if (FieldsSound names place.Integral seen levels room [] forms) _ (fields_meaning names place.Integral seen levels room [] forms) _ (fields_sound forms place.Integral seen levels room []) (λ fs h.
+        bind_if (λ t. Refers names r (IntegerOf t)) _ (integer_referred names r) _
+        (integer_referred_sound names r) (λ t g.
+        bind_if (FieldsSound names place.Integral seen levels room [] forms) _
+        (fields_meaning names place.Integral seen levels room [] forms) _
+        (fields_sound forms place.Integral seen levels room []) (λ fs h.
         let low = h.low in
         let same = parts_depth_is fs in
-        if_weaker (λ u. (u ≡ IntegralOf title t (parts_of fs)) × (total_width fs ≡ t.width)) (Sound names seen levels title (suc room) (IntegralForm r forms)) (integral_type title t fs)
-        (λ u is. rw is.0 (record { means = Means.integral g h.means is.1; low = omega arith })) (integral_sound title t fs)))
+        if_weaker (λ u. (u ≡ IntegralOf title t (parts_of fs)) × (total_width fs ≡ t.width))
+        (Sound names seen levels title (suc room) (IntegralForm r forms)) (integral_type title t fs)
+        (λ u is. rw is.0 (record { means = Means.integral g h.means is.1; low = omega arith }))
+        (integral_sound title t fs)))
     meaning_sound (UnionForm tree.NoFields) seen levels title (suc room) = tt
     meaning_sound (UnionForm (tree.FieldThen form parts rest)) seen levels title (suc room) =
-        bind_if (FieldsSound names place.Union seen levels room [] (tree.FieldThen form parts rest)) _ (fields_meaning names place.Union seen levels room [] (tree.FieldThen form parts rest)) _
+        bind_if (FieldsSound names place.Union seen levels room [] (tree.FieldThen form parts rest)) _
+        (fields_meaning names place.Union seen levels room [] (tree.FieldThen form parts rest)) _
         (fields_sound (tree.FieldThen form parts rest) place.Union seen levels room []) (λ fs h.
         let low = h.low in
         let same = parts_depth_is fs in
         record { means = Means.union h.means; low = omega arith })
 
-    fields_sound : (f : FieldTrees) (here : Place) (seen : List Visible) (levels room : ℕ) (before : List (Option (List ℕ))) → IfOk (fields_meaning names here seen levels room before f) (FieldsSound names here seen levels room before f)
+    fields_sound : (f : FieldTrees) (here : Place) (seen : List Visible) (levels room : ℕ)
+        (before : List (Option (List ℕ))) →
+        IfOk (fields_meaning names here seen levels room before f) (FieldsSound names here seen levels room before f)
     fields_sound tree.NoFields here seen levels room before = record { means = FieldsMean.done; low = omega arith }
     fields_sound (tree.FieldThen form parts rest) here seen levels room before =
-        bind_if (FieldSound names here seen levels room before form parts) _ (field_meaning names here seen levels before parts (meaning names seen (levels + 1) None room form)) _
-        (field_sound names here seen levels room before form parts _ (meaning_sound form seen (levels + 1) None room)) (λ x h.
-        bind_if (FieldsSound names here (after_field here seen (with_itself here seen levels (length before) parts x.type)) levels room (before ++ parts.name ∷ []) rest) _
-        (fields_meaning names here (after_field here seen (with_itself here seen levels (length before) parts x.type)) levels room (before ++ parts.name ∷ []) rest) _
-        (fields_sound rest here (after_field here seen (with_itself here seen levels (length before) parts x.type)) levels room (before ++ parts.name ∷ [])) (λ fs g.
-        let a = h.low in let b = g.low in record { means = FieldsMean.field h.means h.stands h.new h.label h.condition h.constraint g.means; low = omega arith }))
+        bind_if (FieldSound names here seen levels room before form parts) _
+        (field_meaning names here seen levels before parts (meaning names seen (levels + 1) None room form)) _
+        (field_sound names here seen levels room before form parts _ (meaning_sound form seen (levels + 1) None room))
+        (λ x h.
+        bind_if
+        (FieldsSound names here (after_field here seen (with_itself here seen levels (length before) parts x.type))
+        levels room (before ++ parts.name ∷ []) rest) _
+        (fields_meaning names here (after_field here seen (with_itself here seen levels (length before) parts x.type))
+        levels room (before ++ parts.name ∷ []) rest) _
+        (fields_sound rest here (after_field here seen (with_itself here seen levels (length before) parts x.type))
+        levels room (before ++ parts.name ∷ [])) (λ fs g.
+        let a = h.low in
+        let b = g.low in
+        record {
+          means = FieldsMean.field h.means h.stands h.new h.label h.condition h.constraint g.means;
+          low = omega arith;
+        }))
 
-  plain_whole : (room : ℕ) (r : TreeReference) (t : PokeType) → Refers names r t → depth t ≤ room → plain room names r ≡ Ok t
+  plain_whole : (room : ℕ) (r : TreeReference) (t : PokeType) → Refers names r t → depth t ≤ room →
+      plain room names r ≡ Ok t
   plain_whole room _ _ (Refers.signed some most) low = rw (in_range_whole _ _ some most) refl
   plain_whole room _ _ (Refers.unsigned some most) low = rw (in_range_whole _ _ some most) refl
   plain_whole room _ _ (Refers.called is) low = rw (is, le-leb _ _ low) refl
@@ -274,12 +347,14 @@ module _ (names : Names) where
   mutual
     unfolding meaning fields_meaning depth fields_depth
 
-    meaning_whole : (f : FormTree) (t : PokeType) (seen : List Visible) (levels : ℕ) (title : Option (List ℕ)) (room : ℕ) → Means names seen levels title f t → depth t ≤ room → meaning names seen levels title room f ≡ Ok t
+    meaning_whole : (f : FormTree) (t : PokeType) (seen : List Visible) (levels : ℕ) (title : Option (List ℕ))
+        (room : ℕ) → Means names seen levels title f t → depth t ≤ room → meaning names seen levels title room f ≡ Ok t
     meaning_whole f t seen levels title zero h low = let p = positive t in absurd (omega arith)
     meaning_whole _ _ _ _ _ (suc room) (Means.plain h) low = plain_whole (suc room) _ _ h low
     meaning_whole _ _ _ _ _ (suc room) Means.string low = refl
     meaning_whole _ _ _ _ _ (suc room) (Means.offset h g) low = rw (offset_referred_whole names _ _ _ _ h g) refl
-    meaning_whole _ _ _ _ _ (suc room) (Means.array h g) low = rw (meaning_whole _ _ _ _ _ room h (omega arith), bound_whole names _ _ _ _ g) refl
+    meaning_whole _ _ _ _ _ (suc room) (Means.array h g) low =
+        rw (meaning_whole _ _ _ _ _ room h (omega arith), bound_whole names _ _ _ _ g) refl
     meaning_whole _ _ _ _ _ (suc room) (Means.struct h) low = rw (fields_whole _ _ _ _ _ room _ h (omega arith)) refl
     meaning_whole _ _ _ _ _ (suc room) (Means.integral {fs = fs} g h w) low =
         let same = parts_depth_is fs in
@@ -288,7 +363,9 @@ module _ (names : Names) where
         let same = parts_depth_is fs in
         rw (fields_whole _ _ _ _ _ room _ h (omega arith)) refl
 
-    fields_whole : (f : FieldTrees) (fs : Fields) (here : Place) (seen : List Visible) (levels room : ℕ) (before : List (Option (List ℕ))) → FieldsMean names here seen levels before f fs → fields_depth fs ≤ room → fields_meaning names here seen levels room before f ≡ Ok fs
+    fields_whole : (f : FieldTrees) (fs : Fields) (here : Place) (seen : List Visible) (levels room : ℕ)
+        (before : List (Option (List ℕ))) → FieldsMean names here seen levels before f fs → fields_depth fs ≤ room →
+        fields_meaning names here seen levels room before f ≡ Ok fs
     fields_whole _ _ _ _ _ room _ FieldsMean.done low = refl
     fields_whole _ _ _ _ _ room _ (FieldsMean.field h stands new label condition constraint g) low =
         rw (
@@ -301,23 +378,30 @@ module _ (names : Names) where
           fields_whole _ _ _ _ _ room _ g (omega arith),
         ) refl
 
-declares_one : (names : Names) (d : DeclarationTree) (ds : List DeclarationTree) → ((t : PokeType) → IfOk (declared (names ++ (d.name, t) ∷ []) ds) (Declares (names ++ (d.name, t) ∷ []) ds)) →
+declares_one : (names : Names) (d : DeclarationTree) (ds : List DeclarationTree) →
+    ((t : PokeType) → IfOk (declared (names ++ (d.name, t) ∷ []) ds) (Declares (names ++ (d.name, t) ∷ []) ds)) →
     (o : Option PokeType) → find_type d.name names ≡ o →
-    IfOk ((unless_declared o >>= λ u. meaning names [] 0 (Some d.name) 64 d.form) >>= λ t. declared (names ++ (d.name, t) ∷ []) ds) (Declares names (d ∷ ds))
+    IfOk ((unless_declared o >>= λ u. meaning names [] 0 (Some d.name) 64 d.form) >>= λ t.
+    declared (names ++ (d.name, t) ∷ []) ds) (Declares names (d ∷ ds))
 declares_one names d ds rest (Some t) e = tt
 declares_one names d ds rest None e =
-    bind_if (Sound names [] 0 (Some d.name) 64 d.form) _ (meaning names [] 0 (Some d.name) 64 d.form) _ (meaning_sound names d.form [] 0 (Some d.name) 64) (λ t h.
-    if_weaker (Declares (names ++ (d.name, t) ∷ []) ds) (Declares names (d ∷ ds)) (declared (names ++ (d.name, t) ∷ []) ds) (λ all g. Declares.more e h.means h.low g) (rest t))
+    bind_if (Sound names [] 0 (Some d.name) 64 d.form) _ (meaning names [] 0 (Some d.name) 64 d.form) _
+    (meaning_sound names d.form [] 0 (Some d.name) 64) (λ t h.
+    if_weaker (Declares (names ++ (d.name, t) ∷ []) ds) (Declares names (d ∷ ds))
+    (declared (names ++ (d.name, t) ∷ []) ds) (λ all g. Declares.more e h.means h.low g) (rest t))
 
 declared_sound : (ds : List DeclarationTree) (names : Names) → IfOk (declared names ds) (Declares names ds)
 unfolding declared declared_type
 declared_sound [] names = Declares.none
-declared_sound (d ∷ ds) names = declares_one names d ds (λ t. declared_sound ds (names ++ (d.name, t) ∷ [])) (find_type d.name names) refl
+declared_sound (d ∷ ds) names =
+    declares_one names d ds (λ t. declared_sound ds (names ++ (d.name, t) ∷ [])) (find_type d.name names) refl
 
-pub declared_whole : (ds : List DeclarationTree) (names all : Names) → Declares names ds all → declared names ds ≡ Ok all
+pub declared_whole : (ds : List DeclarationTree) (names all : Names) → Declares names ds all →
+    declared names ds ≡ Ok all
 unfolding declared declared_type
 declared_whole _ _ _ Declares.none = refl
-declared_whole _ _ _ (Declares.more new h low g) = rw (new, meaning_whole _ _ _ _ _ _ _ h low, declared_whole _ _ _ g) refl
+declared_whole _ _ _ (Declares.more new h low g) =
+    rw (new, meaning_whole _ _ _ _ _ _ _ h low, declared_whole _ _ _ g) refl
 
 pub rules_sound : (ds : List DeclarationTree) (names all : Names) → declared names ds ≡ Ok all → Declares names ds all
 rules_sound ds names all e = subst (λ r. IfOk r (Declares names ds)) e (declared_sound ds names)

@@ -68,7 +68,8 @@ comparison_wide (Integer a) (Offset b v) = tt
 comparison_wide (Offset a u) (Integer b) = tt
 comparison_wide (Offset a u) (Offset b v) = truth_wide
 
-numbers_wide : (op : Infix) (a b : Scalar) → IsSoundScalar a → IsSoundScalar b → IfSome (between_numbers op a b) IsSoundScalar
+numbers_wide : (op : Infix) (a b : Scalar) → IsSoundScalar a → IsSoundScalar b →
+    IfSome (between_numbers op a b) IsSoundScalar
 numbers_wide operator.LogicalOr a b h g = logic_wide a b
 numbers_wide operator.LogicalAnd a b h g = logic_wide a b
 numbers_wide operator.BitOr a b h g = arithmetic_wide a b h g
@@ -92,7 +93,8 @@ texts_wide : (op : Infix) (b : Bool) → is_equality op ≡ b → IfSome (betwee
 texts_wide op true e = rw e truth_wide
 texts_wide op false e = rw e tt
 
-between_wide : (op : Infix) (a b : Operand) → IsSoundOperand a → IsSoundOperand b → IfSome (between op a b) IsSoundScalar
+between_wide : (op : Infix) (a b : Operand) → IsSoundOperand a → IsSoundOperand b →
+    IfSome (between op a b) IsSoundScalar
 between_wide op (operand.Number a) (operand.Number b) h g = numbers_wide op a b h g
 between_wide op (operand.Number a) operand.String h g = tt
 between_wide op (operand.Number a) operand.Text h g = tt
@@ -108,5 +110,6 @@ between_wide op operand.Text operand.Other h g = tt
 between_wide op operand.Other b h g = tt
 
 -- the type that an operator gives
-pub is_between_wide : (op : Infix) (a b : Operand) (s : Scalar) → Some s ≡ between op a b → IsSoundOperand a → IsSoundOperand b → IsSoundScalar s
+pub is_between_wide : (op : Infix) (a b : Operand) (s : Scalar) → Some s ≡ between op a b → IsSoundOperand a →
+    IsSoundOperand b → IsSoundScalar s
 is_between_wide op a b s e h g = subst (λ r. IfSome r IsSoundScalar) (sym e) (between_wide op a b h g)

@@ -23,19 +23,22 @@ unfoldable mutual
   least_width (OffsetOf type unit) = type.width
   least_width StringOf = 8
   least_width (ArrayOf element bound) = 0
-  least_width (StructOf name pinned fields) = if pinned || has_label fields then greatest_width fields else sum_of_widths fields
+  least_width (StructOf name pinned fields) =
+      if pinned || has_label fields then greatest_width fields else sum_of_widths fields
   least_width (IntegralOf name type fields) = type.width
   least_width (UnionOf name alternatives) = least_of_widths alternatives
 
   -- the widths of fields that follow one another, in bits
   pub sum_of_widths : Fields → ℕ
   sum_of_widths NoFields = 0
-  sum_of_widths (FieldThen name order type constraint label condition rest) = where_present condition (least_width type) + sum_of_widths rest
+  sum_of_widths (FieldThen name order type constraint label condition rest) =
+      where_present condition (least_width type) + sum_of_widths rest
 
   -- the greatest width of fields that may overlap, in bits
   pub greatest_width : Fields → ℕ
   greatest_width NoFields = 0
-  greatest_width (FieldThen name order type constraint label condition rest) = max (where_present condition (least_width type)) (greatest_width rest)
+  greatest_width (FieldThen name order type constraint label condition rest) =
+      max (where_present condition (least_width type)) (greatest_width rest)
 
   pub least_of_widths : Parts → ℕ
   least_of_widths NoParts = 0
@@ -61,11 +64,13 @@ unfoldable mutual
   pub fields_cost : Fields → ℕ → ℕ
   fields_cost NoFields m = 0
   fields_cost (FieldThen name order type constraint label condition rest) m =
-      (1 + (optional_weight condition + optional_weight label + optional_weight constraint) + cost type m) + fields_cost rest m
+      (1 + (optional_weight condition + optional_weight label + optional_weight constraint) + cost type m)
+      + fields_cost rest m
 
   pub parts_cost : Parts → ℕ → ℕ
   parts_cost NoParts m = 0
-  parts_cost (PartThen name order type constraint rest) m = (1 + optional_weight constraint + cost type m) + parts_cost rest m
+  parts_cost (PartThen name order type constraint rest) m =
+      (1 + optional_weight constraint + cost type m) + parts_cost rest m
 
 unfoldable mutual
   -- a bound on the slots of each kind that are filled at once on m bits

@@ -64,7 +64,8 @@ Builds old new (Ok found) given = (t : PokeType) × (given ≡ Ok t) × IsBuilt 
 Builds old new (Err e) given = Fails e given
 
 -- one field is built, after others; what comes after it sees it, except in a union
-pub record IsFieldBuilt (old new : Builder) (place : Place) (levels index : ℕ) (parts : FieldParts) (field : Field) (f : FieldMeaning) : Type 0 where
+pub record IsFieldBuilt (old new : Builder) (place : Place) (levels index : ℕ) (parts : FieldParts) (field : Field)
+    (f : FieldMeaning) : Type 0 where
   pub keeps : Keeps old new
   pub inside : field.node < length new.nodes
   pub name : name_of field.name ≡ parts.name
@@ -72,15 +73,20 @@ pub record IsFieldBuilt (old new : Builder) (place : Place) (levels index : ℕ)
   pub opened : (rest : Fields) → fields_onto (type_of new.nodes) (field ∷ []) rest ≡ field_then parts f rest
   pub below : AreBelow (length new.nodes) (levels + 1) new.seen
   pub kept : take (length old.seen) new.seen ≡ old.seen
-  pub seen : visible_in new ≡ after_field place (visible_in old) (with_itself place (visible_in old) levels index parts f.type)
+  pub seen : visible_in new
+      ≡ after_field place (visible_in old) (with_itself place (visible_in old) levels index parts f.type)
 
-abbrev pub FieldGives : Builder → Builder → Place → ℕ → ℕ → FieldParts → Result Field FaultKind → Result FieldMeaning FaultKind → Type 0
-FieldGives old new place levels index parts (Ok field) given = (f : FieldMeaning) × (given ≡ Ok f) × IsFieldBuilt old new place levels index parts field f
+abbrev pub FieldGives : Builder → Builder → Place → ℕ → ℕ → FieldParts → Result Field FaultKind →
+    Result FieldMeaning FaultKind → Type 0
+FieldGives old new place levels index parts (Ok field) given =
+    (f : FieldMeaning) × (given ≡ Ok f) × IsFieldBuilt old new place levels index parts field f
 FieldGives old new place levels index parts (Err e) given = Fails e given
 
 -- a field and the depth of its type
-abbrev pub FieldBuilds : Builder → Builder → Place → ℕ → ℕ → FieldParts → Result (Field × ℕ) FaultKind → Result FieldMeaning FaultKind → Type 0
-FieldBuilds old new place levels index parts (Ok x) given = (f : FieldMeaning) × (given ≡ Ok f) × IsFieldBuilt old new place levels index parts x.0 f × (x.1 ≡ depth f.type)
+abbrev pub FieldBuilds : Builder → Builder → Place → ℕ → ℕ → FieldParts → Result (Field × ℕ) FaultKind →
+    Result FieldMeaning FaultKind → Type 0
+FieldBuilds old new place levels index parts (Ok x) given =
+    (f : FieldMeaning) × (given ≡ Ok f) × IsFieldBuilt old new place levels index parts x.0 f × (x.1 ≡ depth f.type)
 FieldBuilds old new place levels index parts (Err e) given = Fails e given
 
 pub record AreBuilt (old new : Builder) (fields : List Field) (deepest : ℕ) (fs : Fields) : Type 0 where
@@ -99,7 +105,8 @@ with_front f (Ok fs) = Ok (f fs)
 with_front f (Err e) = Err e
 
 -- some fields are built; the definition gives the others as `rest`
-pub record FieldsSoFar (old new : Builder) (fields : List Field) (deepest : ℕ) (whole rest : Result Fields FaultKind) : Type 0 where
+pub record FieldsSoFar (old new : Builder) (fields : List Field) (deepest : ℕ)
+    (whole rest : Result Fields FaultKind) : Type 0 where
   pub keeps : Keeps old new
   pub below : FieldsBelow (length new.nodes) fields
   pub given : whole ≡ with_front (fields_onto (type_of new.nodes) fields) rest
@@ -113,7 +120,8 @@ pub record IsReady (b : Builder) : Type 0 where
 
 -- the type and the name that a declaration added
 abbrev pub AddsType : Builder → Builder → List ℕ → Result ℕ FaultKind → Result PokeType FaultKind → Type 0
-AddsType old new name (Ok node) given = (t : PokeType) × (given ≡ Ok t) × (known_types new ≡ known_types old ++ (name, t) ∷ []) × IsReady new
+AddsType old new name (Ok node) given =
+    (t : PokeType) × (given ≡ Ok t) × (known_types new ≡ known_types old ++ (name, t) ∷ []) × IsReady new
 AddsType old new name (Err e) given = Fails e given
 
 -- integer types with their names
@@ -128,4 +136,5 @@ is_unknown (Some t) = false
 -- whether these names are new, each after those before it, with widths from 1 to 64
 abbrev pub may_add : Names → List (Bor (List ℕ) × IntegerType) → Bool
 may_add names [] = true
-may_add names (p ∷ ps) = is_unknown (find_type p.0.now names) && nat_le 1 p.1.width && nat_le p.1.width 64 && may_add (names ++ (p.0.now, IntegerOf p.1) ∷ []) ps
+may_add names (p ∷ ps) = is_unknown (find_type p.0.now names) && nat_le 1 p.1.width && nat_le p.1.width 64
+    && may_add (names ++ (p.0.now, IntegerOf p.1) ∷ []) ps

@@ -26,16 +26,19 @@ use Rattle.pickle_types.specs.Building.{known_types, visible_in, Builds, FieldGi
 -- the field found at the place of a name is the field of that name, whatever types the nodes have
 abbrev pub FindsField : List Field → (place : Option ℕ) → Option (ℕ × ℕ) → Type 0
 FindsField fields place found =
-    (at : ℕ → PokeType) (word : List ℕ) → place ≡ place_named word (names_in fields) → IsFoundField at found (find_field 0 word (open_fields at fields))
+    (at : ℕ → PokeType) (word : List ℕ) → place ≡ place_named word (names_in fields) →
+    IsFoundField at found (find_field 0 word (open_fields at fields))
 
 abbrev pub FindsPart : List Part → (place : Option ℕ) → Option (ℕ × ℕ) → Type 0
 FindsPart parts place found =
-    (at : ℕ → PokeType) (word : List ℕ) → place ≡ place_named word (part_names parts) → IsFoundField at found (find_part 0 word (open_parts at parts))
+    (at : ℕ → PokeType) (word : List ℕ) → place ≡ place_named word (part_names parts) →
+    IsFoundField at found (find_part 0 word (open_parts at parts))
 
 -- the same for a shape, which may have no such field, or no fields
 abbrev pub SelectsField : Shape → (place : Option ℕ) → Result (ℕ × ℕ) FaultKind → Type 0
 SelectsField shape place result =
-    (at : ℕ → PokeType) (word : List ℕ) → place ≡ place_named word (shape_names shape) → Gives (λ x. (x.0, at x.1)) result (field_in word (open_shape at shape))
+    (at : ℕ → PokeType) (word : List ℕ) → place ≡ place_named word (shape_names shape) →
+    Gives (λ x. (x.0, at x.1)) result (field_in word (open_shape at shape))
 
 -- ---- expressions
 
@@ -48,28 +51,35 @@ typed_in c e = typed_among c.nodes.now c.names.now c.seen.now c.levels e
 
 -- what a field's constraint means; it sees the field itself
 abbrev pub constraint_meaning : Builder → (itself : Seen) → Option Tree → Result (Option Term) FaultKind
-constraint_meaning b itself e = integer_expression (known_types b) (views_of b.nodes (b.seen ++ itself ∷ [])) (itself.level + 1) e
+constraint_meaning b itself e =
+    integer_expression (known_types b) (views_of b.nodes (b.seen ++ itself ∷ [])) (itself.level + 1) e
 
 -- ---- types, fields and declarations
 
 module _ (old new : Builder) where
   -- the type that a form means, printed with a title and no deeper than `room`
   abbrev pub BuildsForm : (levels : ℕ) → Title → (room : ℕ) → FormTree → Result Found FaultKind → Type 0
-  BuildsForm levels title room form result = Builds old new result (meaning (known_types old) (visible_in old) levels (bytes_now title.name) room form)
+  BuildsForm levels title room form result =
+      Builds old new result (meaning (known_types old) (visible_in old) levels (bytes_now title.name) room form)
 
   -- a field with these parts, after others, of a type that is built
-  abbrev pub AddsField : Place → (levels : ℕ) → (before : List Field) → FieldParts → PokeType → Result Field FaultKind → Type 0
+  abbrev pub AddsField : Place → (levels : ℕ) → (before : List Field) → FieldParts → PokeType →
+      Result Field FaultKind → Type 0
   AddsField place levels before parts type result =
-      FieldGives old new place levels (length before) parts result (field_meaning (known_types old) place (visible_in old) levels (names_in before) parts (Ok type))
+      FieldGives old new place levels (length before) parts result
+      (field_meaning (known_types old) place (visible_in old) levels (names_in before) parts (Ok type))
 
   -- a field, after others, whose type is no deeper than `room`
-  abbrev pub BuildsField : Place → (levels room : ℕ) → (before : List Field) → FieldTree → Result (Field × ℕ) FaultKind → Type 0
+  abbrev pub BuildsField : Place → (levels room : ℕ) → (before : List Field) → FieldTree →
+      Result (Field × ℕ) FaultKind → Type 0
   BuildsField place levels room before f result =
       FieldBuilds old new place levels (length before) f.parts result
-      (field_meaning (known_types old) place (visible_in old) levels (names_in before) f.parts (meaning (known_types old) (visible_in old) (levels + 1) None room f.form))
+      (field_meaning (known_types old) place (visible_in old) levels (names_in before) f.parts
+      (meaning (known_types old) (visible_in old) (levels + 1) None room f.form))
 
   abbrev pub BuildsFields : Place → (levels room : ℕ) → FieldTrees → Result (FieldList × ℕ) FaultKind → Type 0
-  BuildsFields place levels room fields result = FieldsBuild old new result (fields_meaning (known_types old) place (visible_in old) levels room [] fields)
+  BuildsFields place levels room fields result =
+      FieldsBuild old new result (fields_meaning (known_types old) place (visible_in old) levels room [] fields)
 
   -- the type that a declaration gives its name
   abbrev pub AddsDeclaration : DeclarationTree → Result ℕ FaultKind → Type 0

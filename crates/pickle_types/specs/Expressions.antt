@@ -81,7 +81,8 @@ find_field at word (FieldThen name order type constraint label condition rest) =
 
 abbrev pub find_part : ℕ → List ℕ → Parts → Option (ℕ × PokeType)
 find_part at word NoParts = None
-find_part at word (PartThen name order type constraint rest) = if is_named name word then Some (at, type) else find_part (at + 1) word rest
+find_part at word (PartThen name order type constraint rest) =
+    if is_named name word then Some (at, type) else find_part (at + 1) word rest
 
 abbrev pub field_in : List ℕ → PokeType → Result (ℕ × PokeType) FaultKind
 field_in word (IntegerOf t) = Err Mismatch
@@ -171,7 +172,8 @@ abbrev pub selection : List ℕ → Meant → Result Meant FaultKind
 selection word x = sort_field word x.1 >>= λ f. Ok (types.Select x.0 f.0, Typed f.1)
 
 abbrev pub length_of : Meant → Result Meant FaultKind
-length_of x = or_wrong Mismatch (sort_element x.1) >>= λ t. Ok (types.AttributeOf Length x.0, Typed (IntegerOf (whole 64 false)))
+length_of x =
+    or_wrong Mismatch (sort_element x.1) >>= λ t. Ok (types.AttributeOf Length x.0, Typed (IntegerOf (whole 64 false)))
 
 abbrev pub size_of : Bool → Meant → Result Meant FaultKind
 size_of path x = if_path path >>= λ u. Ok (types.AttributeOf Size x.0, Typed (OffsetOf (whole 64 false) 1))
@@ -181,7 +183,8 @@ in_unit u x = integer_or_wrong x.1 >>= λ t. unit_bits u >>= λ n. Ok (types.InU
 
 abbrev pub conversion : Names → TreeTarget → Meant → Result Meant FaultKind
 conversion names target x =
-    or_wrong Mismatch (number_in (operand_of x.1)) >>= λ a. target_type names target >>= λ t. or_wrong Mismatch (converted t a x.0) >>= λ y. Ok (y, scalar_sort t)
+    or_wrong Mismatch (number_in (operand_of x.1)) >>= λ a. target_type names target >>= λ t.
+    or_wrong Mismatch (converted t a x.0) >>= λ y. Ok (y, scalar_sort t)
 
 -- the result of a suffix, from its operand, which is a path or not
 abbrev pub suffixed : Names → Bool → TreeSuffix → Meant → Result Meant FaultKind
@@ -204,7 +207,8 @@ abbrev pub is_held : Numeral → Bool
 is_held n = nat_le 1 n.width && nat_le n.width 64 && nat_lt n.value (2 ^ value_bits n.signed n.width)
 
 abbrev pub number_meant : Numeral → Result Meant FaultKind
-number_meant n = if is_held n then Ok (types.Number (whole n.width n.signed) n.value, Typed (IntegerOf (whole n.width n.signed))) else Err Width
+number_meant n = if is_held n
+    then Ok (types.Number (whole n.width n.signed) n.value, Typed (IntegerOf (whole n.width n.signed))) else Err Width
 
 abbrev pub character_meant : ℕ → Meant
 character_meant b = (types.Number (whole 8 false) b, Typed (IntegerOf (whole 8 false)))
@@ -223,10 +227,12 @@ abbrev pub prefixed : Prefix → Meant → Result Meant FaultKind
 prefixed op x = or_wrong Mismatch (before op (operand_of x.1)) >>= λ s. Ok (types.Before op x.0, scalar_sort s)
 
 abbrev pub infixed : Infix → Meant → Meant → Result Meant FaultKind
-infixed op x y = or_wrong Mismatch (between op (operand_of x.1) (operand_of y.1)) >>= λ s. Ok (types.Between op x.0 y.0, scalar_sort s)
+infixed op x y = or_wrong Mismatch (between op (operand_of x.1) (operand_of y.1)) >>= λ s.
+    Ok (types.Between op x.0 y.0, scalar_sort s)
 
 abbrev pub selected : Meant → Meant → Meant → Result Meant FaultKind
-selected z x y = or_wrong Mismatch (choice (operand_of x.1) (operand_of y.1)) >>= λ s. Ok (types.Choice (common_in s) z.0 x.0 y.0, scalar_sort s)
+selected z x y = or_wrong Mismatch (choice (operand_of x.1) (operand_of y.1)) >>= λ s.
+    Ok (types.Choice (common_in s) z.0 x.0 y.0, scalar_sort s)
 
 abbrev pub indexed : Meant → PokeType → Meant → Result Meant FaultKind
 indexed x t y = integer_or_wrong y.1 >>= λ w. Ok (types.Index x.0 y.0, Typed t)
@@ -239,8 +245,11 @@ typed names seen levels (tree.Text bytes) = Ok (text_meant bytes)
 typed names seen levels (tree.Name word) = resolved seen levels word
 typed names seen levels (tree.Bracket e) = typed names seen levels e >>= bracketed
 typed names seen levels (tree.Before op e) = typed names seen levels e >>= prefixed op
-typed names seen levels (tree.Between op a b) = typed names seen levels a >>= λ x. typed names seen levels b >>= infixed op x
+typed names seen levels (tree.Between op a b) =
+    typed names seen levels a >>= λ x. typed names seen levels b >>= infixed op x
 typed names seen levels (tree.Choice c a b) =
-    typed names seen levels c >>= λ z. integer_or_wrong z.1 >>= λ w. typed names seen levels a >>= λ x. typed names seen levels b >>= selected z x
-typed names seen levels (tree.Index e i) = typed names seen levels e >>= λ x. or_wrong Mismatch (sort_element x.1) >>= λ t. typed names seen levels i >>= indexed x t
+    typed names seen levels c >>= λ z. integer_or_wrong z.1 >>= λ w. typed names seen levels a >>= λ x.
+    typed names seen levels b >>= selected z x
+typed names seen levels (tree.Index e i) = typed names seen levels e >>= λ x.
+    or_wrong Mismatch (sort_element x.1) >>= λ t. typed names seen levels i >>= indexed x t
 typed names seen levels (tree.After e suffix) = typed names seen levels e >>= suffixed names (is_path e) suffix

@@ -8,4 +8,5 @@ use Rattle.pickle_types.specs.Numbers.{IsNumbered, in_map}
 -- no two fields have the same name, and the places of many fields are stored under the numbers of their names
 pub record IsFieldList (words : List (List ℕ)) (l : FieldList) : Type 0 where
   pub distinct : AreDistinct (names_in l.fields.items)
-  pub places : IfSome l.places (λ places. IsNumbered words (in_map places) (λ word. place_named word (names_in l.fields.items)))
+  pub places : IfSome l.places
+      (λ places. IsNumbered words (in_map places) (λ word. place_named word (names_in l.fields.items)))

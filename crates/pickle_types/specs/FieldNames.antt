@@ -42,5 +42,6 @@ pub record AreDistinct (names : List (Option (List ℕ))) : Type 0 where
 
 -- where the places of a node's fields are stored, no two of the fields have the same name
 pub record AreIndexed {P : Type 0} (nodes : List Node) (places : List (ℕ × P)) : Type 0 where
-  pub some : (i : ℕ) (node : Node) (kept : P) → slice_get nodes i ≡ Some node → lookup (is_at (nat_cmp i)) places ≡ Some kept → AreDistinct (shape_names node.shape)
+  pub some : (i : ℕ) (node : Node) (kept : P) → slice_get nodes i ≡ Some node →
+      lookup (is_at (nat_cmp i)) places ≡ Some kept → AreDistinct (shape_names node.shape)
   pub past : (i : ℕ) → length nodes ≤ i → lookup (is_at (nat_cmp i)) places ≡ None

@@ -42,11 +42,13 @@ pub record ArePartBounds (b : PartBounds) (parts : Parts) (m : ℕ) : Type 0 whe
 -- the bounds of a field and of those after it, from those of its type and of the fields after it
 abbrev pub BoundsFieldThen : Field → (own : Bounds) → (rest all : FieldBounds) → Type 0
 BoundsFieldThen field own rest all =
-    (type : PokeType) (fields : Fields) (m : ℕ) → AreBounds own type m → AreFieldBounds rest fields m → AreFieldBounds all (fields_onto (λ _. type) (field ∷ []) fields) m
+    (type : PokeType) (fields : Fields) (m : ℕ) → AreBounds own type m → AreFieldBounds rest fields m →
+    AreFieldBounds all (fields_onto (λ _. type) (field ∷ []) fields) m
 
 abbrev pub BoundsPartThen : Part → (own : Bounds) → (rest all : PartBounds) → Type 0
 BoundsPartThen part own rest all =
-    (type : PokeType) (parts : Parts) (m : ℕ) → AreBounds own type m → ArePartBounds rest parts m → ArePartBounds all (parts_onto (λ _. type) (part ∷ []) parts) m
+    (type : PokeType) (parts : Parts) (m : ℕ) → AreBounds own type m → ArePartBounds rest parts m →
+    ArePartBounds all (parts_onto (λ _. type) (part ∷ []) parts) m
 
 -- the bounds of the type that is made of any parts with those bounds
 abbrev pub BoundsMade : PartBounds → (Parts → PokeType) → Bounds → Type 0
@@ -54,4 +56,5 @@ BoundsMade parts made b = (all : Parts) (m : ℕ) → ArePartBounds parts all m 
 
 -- the bounds of the first declared types are known
 pub record AreKnown (nodes : List Node) (roots : List ℕ) (known : List Bounds) (m : ℕ) : Type 0 where
-  pub each : (k root : ℕ) (b : Bounds) → slice_get roots k ≡ Some root → slice_get known k ≡ Some b → AreBounds b (type_of nodes root) m
+  pub each : (k root : ℕ) (b : Bounds) → slice_get roots k ≡ Some root → slice_get known k ≡ Some b →
+      AreBounds b (type_of nodes root) m

@@ -24,4 +24,5 @@ last_place word (s ∷ seen) = or_here (last_place word seen) (is_named (bytes_n
 -- it
 pub record IsIndexed (entries : List Entry) (places : PlacesByName) : Type 0 where
   pub innermost : (word : List ℕ) → place_at places word ≡ last_place word (fields_of entries)
-  pub hidden : (i : ℕ) (e : Entry) (name : Bor (List ℕ)) → slice_get entries i ≡ Some e → e.field.name ≡ Some name → e.hidden ≡ last_place name.now (take i (fields_of entries))
+  pub hidden : (i : ℕ) (e : Entry) (name : Bor (List ℕ)) → slice_get entries i ≡ Some e → e.field.name ≡ Some name →
+      e.hidden ≡ last_place name.now (take i (fields_of entries))

@@ -103,7 +103,8 @@ abbrev pub may_stand : Place → Bool → FieldParts → Bool
 may_stand place.Struct bits parts = has_none parts.order || bits
 may_stand place.Pinned bits parts = (has_none parts.order || bits) && has_none parts.label
 may_stand place.Integral bits parts = bits && has_none parts.order && has_none parts.label && has_none parts.condition
-may_stand place.Union bits parts = (has_none parts.order || bits) && has_some parts.name && has_none parts.label && has_none parts.condition
+may_stand place.Union bits parts =
+    (has_none parts.order || bits) && has_some parts.name && has_none parts.label && has_none parts.condition
 
 abbrev pub if_here : Bool → Result (Unit {0}) FaultKind
 if_here true = Ok tt
@@ -135,7 +136,8 @@ pub record FieldMeaning : Type 0 where
   pub condition : Option Term
 
 -- a field of a type, after fields of these names
-abbrev pub field_meaning : Names → Place → List Visible → ℕ → List (Option (List ℕ)) → FieldParts → Result PokeType FaultKind → Result FieldMeaning FaultKind
+abbrev pub field_meaning : Names → Place → List Visible → ℕ → List (Option (List ℕ)) → FieldParts →
+    Result PokeType FaultKind → Result FieldMeaning FaultKind
 field_meaning names place seen levels before parts type = do
   t ← type
   u ← if_here (may_stand place (has_some (bit_width t)) parts)
@@ -151,7 +153,8 @@ field_then parts f fs = FieldThen parts.name parts.order f.type f.constraint f.l
 -- the parts of fields that have neither labels nor conditions
 abbrev pub parts_of : Fields → Parts
 parts_of NoFields = NoParts
-parts_of (FieldThen name order type constraint label condition rest) = PartThen name order type constraint (parts_of rest)
+parts_of (FieldThen name order type constraint label condition rest) =
+    PartThen name order type constraint (parts_of rest)
 
 abbrev pub width_or_none : Option ℕ → ℕ
 width_or_none None = 0
@@ -159,10 +162,12 @@ width_or_none (Some w) = w
 
 abbrev pub total_width : Fields → ℕ
 total_width NoFields = 0
-total_width (FieldThen name order type constraint label condition rest) = width_or_none (bit_width type) + total_width rest
+total_width (FieldThen name order type constraint label condition rest) =
+    width_or_none (bit_width type) + total_width rest
 
 abbrev pub integral_type : Option (List ℕ) → IntegerType → Fields → Result PokeType FaultKind
-integral_type title t fs = if nat_eq (total_width fs) t.width then Ok (IntegralOf title t (parts_of fs)) else Err IntegralWidths
+integral_type title t fs =
+    if nat_eq (total_width fs) t.width then Ok (IntegralOf title t (parts_of fs)) else Err IntegralWidths
 
 abbrev pub if_some_alternative : FieldTrees → Result (Unit {0}) FaultKind
 if_some_alternative tree.NoFields = Err NotHere
@@ -183,20 +188,25 @@ unfoldable mutual
   meaning names seen levels title (suc room) StringForm = Ok StringOf
   meaning names seen levels title (suc room) (OffsetForm r u) = offset_type names r u
   meaning names seen levels title (suc room) (ArrayForm element bound) =
-      meaning names seen (levels + 1) None room element >>= λ t. bound_expression names seen levels bound >>= λ b. Ok (ArrayOf t b)
+      meaning names seen (levels + 1) None room element >>= λ t.
+      bound_expression names seen levels bound >>= λ b. Ok (ArrayOf t b)
   meaning names seen levels title (suc room) (StructForm pinned fields) =
       fields_meaning names (struct_place pinned) seen levels room [] fields >>= λ fs. Ok (StructOf title pinned fs)
   meaning names seen levels title (suc room) (IntegralForm r fields) =
-      integer_referred names r >>= λ t. fields_meaning names place.Integral seen levels room [] fields >>= integral_type title t
+      integer_referred names r >>= λ t.
+      fields_meaning names place.Integral seen levels room [] fields >>= integral_type title t
   meaning names seen levels title (suc room) (UnionForm alternatives) =
-      if_some_alternative alternatives >>= λ u. fields_meaning names place.Union seen levels room [] alternatives >>= λ fs. Ok (UnionOf title (parts_of fs))
+      if_some_alternative alternatives >>= λ u.
+      fields_meaning names place.Union seen levels room [] alternatives >>= λ fs. Ok (UnionOf title (parts_of fs))
 
   -- fields, after fields of these names
-  pub fields_meaning : Names → Place → List Visible → ℕ → ℕ → List (Option (List ℕ)) → FieldTrees → Result Fields FaultKind
+  pub fields_meaning : Names → Place → List Visible → ℕ → ℕ → List (Option (List ℕ)) → FieldTrees →
+      Result Fields FaultKind
   fields_meaning names place seen levels room before tree.NoFields = Ok NoFields
   fields_meaning names place seen levels room before (tree.FieldThen form parts rest) =
       field_meaning names place seen levels before parts (meaning names seen (levels + 1) None room form) >>= λ f.
-      fields_meaning names place (after_field place seen (with_itself place seen levels (length before) parts f.type)) levels room (before ++ parts.name ∷ []) rest >>= λ fs.
+      fields_meaning names place (after_field place seen (with_itself place seen levels (length before) parts f.type))
+      levels room (before ++ parts.name ∷ []) rest >>= λ fs.
       Ok (field_then parts f fs)
 
 abbrev pub unless_declared : Option PokeType → Result (Unit {0}) FaultKind

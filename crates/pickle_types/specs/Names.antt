@@ -17,9 +17,13 @@ integer width signed = IntegerOf (record { width = width; signed = signed })
 -- the types that need no declaration
 abbrev pub predeclared : Names
 predeclared =
-    (codes "bit", integer 1 false) ∷ (codes "nibble", integer 4 false) ∷ (codes "byte", integer 8 false) ∷ (codes "char", integer 8 false)
-    ∷ (codes "short", integer 16 true) ∷ (codes "ushort", integer 16 false) ∷ (codes "int", integer 32 true) ∷ (codes "uint", integer 32 false)
+    (codes "bit", integer 1 false) ∷ (codes "nibble", integer 4 false) ∷ (codes "byte", integer 8 false)
+    ∷ (codes "char", integer 8 false)
+    ∷ (codes "short", integer 16 true) ∷ (codes "ushort", integer 16 false) ∷ (codes "int", integer 32 true)
+    ∷ (codes "uint", integer 32 false)
     ∷ (codes "long", integer 64 true) ∷ (codes "ulong", integer 64 false)
-    ∷ (codes "int8", integer 8 true) ∷ (codes "int16", integer 16 true) ∷ (codes "int32", integer 32 true) ∷ (codes "int64", integer 64 true)
-    ∷ (codes "uint8", integer 8 false) ∷ (codes "uint16", integer 16 false) ∷ (codes "uint32", integer 32 false) ∷ (codes "uint64", integer 64 false)
+    ∷ (codes "int8", integer 8 true) ∷ (codes "int16", integer 16 true) ∷ (codes "int32", integer 32 true)
+    ∷ (codes "int64", integer 64 true)
+    ∷ (codes "uint8", integer 8 false) ∷ (codes "uint16", integer 16 false) ∷ (codes "uint32", integer 32 false)
+    ∷ (codes "uint64", integer 64 false)
     ∷ []

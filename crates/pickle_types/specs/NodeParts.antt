@@ -22,7 +22,8 @@ shape_part shape.String number = None
 shape_part (shape.Array element bound) number = Some element
 shape_part (shape.Struct name pinned fields) number = option_map (λ (f : Field). f.node) (slice_get fields.items number)
 shape_part (shape.Integral name type fields) number = option_map (λ (p : Part). p.node) (slice_get fields.items number)
-shape_part (shape.Union name alternatives) number = option_map (λ (p : Part). p.node) (slice_get alternatives.items number)
+shape_part (shape.Union name alternatives) number =
+    option_map (λ (p : Part). p.node) (slice_get alternatives.items number)
 
 abbrev pub found_part : Option Node → (number : ℕ) → Option ℕ
 found_part None number = None

@@ -37,4 +37,5 @@ place_at names word = place_among names.trees.items word
 
 -- the name, if there is one, has this place, or none; each other name has the place that it had
 abbrev pub Replaces : (old new : PlacesByName) → (name : Option (List ℕ)) → (place : Option ℕ) → Type 0
-Replaces old new name place = (word : List ℕ) → place_at new word ≡ (if is_named name word then place else place_at old word)
+Replaces old new name place = (word : List ℕ) →
+    place_at new word ≡ (if is_named name word then place else place_at old word)

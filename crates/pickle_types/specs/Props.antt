@@ -37,8 +37,12 @@ IsSoundTerm-prop (Name level place) = Unit-prop
 IsSoundTerm-prop (Bracket e) = IsSoundTerm-prop e
 IsSoundTerm-prop (Before op e) = IsSoundTerm-prop e
 IsSoundTerm-prop (Between op a b) = ×_prop (IsSoundTerm-prop a) (IsSoundTerm-prop b)
-IsSoundTerm-prop (Choice common c x y) = λ p q i.
-    (IsOptionalWidth-prop common p.0 q.0 i, IsSoundTerm-prop c p.1 q.1 i, IsSoundTerm-prop x p.2 q.2 i, IsSoundTerm-prop y p.3 q.3 i)
+IsSoundTerm-prop (Choice common c x y) = λ p q i. (
+  IsOptionalWidth-prop common p.0 q.0 i,
+  IsSoundTerm-prop c p.1 q.1 i,
+  IsSoundTerm-prop x p.2 q.2 i,
+  IsSoundTerm-prop y p.3 q.3 i,
+)
 IsSoundTerm-prop (Index e i) = ×_prop (IsSoundTerm-prop e) (IsSoundTerm-prop i)
 IsSoundTerm-prop (Select e place) = IsSoundTerm-prop e
 IsSoundTerm-prop (AttributeOf attribute e) = IsSoundTerm-prop e
@@ -90,7 +94,8 @@ IsSoundShape-prop shape.String = Unit-prop
 IsSoundShape-prop (shape.Array element bound) = IsSoundBound-prop (bound_of bound)
 IsSoundShape-prop (shape.Struct name pinned fields) = Π_prop λ k. Π_prop λ d. Π_prop λ h. IsSoundField-prop _
 IsSoundShape-prop (shape.Integral name number fields) = Π_prop λ k. Π_prop λ d. Π_prop λ h. IsSoundPart-prop _
-IsSoundShape-prop (shape.Union name alternatives) = ×_prop (Π_prop λ k. Π_prop λ d. Π_prop λ h. IsSoundPart-prop _) le_prop
+IsSoundShape-prop (shape.Union name alternatives) =
+    ×_prop (Π_prop λ k. Π_prop λ d. Π_prop λ h. IsSoundPart-prop _) le_prop
 
 pub IsTable-prop : (nodes : List Node) → IsProp (IsTable nodes)
 IsTable-prop nodes x y = λ i. record {

@@ -48,7 +48,8 @@ module _ (c : Context) where
 
   -- the type that the operand of a number has, if one is told
   abbrev pub TellsOperand : Tree → ℕ → Option OperandType → Type 0
-  TellsOperand e n told = IfSome told (λ t. (operand : Tree) × (slice_get (operands e) n ≡ Some operand) × TellsType operand told)
+  TellsOperand e n told =
+      IfSome told (λ t. (operand : Tree) × (slice_get (operands e) n ≡ Some operand) × TellsType operand told)
 
   pub record TellsOperands (e : Tree) (types : OperandTypes) : Type 0 where
     pub first : TellsOperand e 0 types.first
@@ -59,4 +60,5 @@ module _ (c : Context) where
   abbrev pub TellsRefused : Tree → RefusedExpression → Type 0
   TellsRefused e refused.None = Unit {0}
   TellsRefused e (refused.Whole t) = TellsType e (Some t)
-  TellsRefused e (refused.Operand trail types) = (at : Tree) × (operand_along trail.numbers.items e ≡ Some at) × TellsOperands at types
+  TellsRefused e (refused.Operand trail types) =
+      (at : Tree) × (operand_along trail.numbers.items e ≡ Some at) × TellsOperands at types

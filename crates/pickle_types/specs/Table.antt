@@ -53,14 +53,16 @@ name_of (Some n) = Some (letters_of n)
 abbrev pub fields_onto : (ℕ → PokeType) → List Field → Fields → Fields
 fields_onto at [] rest = rest
 fields_onto at (f ∷ fs) rest =
-    FieldThen (name_of f.name) f.order (at f.node) (optional_term f.constraint) (optional_term f.label) (optional_term f.condition) (fields_onto at fs rest)
+    FieldThen (name_of f.name) f.order (at f.node) (optional_term f.constraint) (optional_term f.label)
+    (optional_term f.condition) (fields_onto at fs rest)
 
 abbrev pub open_fields : (ℕ → PokeType) → List Field → Fields
 open_fields at fs = fields_onto at fs NoFields
 
 abbrev pub parts_onto : (ℕ → PokeType) → List Part → Parts → Parts
 parts_onto at [] rest = rest
-parts_onto at (p ∷ ps) rest = PartThen (name_of p.name) p.order (at p.node) (optional_term p.constraint) (parts_onto at ps rest)
+parts_onto at (p ∷ ps) rest =
+    PartThen (name_of p.name) p.order (at p.node) (optional_term p.constraint) (parts_onto at ps rest)
 
 abbrev pub open_parts : (ℕ → PokeType) → List Part → Parts
 open_parts at ps = parts_onto at ps NoParts

@@ -48,12 +48,14 @@ mutual
   -- the fields of a struct
   pub data Fields : Type 0 where
     NoFields : Fields
-    FieldThen : (name : Option (List ℕ)) (order : Option ByteOrder) (type : PokeType) (constraint label condition : Option Term) (rest : Fields) → Fields
+    FieldThen : (name : Option (List ℕ)) (order : Option ByteOrder) (type : PokeType)
+        (constraint label condition : Option Term) (rest : Fields) → Fields
 
   -- the alternatives of a union, or the fields of an integral struct
   pub data Parts : Type 0 where
     NoParts : Parts
-    PartThen : (name : Option (List ℕ)) (order : Option ByteOrder) (type : PokeType) (constraint : Option Term) (rest : Parts) → Parts
+    PartThen : (name : Option (List ℕ)) (order : Option ByteOrder) (type : PokeType) (constraint : Option Term)
+        (rest : Parts) → Parts
 
 unfoldable mutual
   -- the depth of a type: 1 for a scalar or a struct of no fields, else one more than its deepest part

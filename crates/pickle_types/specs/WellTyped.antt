@@ -62,17 +62,26 @@ pub data IsOffsetSum : Infix → Type 0 where
 
 -- the types of the operands of an operator, and that of its result
 pub data InfixRule : Infix → Sort → Sort → PokeType → Type 0 where
-  arithmetic : {op : Infix} {v w : IntegerType} → IsArithmetic op → InfixRule op (Typed (IntegerOf v)) (Typed (IntegerOf w)) (IntegerOf (common v w))
-  logical : {op : Infix} {v w : IntegerType} → IsLogical op → InfixRule op (Typed (IntegerOf v)) (Typed (IntegerOf w)) (IntegerOf truth)
-  shift : {op : Infix} {v w : IntegerType} → IsShift op → InfixRule op (Typed (IntegerOf v)) (Typed (IntegerOf w)) (IntegerOf v)
-  compare_integers : {op : Infix} {v w : IntegerType} → IsComparison op → InfixRule op (Typed (IntegerOf v)) (Typed (IntegerOf w)) (IntegerOf truth)
-  compare_offsets : {op : Infix} {v w : IntegerType} {m n : ℕ} → IsComparison op → InfixRule op (Typed (OffsetOf v m)) (Typed (OffsetOf w n)) (IntegerOf truth)
+  arithmetic : {op : Infix} {v w : IntegerType} → IsArithmetic op →
+      InfixRule op (Typed (IntegerOf v)) (Typed (IntegerOf w)) (IntegerOf (common v w))
+  logical : {op : Infix} {v w : IntegerType} → IsLogical op →
+      InfixRule op (Typed (IntegerOf v)) (Typed (IntegerOf w)) (IntegerOf truth)
+  shift : {op : Infix} {v w : IntegerType} → IsShift op →
+      InfixRule op (Typed (IntegerOf v)) (Typed (IntegerOf w)) (IntegerOf v)
+  compare_integers : {op : Infix} {v w : IntegerType} → IsComparison op →
+      InfixRule op (Typed (IntegerOf v)) (Typed (IntegerOf w)) (IntegerOf truth)
+  compare_offsets : {op : Infix} {v w : IntegerType} {m n : ℕ} → IsComparison op →
+      InfixRule op (Typed (OffsetOf v m)) (Typed (OffsetOf w n)) (IntegerOf truth)
   text_right : {op : Infix} → IsEquality op → InfixRule op (Typed StringOf) TextLiteral (IntegerOf truth)
   text_left : {op : Infix} → IsEquality op → InfixRule op TextLiteral (Typed StringOf) (IntegerOf truth)
-  offset_sum : {op : Infix} {v w : IntegerType} {m n : ℕ} (g : ℕ) → IsOffsetSum op → IsGcd m n g → InfixRule op (Typed (OffsetOf v m)) (Typed (OffsetOf w n)) (OffsetOf (common v w) g)
-  scale_right : {v w : IntegerType} {n : ℕ} → InfixRule Multiply (Typed (IntegerOf v)) (Typed (OffsetOf w n)) (OffsetOf (common v w) n)
-  scale_left : {v w : IntegerType} {m : ℕ} → InfixRule Multiply (Typed (OffsetOf v m)) (Typed (IntegerOf w)) (OffsetOf (common v w) m)
-  offset_quotient : {v w : IntegerType} {m n : ℕ} → InfixRule Divide (Typed (OffsetOf v m)) (Typed (OffsetOf w n)) (IntegerOf (common v w))
+  offset_sum : {op : Infix} {v w : IntegerType} {m n : ℕ} (g : ℕ) → IsOffsetSum op → IsGcd m n g →
+      InfixRule op (Typed (OffsetOf v m)) (Typed (OffsetOf w n)) (OffsetOf (common v w) g)
+  scale_right : {v w : IntegerType} {n : ℕ} →
+      InfixRule Multiply (Typed (IntegerOf v)) (Typed (OffsetOf w n)) (OffsetOf (common v w) n)
+  scale_left : {v w : IntegerType} {m : ℕ} →
+      InfixRule Multiply (Typed (OffsetOf v m)) (Typed (IntegerOf w)) (OffsetOf (common v w) m)
+  offset_quotient : {v w : IntegerType} {m n : ℕ} →
+      InfixRule Divide (Typed (OffsetOf v m)) (Typed (OffsetOf w n)) (IntegerOf (common v w))
 
 pub data IsSign : Prefix → Type 0 where
   plus : IsSign Plus
@@ -87,7 +96,8 @@ pub data PrefixRule : Prefix → PokeType → PokeType → Type 0 where
 
 -- the types of the two sides of a choice, the type that integers are converted to, and that of the whole
 pub data ChoiceRule : PokeType → PokeType → Option IntegerType → PokeType → Type 0 where
-  of_integers : {v w : IntegerType} → ChoiceRule (IntegerOf v) (IntegerOf w) (Some (common v w)) (IntegerOf (common v w))
+  of_integers : {v w : IntegerType} →
+      ChoiceRule (IntegerOf v) (IntegerOf w) (Some (common v w)) (IntegerOf (common v w))
   of_offsets : {v : IntegerType} {n : ℕ} → ChoiceRule (OffsetOf v n) (OffsetOf v n) None (OffsetOf v n)
 
 -- an integer type as it is written, or a type that has a name
@@ -108,7 +118,8 @@ pub data Converts (names : Names) : TreeTarget → Term → PokeType → Term �
       Converts names (ToReference r) x (IntegerOf v) (types.ToInteger t x) (IntegerOf t)
   to_named_offset : {r : TreeReference} {x : Term} {v t : IntegerType} {m n : ℕ} → Refers names r (OffsetOf t n) →
       Converts names (ToReference r) x (OffsetOf v m) (types.ToOffset t n x) (OffsetOf t n)
-  to_offset : {r : TreeReference} {u : PokeUnit} {x : Term} {v t : IntegerType} {m n : ℕ} → Refers names r (IntegerOf t) → HasBits u n →
+  to_offset : {r : TreeReference} {u : PokeUnit} {x : Term} {v t : IntegerType} {m n : ℕ} →
+      Refers names r (IntegerOf t) → HasBits u n →
       Converts names (tree.ToOffset r u) x (OffsetOf v m) (types.ToOffset t n x) (OffsetOf t n)
 
 -- a path: a name, a field or an element of a path, or a path in brackets
@@ -135,18 +146,25 @@ pub record IsHeld (n : Numeral) : Type 0 where
 
 -- the expression, with its names resolved, has the sort, where these fields are visible and so many frames are open
 pub data HasSort (names : Names) (seen : List Visible) (levels : ℕ) : Tree → Term → Sort → Type 0 where
-  literal : {n : Numeral} → IsHeld n → HasSort names seen levels (tree.Literal n) (types.Number (whole n.width n.signed) n.value) (Typed (IntegerOf (whole n.width n.signed)))
-  character : {b : ℕ} → HasSort names seen levels (tree.Character b) (types.Number (whole 8 false) b) (Typed (IntegerOf (whole 8 false)))
+  literal : {n : Numeral} → IsHeld n → HasSort names seen levels (tree.Literal n)
+      (types.Number (whole n.width n.signed) n.value) (Typed (IntegerOf (whole n.width n.signed)))
+  character : {b : ℕ} →
+      HasSort names seen levels (tree.Character b) (types.Number (whole 8 false) b) (Typed (IntegerOf (whole 8 false)))
   text : {bytes : List ℕ} → HasSort names seen levels (tree.Text bytes) (types.Text bytes) TextLiteral
-  name : {word : List ℕ} (v : Visible) → resolve word seen ≡ Some v → HasSort names seen levels (tree.Name word) (types.Name (levels - 1 - v.level) v.place) (Typed v.type)
-  bracket : {e : Tree} {x : Term} {t : PokeType} → HasSort names seen levels e x (Typed t) → HasSort names seen levels (tree.Bracket e) (types.Bracket x) (Typed t)
+  name : {word : List ℕ} (v : Visible) → resolve word seen ≡ Some v →
+      HasSort names seen levels (tree.Name word) (types.Name (levels - 1 - v.level) v.place) (Typed v.type)
+  bracket : {e : Tree} {x : Term} {t : PokeType} → HasSort names seen levels e x (Typed t) →
+      HasSort names seen levels (tree.Bracket e) (types.Bracket x) (Typed t)
   before : {op : Prefix} {e : Tree} {x : Term} {r : PokeType} (t : PokeType) →
-      HasSort names seen levels e x (Typed t) → PrefixRule op t r → HasSort names seen levels (tree.Before op e) (types.Before op x) (Typed r)
+      HasSort names seen levels e x (Typed t) → PrefixRule op t r →
+      HasSort names seen levels (tree.Before op e) (types.Before op x) (Typed r)
   between : {op : Infix} {a b : Tree} {x y : Term} {r : PokeType} (s t : Sort) →
       HasSort names seen levels a x s → HasSort names seen levels b y t → InfixRule op s t r →
       HasSort names seen levels (tree.Between op a b) (types.Between op x y) (Typed r)
-  choice : {c a b : Tree} {z x y : Term} {common : Option IntegerType} {r : PokeType} (w : IntegerType) (s t : PokeType) →
-      HasSort names seen levels c z (Typed (IntegerOf w)) → HasSort names seen levels a x (Typed s) → HasSort names seen levels b y (Typed t) → ChoiceRule s t common r →
+  choice : {c a b : Tree} {z x y : Term} {common : Option IntegerType} {r : PokeType}
+      (w : IntegerType) (s t : PokeType) →
+      HasSort names seen levels c z (Typed (IntegerOf w)) → HasSort names seen levels a x (Typed s) →
+      HasSort names seen levels b y (Typed t) → ChoiceRule s t common r →
       HasSort names seen levels (tree.Choice c a b) (types.Choice common z x y) (Typed r)
   index : {e i : Tree} {x y : Term} {t : PokeType} (bound : Bound) (w : IntegerType) →
       HasSort names seen levels e x (Typed (ArrayOf t bound)) → HasSort names seen levels i y (Typed (IntegerOf w)) →
@@ -154,30 +172,39 @@ pub data HasSort (names : Names) (seen : List Visible) (levels : ℕ) : Tree →
   select : {e : Tree} {x : Term} {word : List ℕ} {n : ℕ} {r : PokeType} (t : PokeType) →
       HasSort names seen levels e x (Typed t) → HasField t word n r →
       HasSort names seen levels (tree.After e (tree.Select word)) (types.Select x n) (Typed r)
-  count : {e : Tree} {x : Term} (t : PokeType) (bound : Bound) → HasSort names seen levels e x (Typed (ArrayOf t bound)) →
-      HasSort names seen levels (tree.After e (tree.AttributeOf Length)) (types.AttributeOf Length x) (Typed (IntegerOf (whole 64 false)))
+  count : {e : Tree} {x : Term} (t : PokeType) (bound : Bound) →
+      HasSort names seen levels e x (Typed (ArrayOf t bound)) →
+      HasSort names seen levels (tree.After e (tree.AttributeOf Length)) (types.AttributeOf Length x)
+      (Typed (IntegerOf (whole 64 false)))
   size : {e : Tree} {x : Term} (t : PokeType) → IsPath e → HasSort names seen levels e x (Typed t) →
-      HasSort names seen levels (tree.After e (tree.AttributeOf Size)) (types.AttributeOf Size x) (Typed (OffsetOf (whole 64 false) 1))
-  in_unit : {e : Tree} {x : Term} {w : IntegerType} {u : PokeUnit} {n : ℕ} → HasSort names seen levels e x (Typed (IntegerOf w)) → HasBits u n →
+      HasSort names seen levels (tree.After e (tree.AttributeOf Size)) (types.AttributeOf Size x)
+      (Typed (OffsetOf (whole 64 false) 1))
+  in_unit : {e : Tree} {x : Term} {w : IntegerType} {u : PokeUnit} {n : ℕ} →
+      HasSort names seen levels e x (Typed (IntegerOf w)) → HasBits u n →
       HasSort names seen levels (tree.After e (tree.InUnit u)) (types.InUnit n x) (Typed (OffsetOf w n))
-  convert : {e : Tree} {x y : Term} {target : TreeTarget} {r : PokeType} (t : PokeType) → HasSort names seen levels e x (Typed t) → Converts names target x t y r →
+  convert : {e : Tree} {x y : Term} {target : TreeTarget} {r : PokeType} (t : PokeType) →
+      HasSort names seen levels e x (Typed t) → Converts names target x t y r →
       HasSort names seen levels (tree.After e (tree.Convert target)) y (Typed r)
 
 -- a constraint or condition: an integer, if there is one
 pub data IsTruth (names : Names) (seen : List Visible) (levels : ℕ) : Option Tree → Option Term → Type 0 where
   without : IsTruth names seen levels None None
-  of_integer : {e : Tree} {x : Term} (w : IntegerType) → HasSort names seen levels e x (Typed (IntegerOf w)) → IsTruth names seen levels (Some e) (Some x)
+  of_integer : {e : Tree} {x : Term} (w : IntegerType) → HasSort names seen levels e x (Typed (IntegerOf w)) →
+      IsTruth names seen levels (Some e) (Some x)
 
 -- a label: an offset, if there is one
 pub data IsLabel (names : Names) (seen : List Visible) (levels : ℕ) : Option Tree → Option Term → Type 0 where
   without : IsLabel names seen levels None None
-  of_offset : {e : Tree} {x : Term} (w : IntegerType) (n : ℕ) → HasSort names seen levels e x (Typed (OffsetOf w n)) → IsLabel names seen levels (Some e) (Some x)
+  of_offset : {e : Tree} {x : Term} (w : IntegerType) (n : ℕ) → HasSort names seen levels e x (Typed (OffsetOf w n)) →
+      IsLabel names seen levels (Some e) (Some x)
 
 -- the bound of an array: a count or a size, if there is one
 pub data IsBound (names : Names) (seen : List Visible) (levels : ℕ) : Option Tree → Bound → Type 0 where
   without : IsBound names seen levels None Unbounded
-  by_count : {e : Tree} {x : Term} (w : IntegerType) → HasSort names seen levels e x (Typed (IntegerOf w)) → IsBound names seen levels (Some e) (ByCount x)
-  by_size : {e : Tree} {x : Term} (w : IntegerType) (n : ℕ) → HasSort names seen levels e x (Typed (OffsetOf w n)) → IsBound names seen levels (Some e) (BySize x)
+  by_count : {e : Tree} {x : Term} (w : IntegerType) → HasSort names seen levels e x (Typed (IntegerOf w)) →
+      IsBound names seen levels (Some e) (ByCount x)
+  by_size : {e : Tree} {x : Term} (w : IntegerType) (n : ℕ) → HasSort names seen levels e x (Typed (OffsetOf w n)) →
+      IsBound names seen levels (Some e) (BySize x)
 
 -- no earlier field has the name
 abbrev pub IsFresh : Option (List ℕ) → List (Option (List ℕ)) → Type 0
@@ -198,39 +225,57 @@ pub data IsPrefixed : Option ByteOrder → PokeType → Type 0 where
 -- the place allows a field with these parts and of this type
 pub data MayStand : Place → PokeType → FieldParts → Type 0 where
   in_struct : {t : PokeType} {parts : FieldParts} → IsPrefixed parts.order t → MayStand place.Struct t parts
-  in_pinned : {t : PokeType} {parts : FieldParts} → IsPrefixed parts.order t → parts.label ≡ None → MayStand place.Pinned t parts
-  in_integral : {t : PokeType} {parts : FieldParts} → HasWidth t → parts.order ≡ None → parts.label ≡ None → parts.condition ≡ None → MayStand place.Integral t parts
-  in_union : {t : PokeType} {parts : FieldParts} (word : List ℕ) → IsPrefixed parts.order t → parts.name ≡ Some word → parts.label ≡ None → parts.condition ≡ None → MayStand place.Union t parts
+  in_pinned : {t : PokeType} {parts : FieldParts} → IsPrefixed parts.order t → parts.label ≡ None →
+      MayStand place.Pinned t parts
+  in_integral : {t : PokeType} {parts : FieldParts} → HasWidth t → parts.order ≡ None → parts.label ≡ None →
+      parts.condition ≡ None → MayStand place.Integral t parts
+  in_union : {t : PokeType} {parts : FieldParts} (word : List ℕ) → IsPrefixed parts.order t → parts.name ≡ Some word →
+      parts.label ≡ None → parts.condition ≡ None → MayStand place.Union t parts
 
 mutual
   -- the form with this title means the type, among these names, where these fields are visible and so many frames are
   -- open
   pub data Means (names : Names) : List Visible → ℕ → Option (List ℕ) → FormTree → PokeType → Type 0 where
-    plain : {seen : List Visible} {levels : ℕ} {title : Option (List ℕ)} {r : TreeReference} {t : PokeType} → Refers names r t → Means names seen levels title (Plain r) t
-    string : {seen : List Visible} {levels : ℕ} {title : Option (List ℕ)} → Means names seen levels title StringForm StringOf
-    offset : {seen : List Visible} {levels : ℕ} {title : Option (List ℕ)} {r : TreeReference} {u : PokeUnit} {t : IntegerType} {n : ℕ} →
+    plain : {seen : List Visible} {levels : ℕ} {title : Option (List ℕ)} {r : TreeReference} {t : PokeType} →
+        Refers names r t → Means names seen levels title (Plain r) t
+    string : {seen : List Visible} {levels : ℕ} {title : Option (List ℕ)} →
+        Means names seen levels title StringForm StringOf
+    offset : {seen : List Visible} {levels : ℕ} {title : Option (List ℕ)} {r : TreeReference} {u : PokeUnit}
+        {t : IntegerType} {n : ℕ} →
         Refers names r (IntegerOf t) → HasBits u n → Means names seen levels title (OffsetForm r u) (OffsetOf t n)
-    array : {seen : List Visible} {levels : ℕ} {title : Option (List ℕ)} {element : FormTree} {bound : Option Tree} {t : PokeType} {b : Bound} →
-        Means names seen (levels + 1) None element t → IsBound names seen levels bound b → Means names seen levels title (ArrayForm element bound) (ArrayOf t b)
-    struct : {seen : List Visible} {levels : ℕ} {title : Option (List ℕ)} {pinned : Bool} {fields : FieldTrees} {fs : Fields} →
-        FieldsMean names (struct_place pinned) seen levels [] fields fs → Means names seen levels title (StructForm pinned fields) (StructOf title pinned fs)
-    integral : {seen : List Visible} {levels : ℕ} {title : Option (List ℕ)} {r : TreeReference} {fields : FieldTrees} {t : IntegerType} {fs : Fields} →
-        Refers names r (IntegerOf t) → FieldsMean names place.Integral seen levels [] fields fs → total_width fs ≡ t.width →
+    array : {seen : List Visible} {levels : ℕ} {title : Option (List ℕ)} {element : FormTree} {bound : Option Tree}
+        {t : PokeType} {b : Bound} →
+        Means names seen (levels + 1) None element t → IsBound names seen levels bound b →
+        Means names seen levels title (ArrayForm element bound) (ArrayOf t b)
+    struct : {seen : List Visible} {levels : ℕ} {title : Option (List ℕ)} {pinned : Bool}
+        {fields : FieldTrees} {fs : Fields} →
+        FieldsMean names (struct_place pinned) seen levels [] fields fs →
+        Means names seen levels title (StructForm pinned fields) (StructOf title pinned fs)
+    integral : {seen : List Visible} {levels : ℕ} {title : Option (List ℕ)} {r : TreeReference} {fields : FieldTrees}
+        {t : IntegerType} {fs : Fields} →
+        Refers names r (IntegerOf t) → FieldsMean names place.Integral seen levels [] fields fs →
+        total_width fs ≡ t.width →
         Means names seen levels title (IntegralForm r fields) (IntegralOf title t (parts_of fs))
-    union : {seen : List Visible} {levels : ℕ} {title : Option (List ℕ)} {form : FormTree} {parts : FieldParts} {rest : FieldTrees} {fs : Fields} →
+    union : {seen : List Visible} {levels : ℕ} {title : Option (List ℕ)} {form : FormTree} {parts : FieldParts}
+        {rest : FieldTrees} {fs : Fields} →
         FieldsMean names place.Union seen levels [] (tree.FieldThen form parts rest) fs →
         Means names seen levels title (UnionForm (tree.FieldThen form parts rest)) (UnionOf title (parts_of fs))
 
   -- fields, after fields of these names
-  pub data FieldsMean (names : Names) : Place → List Visible → ℕ → List (Option (List ℕ)) → FieldTrees → Fields → Type 0 where
-    done : {here : Place} {seen : List Visible} {levels : ℕ} {before : List (Option (List ℕ))} → FieldsMean names here seen levels before tree.NoFields NoFields
-    field : {here : Place} {seen : List Visible} {levels : ℕ} {before : List (Option (List ℕ))} {form : FormTree} {parts : FieldParts} {rest : FieldTrees}
+  pub data FieldsMean (names : Names) : Place → List Visible → ℕ → List (Option (List ℕ)) → FieldTrees →
+      Fields → Type 0 where
+    done : {here : Place} {seen : List Visible} {levels : ℕ} {before : List (Option (List ℕ))} →
+        FieldsMean names here seen levels before tree.NoFields NoFields
+    field : {here : Place} {seen : List Visible} {levels : ℕ} {before : List (Option (List ℕ))} {form : FormTree}
+        {parts : FieldParts} {rest : FieldTrees}
         {t : PokeType} {c l d : Option Term} {fs : Fields} →
         Means names seen (levels + 1) None form t → MayStand here t parts → IsFresh parts.name before →
         IsLabel names seen (levels + 1) parts.label l → IsTruth names seen (levels + 1) parts.condition d →
         IsTruth names (with_itself here seen levels (length before) parts t) (levels + 1) parts.constraint c →
-        FieldsMean names here (after_field here seen (with_itself here seen levels (length before) parts t)) levels (before ++ parts.name ∷ []) rest fs →
-        FieldsMean names here seen levels before (tree.FieldThen form parts rest) (FieldThen parts.name parts.order t c l d fs)
+        FieldsMean names here (after_field here seen (with_itself here seen levels (length before) parts t)) levels
+        (before ++ parts.name ∷ []) rest fs →
+        FieldsMean names here seen levels before (tree.FieldThen form parts rest)
+        (FieldThen parts.name parts.order t c l d fs)
 
 -- the declarations are well typed after these names, and add theirs to them
 pub data Declares : Names → List DeclarationTree → Names → Type 0 where

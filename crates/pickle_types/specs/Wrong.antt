@@ -15,7 +15,8 @@ or_later place later (Ok type) = later type
 -- the place of the first wrong declaration; the first of these has the given place
 unfoldable pub first_wrong : (place : ℕ) → Names → List DeclarationTree → Option ℕ
 first_wrong place names [] = None
-first_wrong place names (d ∷ ds) = or_later place (λ type. first_wrong (place + 1) (names ++ (d.name, type) ∷ []) ds) (declared_type names d)
+first_wrong place names (d ∷ ds) =
+    or_later place (λ type. first_wrong (place + 1) (names ++ (d.name, type) ∷ []) ds) (declared_type names d)
 
 -- the number in a fault: 0 for an allocation failure, else that of the first wrong declaration
 abbrev pub TellsPlace : FaultKind → (told : ℕ) → (wrong : Option ℕ) → Type 0

@@ -268,7 +268,8 @@ fn string_bounds(bits: u64) -> Bounds
 
 #[tactic(auto, unfolding(crate::specs::Bounds::least_width, crate::specs::Bounds::cost, crate::specs::Bounds::room))]
 fn array_bounds(bits: u64, element: Bounds, extent: &Extent) -> Bounds
-    ensures { (type : PokeType) → AreBounds element type bits → AreBounds result (ArrayOf type (bound_of extent.now)) bits }
+    ensures { (type : PokeType) → AreBounds element type bits →
+        AreBounds result (ArrayOf type (bound_of extent.now)) bits }
 {
     let count = elements(bits, element.least);
     let steps = times(count, sum_of(Some(1), element.steps));
@@ -278,7 +279,8 @@ fn array_bounds(bits: u64, element: Bounds, extent: &Extent) -> Bounds
 
 #[tactic(auto, unfolding(crate::specs::Bounds::least_width, crate::specs::Bounds::cost, crate::specs::Bounds::room))]
 fn struct_bounds(pinned: bool, fields: FieldBounds) -> Bounds
-    ensures { (name : Option (List ℕ)) (all : Fields) (m : ℕ) → AreFieldBounds fields all m → AreBounds result (StructOf name pinned all) m }
+    ensures { (name : Option (List ℕ)) (all : Fields) (m : ℕ) → AreFieldBounds fields all m →
+        AreBounds result (StructOf name pinned all) m }
 {
     let least = if pinned || fields.has_label {
         fields.greatest
@@ -290,7 +292,8 @@ fn struct_bounds(pinned: bool, fields: FieldBounds) -> Bounds
 
 #[tactic(auto, unfolding(crate::specs::Bounds::least_width, crate::specs::Bounds::cost, crate::specs::Bounds::room))]
 fn integral_bounds(width: u8, fields: PartBounds) -> Bounds
-    ensures { (name : Option (List ℕ)) (type : IntegerType) → type.width ≡ width → BoundsMade fields (IntegralOf name type) result }
+    ensures { (name : Option (List ℕ)) (type : IntegerType) → type.width ≡ width →
+        BoundsMade fields (IntegralOf name type) result }
 {
     with_own(Some(u64::from(width)), fields.steps, fields.slots)
 }

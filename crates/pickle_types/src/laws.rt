@@ -10,8 +10,10 @@ ghost use Rattle.pickle_types.specs.WellTyped.{Declares};
 
 /// Declarations are accepted exactly where the type rules give them types, and mean these types.
 pub fn exactly_the_rules()
-    ensures sound { (ds : List DeclarationTree) (names all : Names) → declared names ds ≡ Ok all → Declares names ds all }
-    ensures whole { (ds : List DeclarationTree) (names all : Names) → Declares names ds all → declared names ds ≡ Ok all }
+    ensures sound { (ds : List DeclarationTree) (names all : Names) → declared names ds ≡ Ok all →
+        Declares names ds all }
+    ensures whole { (ds : List DeclarationTree) (names all : Names) → Declares names ds all →
+        declared names ds ≡ Ok all }
 {}
 
 /// The result of Euclid's algorithm divides both numbers, and each number that divides both divides it.

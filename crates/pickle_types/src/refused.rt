@@ -30,9 +30,11 @@ impl<'n> Refused<'n> {
     /// Why a pickle is refused. `None` if it is well typed.
     pub fn find(alloc: Global, pickle: &Pickle<'n>) -> Result<Option<Refused<'n>>, AllocError>
         ensures none { IfOk result (λ found. found ≡ None → IsWellTyped (pickle_tree pickle.now)) }
-        ensures kind { IfOk result (λ found. IfSome found (λ x. Fails x.fault.kind (declared predeclared (pickle_tree pickle.now)))) }
+        ensures kind { IfOk result
+            (λ found. IfSome found (λ x. Fails x.fault.kind (declared predeclared (pickle_tree pickle.now)))) }
         ensures memory { IfOk result (λ found. IfSome found (λ x. x.fault.kind ≢ FaultKind.Memory)) }
-        ensures place { IfOk result (λ found. IfSome found (λ x. TellsPlace x.fault.kind x.fault.decl (first_wrong 1 predeclared (pickle_tree pickle.now)))) }
+        ensures place { IfOk result (λ found. IfSome found
+            (λ x. TellsPlace x.fault.kind x.fault.decl (first_wrong 1 predeclared (pickle_tree pickle.now)))) }
     {
         let mut builder = Builder::new(alloc);
         if let Err(_) = builder.predeclare(&PREDECLARED) {

@@ -50,7 +50,8 @@ impl Table {
         ensures wrong { IfErr result (λ e. e.kind ≢ FaultKind.Memory → ¬ IsWellTyped (pickle_tree pickle.now)) }
         ensures kind { IfErr result (λ e. Fails e.kind (declared predeclared (pickle_tree pickle.now))) }
         // The fault has the number of the first wrong declaration, counted from 1; 0 with `Memory`.
-        ensures place { IfErr result (λ e. TellsPlace e.kind e.decl (first_wrong 1 predeclared (pickle_tree pickle.now))) }
+        ensures place { IfErr result
+            (λ e. TellsPlace e.kind e.decl (first_wrong 1 predeclared (pickle_tree pickle.now))) }
     {
         let mut builder = Builder::new(alloc);
         builder.predeclare(&PREDECLARED)?;

@@ -8,7 +8,8 @@ use Rattle.run_parts.specs.Accepted.{IsAccepted}
 -- a text is that of notes: each begins with a place inside the pickle
 pub data AreNotes (pickle called : List ℕ) : List ℕ → Type 0 where
   none : AreNotes pickle called []
-  more : {text note : List ℕ} → AreNotes pickle called text → TellsPlace pickle called note → AreNotes pickle called (text ++ note)
+  more : {text note : List ℕ} → AreNotes pickle called text → TellsPlace pickle called note →
+      AreNotes pickle called (text ++ note)
 
 -- what is printed about what a pickle can't mean: notes about an accepted pickle, and nothing about another
 pub data WarnsOf (pickle path : List ℕ) : List ℕ → Type 0 where

@@ -36,7 +36,8 @@ plain_digit n small = elim (cases_Bool (nat_lt n 10)) [
 
 -- an escape of a name by two digits, in a JSON string
 pub digits_spelled : (high low : ℕ) → high < 16 → low < 16
-    → spelled json_escape (92 ∷ 120 ∷ hex_digit high ∷ hex_digit low ∷ []) ≡ 92 ∷ 92 ∷ 120 ∷ hex_digit high ∷ hex_digit low ∷ []
+    → spelled json_escape (92 ∷ 120 ∷ hex_digit high ∷ hex_digit low ∷ [])
+    ≡ 92 ∷ 92 ∷ 120 ∷ hex_digit high ∷ hex_digit low ∷ []
 digits_spelled high low h l =
     let a = plain_digit high h in
     let b = plain_digit low l in
@@ -49,7 +50,8 @@ one_plus n = omega arith
 
 -- the first line of a text, and those after it
 pub first_line : (byte : ℕ) (bytes : List ℕ)
-    → text_lines (byte ∷ bytes) ≡ take (line_length (byte ∷ bytes)) (byte ∷ bytes) ∷ text_lines (drop (suc (line_length (byte ∷ bytes))) (byte ∷ bytes))
+    → text_lines (byte ∷ bytes) ≡ take (line_length (byte ∷ bytes)) (byte ∷ bytes)
+    ∷ text_lines (drop (suc (line_length (byte ∷ bytes))) (byte ∷ bytes))
 first_line byte [] = elim (cases_Bool (byte == 10)) [
   | inl end ↦ rw end refl
   | inr other ↦ rw other refl
@@ -61,7 +63,8 @@ first_line byte (next ∷ rest) = elim (cases_Bool (byte == 10)) [
 
 -- the strings of the lines of a text, the first one first
 pub lines_split : (first : Bool) (text : List ℕ) → 0 < length text
-    → lines_json first (text_lines text) ≡ first_line_json first text ++ lines_json false (text_lines (drop (suc (line_length text)) text))
+    → lines_json first (text_lines text)
+    ≡ first_line_json first text ++ lines_json false (text_lines (drop (suc (line_length text)) text))
 lines_split first [] some = absurd (omega (arith, some))
 lines_split first (byte ∷ bytes) some = ap (lines_json first) (first_line byte bytes)
 
@@ -76,30 +79,41 @@ no_lines a text = record { taken = []; appends = Appends-nil a; whole = refl }
 
 -- the strings from a place on
 split_at : (done : ℕ) (text : List ℕ) → done < length text
-    → lines_json (nat_eq done 0) (text_lines (drop done text)) ≡ first_line_json (nat_eq done 0) (drop done text) ++ lines_json false (text_lines (drop (done + suc (line_length (drop done text))) text))
+    → lines_json (nat_eq done 0) (text_lines (drop done text)) ≡ first_line_json (nat_eq done 0) (drop done text)
+    ++ lines_json false (text_lines (drop (done + suc (line_length (drop done text))) text))
 split_at done text lt =
     lines_split (nat_eq done 0) (drop done text) (omega (arith, length-drop done text, lt))
-    ∙ ap (λ s. first_line_json (nat_eq done 0) (drop done text) ++ lines_json false (text_lines s)) (drop-drop (suc (line_length (drop done text))) done text)
+    ∙ ap (λ s. first_line_json (nat_eq done 0) (drop done text) ++ lines_json false (text_lines s))
+    (drop-drop (suc (line_length (drop done text))) done text)
 
-pub more_lines : (a b c : Option (List ℕ)) (done : ℕ) (text rest : List ℕ) (length_here : ℕ) → HasLines a b done text → done < length text → rest ≡ drop done text → length_here ≡ line_length rest
+pub more_lines : (a b c : Option (List ℕ)) (done : ℕ) (text rest : List ℕ) (length_here : ℕ) → HasLines a b done text
+    → done < length text → rest ≡ drop done text → length_here ≡ line_length rest
     → Appends b c (first_line_json (nat_eq done 0) rest) → HasLines a c (done + (length_here + 1)) text
 more_lines a b c done text rest n h lt same length_is g =
     let here : List ℕ = first_line_json (nat_eq done 0) (drop done text) in
-    let next : done + suc (line_length (drop done text)) ≡ done + (n + 1) = omega (arith, length_is, ap line_length same) in
+    let next : done + suc (line_length (drop done text)) ≡ done + (n + 1) =
+    omega (arith, length_is, ap line_length same) in
     let later : nat_eq (done + (n + 1)) 0 ≡ false = grind arith in
     record {
       taken = h.taken ++ here;
-      appends = Appends-trans a b c h.taken here h.appends (subst (λ s. Appends b c (first_line_json (nat_eq done 0) s)) same g);
-      whole = rw later (append_assoc h.taken here _ ∙ ap (λ k. h.taken ++ (here ++ lines_json false (text_lines (drop k text)))) (sym next) ∙ ap (λ s. h.taken ++ s) (sym (split_at done text lt)) ∙ h.whole);
+      appends = Appends-trans a b c h.taken here h.appends
+          (subst (λ s. Appends b c (first_line_json (nat_eq done 0) s)) same g);
+      whole = rw later (append_assoc h.taken here _
+          ∙ ap (λ k. h.taken ++ (here ++ lines_json false (text_lines (drop k text)))) (sym next)
+          ∙ ap (λ s. h.taken ++ s) (sym (split_at done text lt)) ∙ h.whole);
     }
 
-pub all_lines : (a b : Option (List ℕ)) (done : ℕ) (text : List ℕ) → HasLines a b done text → length text ≤ done → Appends a b (lines_json true (text_lines text))
-all_lines a b done text h le = subst (Appends a b) (sym (append-nil h.taken) ∙ ap (λ s. h.taken ++ lines_json (nat_eq done 0) (text_lines s)) (sym (drop_all done text le)) ∙ h.whole) h.appends
+pub all_lines : (a b : Option (List ℕ)) (done : ℕ) (text : List ℕ) → HasLines a b done text → length text ≤ done →
+    Appends a b (lines_json true (text_lines text))
+all_lines a b done text h le = subst (Appends a b) (sym (append-nil h.taken)
+    ∙ ap (λ s. h.taken ++ lines_json (nat_eq done 0) (text_lines s)) (sym (drop_all done text le)) ∙ h.whole) h.appends
 
-pub part_lines : (a b c : Option (List ℕ)) (done : ℕ) (text rest : List ℕ) → HasLines a b done text → done < length text → rest ≡ drop done text
+pub part_lines : (a b c : Option (List ℕ)) (done : ℕ) (text rest : List ℕ) → HasLines a b done text → done < length text
+    → rest ≡ drop done text
     → AppendsPart b c (first_line_json (nat_eq done 0) rest) → AppendsPart a c (lines_json true (text_lines text))
 part_lines a b c done text rest h lt same g =
     let here : List ℕ = first_line_json (nat_eq done 0) (drop done text) in
     let after : List ℕ = lines_json false (text_lines (drop (done + suc (line_length (drop done text))) text)) in
     subst (AppendsPart a c) (ap (λ s. h.taken ++ s) (sym (split_at done text lt)) ∙ h.whole)
-    (part_next a b c h.taken (here ++ after) h.appends (part_first b c here after (subst (λ s. AppendsPart b c (first_line_json (nat_eq done 0) s)) same g)))
+    (part_next a b c h.taken (here ++ after) h.appends
+    (part_first b c here after (subst (λ s. AppendsPart b c (first_line_json (nat_eq done 0) s)) same g)))

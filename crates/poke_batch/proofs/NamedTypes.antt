@@ -20,6 +20,7 @@ module _ (Is : PokeType → Type 0) where
       some_same : (x y : PokeType) → Some x ≡ Some y → x ≡ y
       some_same x y e = cc
 
-  pub one_more_is : (names : Names) (word : List ℕ) (t : PokeType) → OfEach names → Is t → OfEach (names ++ (word, t) ∷ [])
+  pub one_more_is : (names : Names) (word : List ℕ) (t : PokeType) → OfEach names → Is t →
+      OfEach (names ++ (word, t) ∷ [])
   one_more_is [] word t h is = (is, tt)
   one_more_is (d ∷ ds) word t h is = (h.0, one_more_is ds word t h.1 is)

@@ -70,13 +70,17 @@ escape_bytes byte small = elim (cases_Bool (byte == 92)) [
       | inl c ↦ rw c (omega arith, (omega arith, tt))
       | inr c ↦ rw c (elim (cases_Bool (byte == 9)) [
         | inl d ↦ rw d (omega arith, (omega arith, tt))
-        | inr d ↦ rw d (omega arith, (omega arith, (digit_byte (byte / 16) (omega (arith, small)), (digit_byte (byte % 16) (omega arith), tt))))
+        | inr d ↦ rw d (
+          omega arith,
+          (omega arith, (digit_byte (byte / 16) (omega (arith, small)), (digit_byte (byte % 16) (omega arith), tt))),
+        )
       ])
     ])
   ])
 ]
 
-choice_bytes : (quote plain : Bool) (byte : ℕ) → byte < 2 ^ 8 → AreBytes (if quote then 34 ∷ [] else if plain then byte ∷ [] else escape_text byte)
+choice_bytes : (quote plain : Bool) (byte : ℕ) → byte < 2 ^ 8 →
+    AreBytes (if quote then 34 ∷ [] else if plain then byte ∷ [] else escape_text byte)
 choice_bytes true plain byte small = (omega arith, tt)
 choice_bytes false true byte small = (small, tt)
 choice_bytes false false byte small = escape_bytes byte small
@@ -86,7 +90,8 @@ name_byte_bytes byte small = choice_bytes (byte == 34) (is_plain byte) byte smal
 
 name_bytes_are : (name : List ℕ) → AreBytes name → AreBytes (shown_name name)
 name_bytes_are [] h = tt
-name_bytes_are (byte ∷ bytes) h = bytes_join (name_byte byte) (shown_name bytes) (name_byte_bytes byte h.0) (name_bytes_are bytes h.1)
+name_bytes_are (byte ∷ bytes) h =
+    bytes_join (name_byte byte) (shown_name bytes) (name_byte_bytes byte h.0) (name_bytes_are bytes h.1)
 
 -- ---- lines
 
@@ -119,12 +124,14 @@ indent_bytes (a ∷ b ∷ line) h = elim (cases_Bool (a == 32)) [
 strings_follow : (lines : List (List ℕ)) → AreLines lines → MoreElements (lines_json false lines) (strings_of lines)
 strings_follow [] h = no_element
 strings_follow (line ∷ lines) h =
-    more_elements (element_then (bare (string_value (string_is (without_indent line) (indent_bytes line h.0)))) (strings_follow lines h.1))
+    more_elements (element_then (bare (string_value (string_is (without_indent line) (indent_bytes line h.0))))
+    (strings_follow lines h.1))
 
 strings_are : (lines : List (List ℕ)) → AreLines lines → InList (lines_json true lines) (strings_of lines)
 strings_are [] h = without_elements
 strings_are (line ∷ lines) h =
-    with_elements (element_then (bare (string_value (string_is (without_indent line) (indent_bytes line h.0)))) (strings_follow lines h.1))
+    with_elements (element_then (bare (string_value (string_is (without_indent line) (indent_bytes line h.0))))
+    (strings_follow lines h.1))
 
 -- ---- members
 
@@ -145,19 +152,23 @@ unfolding json_string
 why_is [] h = no_entry
 why_is (byte ∷ reasons) h =
     let lines = text_lines (byte ∷ reasons) in
-    more_entries (last_entry (entry_is (string_is (codes "why") why_key) (list_is (strings_are lines (lines_bytes (byte ∷ reasons) h)))))
+    more_entries (last_entry
+    (entry_is (string_is (codes "why") why_key) (list_is (strings_are lines (lines_bytes (byte ∷ reasons) h)))))
 
 -- the entries of an object
 entries_are : (name text reasons : List ℕ) (v : value.Json) → AreBytes name → AreBytes reasons → ReadsValue text v
-    → ReadsEntries ((codes "\"name\":" ++ name_json name) ++ (codes ",\"status\":0," ++ ((codes "\"value\":" ++ text) ++ why_member reasons)))
-    (EntryThen (codes "name") (value.JsonString (shown_name name)) (EntryThen (codes "status") (whole_number (pos 0)) (EntryThen (codes "value") v (why_entries reasons))))
+    → ReadsEntries ((codes "\"name\":" ++ name_json name)
+    ++ (codes ",\"status\":0," ++ ((codes "\"value\":" ++ text) ++ why_member reasons)))
+    (EntryThen (codes "name") (value.JsonString (shown_name name))
+    (EntryThen (codes "status") (whole_number (pos 0)) (EntryThen (codes "value") v (why_entries reasons))))
 unfolding json_string digits
 entries_are name text reasons v n r h =
     let first : ReadsEntry (codes "\"name\":" ++ name_json name) (codes "name") (value.JsonString (shown_name name)) =
     entry_is (string_is (codes "name") name_key) (string_value (string_is (shown_name name) (name_bytes_are name n))) in
     let second : ReadsEntry (codes "\"status\":0") (codes "status") (whole_number (pos 0)) =
     entry_is (string_is (codes "status") status_key) (number_value (natural_is 0 (omega arith))) in
-    let third : ReadsEntry (codes "\"value\":" ++ text) (codes "value") v = entry_is (string_is (codes "value") value_key) h in
+    let third : ReadsEntry (codes "\"value\":" ++ text) (codes "value") v =
+    entry_is (string_is (codes "value") value_key) h in
     entry_then first (more_entries (entry_then second (more_entries (entry_then third (why_is reasons r)))))
 
 cut_end : (text : List ℕ) → without_end (text ++ codes "\n") ≡ text
@@ -170,15 +181,20 @@ join n s v w a b = simp append_assoc
 
 -- the text of an object, as braces around the entries
 whole_is : (n text w : List ℕ)
-    → (codes "{" ++ (((codes "\"name\":" ++ n) ++ (codes ",\"status\":0," ++ ((codes "\"value\":" ++ text) ++ w))) ++ codes "}")) ++ codes "\n"
+    → (codes "{"
+    ++ (((codes "\"name\":" ++ n) ++ (codes ",\"status\":0," ++ ((codes "\"value\":" ++ text) ++ w))) ++ codes "}"))
+    ++ codes "\n"
     ≡ codes "{\"name\":" ++ (n ++ (codes ",\"status\":0," ++ ((codes "\"value\":" ++ text) ++ (w ++ codes "}\n"))))
-whole_is n text w = ap (λ r. codes "{\"name\":" ++ r) (join n (codes ",\"status\":0,") (codes "\"value\":" ++ text) w (codes "}") (codes "\n"))
+whole_is n text w = ap (λ r. codes "{\"name\":" ++ r)
+    (join n (codes ",\"status\":0,") (codes "\"value\":" ++ text) w (codes "}") (codes "\n"))
 
 pub object_reads : DoneObjectReads
 object_reads name text reasons v n r h =
     subst (λ s. Reads s (done_object name v reasons))
     (whole_is (name_json name) text (why_member reasons)
-    ∙ ap (λ t. codes "{\"name\":" ++ (name_json name ++ (codes ",\"status\":0," ++ ((codes "\"value\":" ++ t) ++ (why_member reasons ++ codes "}\n"))))) (sym (cut_end text)))
+    ∙ ap (λ t. codes "{\"name\":" ++ (name_json name
+    ++ (codes ",\"status\":0," ++ ((codes "\"value\":" ++ t) ++ (why_member reasons ++ codes "}\n")))))
+    (sym (cut_end text)))
     (json no_blank (object (entries_are name text reasons v n r h)) (one_blank line_feed no_blank))
 
 -- ---- stored runs
@@ -201,18 +217,24 @@ done_before (outcome.Failed failure.Open) e = cc
 done_before (outcome.Failed failure.TooLong) e = cc
 
 -- a run that wrote into memory says its text
-stored_says : (IsRight : Saying → Type 0) (kept : Kept) → kept.outcome ≡ outcome.Done → HoldsRun IsRight kept → Says IsRight Done (Some []) (Some kept.text.items) (Some []) (Some [])
+stored_says : (IsRight : Saying → Type 0) (kept : Kept) → kept.outcome ≡ outcome.Done → HoldsRun IsRight kept →
+    Says IsRight Done (Some []) (Some kept.text.items) (Some []) (Some [])
 stored_says IsRight kept done holds =
     let ended = done_before holds.ended (sym holds.outcome_is ∙ done) in
     ends_says IsRight outcome.Done Done (Some []) (Some kept.text.items) (Some []) (Some [])
-    (subst (λ (o : Outcome). EndsAs IsRight o (Some []) (Some kept.text.items)) ended holds.ends) (λ out. (Keeps-refl out, inl (refl, refl)))
+    (subst (λ (o : Outcome). EndsAs IsRight o (Some []) (Some kept.text.items)) ended holds.ends)
+    (λ out. (Keeps-refl out, inl (refl, refl)))
 
-module _ (pickle : List ℕ) (ask : Ask) (terms : Terms) (before : SpaceView) (kept : Kept) (name reasons : List ℕ) (json_mode : ask.mode ≡ Json) (none : terms.look ≡ None) (all : terms.selection ≡ None) (short : before.len < 2 ^ 60)
+module _ (pickle : List ℕ) (ask : Ask) (terms : Terms) (before : SpaceView) (kept : Kept) (name reasons : List ℕ)
+    (json_mode : ask.mode ≡ Json) (none : terms.look ≡ None) (all : terms.selection ≡ None)
+    (short : before.len < 2 ^ 60)
     (n : AreBytes name) (r : AreBytes reasons) (done : kept.outcome ≡ outcome.Done) where
-  reads_here : (table : Table) (id : TypeId) (type : PokeType) (mapped : Value) → type_named table id ≡ type → IsAsked pickle ask.name.now type
+  reads_here : (table : Table) (id : TypeId) (type : PokeType) (mapped : Value) → type_named table id ≡ type
+      → IsAsked pickle ask.name.now type
       → ((bytes : List ℕ) → before.bytes ≡ Some bytes → HasAnswer bytes type ask.order ask.start ask.limit (Ok mapped))
       → Fits (8 * before.len) type no_values ask.start mapped → (part : Value) → part_at terms.part mapped ≡ Some part
-      → Appends (Some []) (Some kept.text.items) (part_text table id ask terms mapped part) → ReadsAsObject pickle ask terms before kept name reasons
+      → Appends (Some []) (Some kept.text.items) (part_text table id ask terms mapped part)
+      → ReadsAsObject pickle ask terms before kept name reasons
   reads_here table id type mapped named asked means fits part found h = record {
     type = type;
     asked = asked;
@@ -224,26 +246,31 @@ module _ (pickle : List ℕ) (ask : Ask) (terms : Terms) (before : SpaceView) (k
     fits = fits;
     part = part;
     found = found;
-    reads = subst (λ t. Reads (file_object name kept.outcome t reasons) object_is) (sym (h ∙ json_part table id ask terms mapped part json_mode none all))
+    reads = subst (λ t. Reads (file_object name kept.outcome t reasons) object_is)
+        (sym (h ∙ json_part table id ask terms mapped part json_mode none all))
         (subst (λ o. Reads (file_object name o (text ++ codes "\n") reasons) object_is) (sym done)
         (object_reads name text reasons (part_json table id terms mapped part) n r
-        (styled_text_reads (nodes_of table) (char_node_of table) (part_node table id terms mapped) terms.style part (part_small terms.part mapped part small found) (part_few terms.part mapped part few found))));
+        (styled_text_reads (nodes_of table) (char_node_of table) (part_node table id terms mapped) terms.style part
+        (part_small terms.part mapped part small found) (part_few terms.part mapped part few found))));
   }
     where
       object_is : value.Json
       object_is = done_object name (part_json table id terms mapped part) reasons
 
       text : List ℕ
-      text = styled_json terms.style (with_chars terms.style.chars (nodes_of table) (char_node_of table) (part_node table id terms mapped) part)
+      text = styled_json terms.style
+          (with_chars terms.style.chars (nodes_of table) (char_node_of table) (part_node table id terms mapped) part)
 
       small : HasSmallParts mapped
       small = parts_small pickle ask.name.now (8 * before.len) type no_values ask.start mapped asked fits
 
       few : HasFewMembers mapped
-      few = value_few (8 * before.len) (omega (arith, short)) type no_values ask.start mapped (type_small pickle ask.name.now type asked) fits
+      few = value_few (8 * before.len) (omega (arith, short)) type no_values ask.start mapped
+          (type_small pickle ask.name.now type asked) fits
 
 pub stored_object : StoredObjectReadsBack
 stored_object pickle ask terms before after kept name reasons json_mode none all short n r done holds =
     let says = stored_says (MapsUnder pickle ask terms before after) kept done holds in
-    under_said pickle ask before Done (Some []) (Some kept.text.items) (Some []) (Some []) refl terms after says.saying says.right says.said
+    under_said pickle ask before Done (Some []) (Some kept.text.items) (Some []) (Some []) refl terms after says.saying
+    says.right says.said
     (reads_here pickle ask terms before kept name reasons json_mode none all short n r done)

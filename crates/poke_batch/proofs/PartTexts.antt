@@ -20,21 +20,31 @@ abbrev pub part_node : Table → TypeId → Terms → (mapped : Value) → Optio
 part_node table id terms mapped = node_at (nodes_of table) terms.part (Some id.node) mapped
 
 -- without a look and a selection it is printed in the style
-pub styled_part : (table : Table) (id : TypeId) (ask : Ask) (terms : Terms) (whole part : Value) → terms.look ≡ None → terms.selection ≡ None
-    → part_text table id ask terms whole part ≡ text_in None terms.style ask.mode (nodes_of table) (char_node_of table) (part_node table id terms whole) part
+pub styled_part : (table : Table) (id : TypeId) (ask : Ask) (terms : Terms) (whole part : Value) → terms.look ≡ None
+    → terms.selection ≡ None
+    → part_text table id ask terms whole part
+    ≡ text_in None terms.style ask.mode (nodes_of table) (char_node_of table) (part_node table id terms whole) part
 styled_part table id ask terms whole part none all =
-    ap (λ selection. selected_text (nodes_of table) (char_node_of table) terms.look terms.style ask.mode selection (requested table id terms whole part)) all
-    ∙ ap (λ look. text_in look terms.style ask.mode (nodes_of table) (char_node_of table) (part_node table id terms whole) part) none
+    ap (λ selection. selected_text (nodes_of table) (char_node_of table) terms.look terms.style ask.mode selection
+    (requested table id terms whole part)) all
+    ∙ ap (λ look.
+    text_in look terms.style ask.mode (nodes_of table) (char_node_of table) (part_node table id terms whole) part) none
 
 -- in the plain style as without a style
-pub plain_part : (table : Table) (id : TypeId) (ask : Ask) (terms : Terms) (whole part : Value) → terms.style ≡ plain → terms.look ≡ None → terms.selection ≡ None → part_text table id ask terms whole part ≡ printed ask.mode part
+pub plain_part : (table : Table) (id : TypeId) (ask : Ask) (terms : Terms) (whole part : Value) → terms.style ≡ plain →
+    terms.look ≡ None → terms.selection ≡ None → part_text table id ask terms whole part ≡ printed ask.mode part
 plain_part table id ask terms whole part e none all =
     styled_part table id ask terms whole part none all
-    ∙ ap (λ style. text_in None style ask.mode (nodes_of table) (char_node_of table) (part_node table id terms whole) part) e
+    ∙ ap
+    (λ style. text_in None style ask.mode (nodes_of table) (char_node_of table) (part_node table id terms whole) part) e
     ∙ prints_plain (nodes_of table) (char_node_of table) (part_node table id terms whole) ask.mode part
 
 -- and in JSON in the form of that
-pub json_part : (table : Table) (id : TypeId) (ask : Ask) (terms : Terms) (whole part : Value) → ask.mode ≡ Json → terms.look ≡ None → terms.selection ≡ None
-    → part_text table id ask terms whole part ≡ text_in None terms.style Json (nodes_of table) (char_node_of table) (part_node table id terms whole) part
+pub json_part : (table : Table) (id : TypeId) (ask : Ask) (terms : Terms) (whole part : Value) → ask.mode ≡ Json
+    → terms.look ≡ None → terms.selection ≡ None
+    → part_text table id ask terms whole part
+    ≡ text_in None terms.style Json (nodes_of table) (char_node_of table) (part_node table id terms whole) part
 json_part table id ask terms whole part mode none all =
-    styled_part table id ask terms whole part none all ∙ ap (λ m. text_in None terms.style m (nodes_of table) (char_node_of table) (part_node table id terms whole) part) mode
+    styled_part table id ask terms whole part none all
+    ∙ ap (λ m. text_in None terms.style m (nodes_of table) (char_node_of table) (part_node table id terms whole) part)
+    mode

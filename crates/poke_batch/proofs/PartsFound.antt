@@ -27,18 +27,22 @@ named_later : (name : List ℕ) (label : Label) (more place : ℕ) → is_named 
 named_later name label more place other = rw other refl
 
 -- the place is this
-pub found_there : (name : List ℕ) (label : Label) (count place : ℕ) → place < count → is_named name (member_name label place) ≡ true
+pub found_there : (name : List ℕ) (label : Label) (count place : ℕ) → place < count
+    → is_named name (member_name label place) ≡ true
     → place_named name label (count - place) place ≡ Some place
 found_there name label count place more named =
     let e : count - place ≡ suc (count - (place + 1)) = omega (arith, more) in
-    subst (λ n. place_named name label n place ≡ Some place) (sym e) (named_first name label (count - (place + 1)) place named)
+    subst (λ n. place_named name label n place ≡ Some place) (sym e)
+    (named_first name label (count - (place + 1)) place named)
 
 -- or further on
-pub found_later : (name : List ℕ) (label : Label) (count place : ℕ) → place < count → is_named name (member_name label place) ≡ false
+pub found_later : (name : List ℕ) (label : Label) (count place : ℕ) → place < count
+    → is_named name (member_name label place) ≡ false
     → place_named name label (count - place) place ≡ place_named name label (count - (place + 1)) (place + 1)
 found_later name label count place more other =
     let e : count - place ≡ suc (count - (place + 1)) = omega (arith, more) in
-    subst (λ n. place_named name label n place ≡ place_named name label (count - (place + 1)) (place + 1)) (sym e) (named_later name label (count - (place + 1)) place other)
+    subst (λ n. place_named name label n place ≡ place_named name label (count - (place + 1)) (place + 1)) (sym e)
+    (named_later name label (count - (place + 1)) place other)
 
 -- nothing is part of nothing
 pub nowhere : (steps : List Step) → part_from steps None ≡ None
@@ -46,17 +50,23 @@ nowhere [] = refl
 nowhere (step ∷ steps) = nowhere steps
 
 -- a step that leads nowhere
-pub lost : (steps : List Step) (i : ℕ) (step : Step) (given reached : Value) → part_of steps given ≡ part_of (drop i steps) reached
+pub lost : (steps : List Step) (i : ℕ) (step : Step) (given reached : Value)
+    → part_of steps given ≡ part_of (drop i steps) reached
     → drop i steps ≡ step ∷ drop (i + 1) steps → None ≡ step_to step reached → None ≡ part_of steps given
 lost steps i step given reached so_far next none =
-    sym (so_far ∙ ap (λ s. part_from s (Some reached)) next ∙ ap (part_from (drop (i + 1) steps)) (sym none) ∙ nowhere (drop (i + 1) steps))
+    sym (so_far ∙ ap (λ s. part_from s (Some reached)) next ∙ ap (part_from (drop (i + 1) steps)) (sym none)
+    ∙ nowhere (drop (i + 1) steps))
 
 -- one step further
-pub further_part : (step : Step) (steps : List Step) {left : List Step} (value part : Value) → left ≡ step ∷ steps → Some part ≡ step_to step value → part_of left value ≡ part_of steps part
-further_part step steps value part next found = ap (λ s. part_from s (Some value)) next ∙ ap (part_from steps) (sym found)
+pub further_part : (step : Step) (steps : List Step) {left : List Step} (value part : Value) → left ≡ step ∷ steps →
+    Some part ≡ step_to step value → part_of left value ≡ part_of steps part
+further_part step steps value part next found =
+    ap (λ s. part_from s (Some value)) next ∙ ap (part_from steps) (sym found)
 
-pub further_node : (nodes : List Node) (step : Step) (steps : List Step) {left : List Step} (of : Option ℕ) (value : Value) (to : Option ℕ) (part : Value) → left ≡ step ∷ steps
-    → Some part ≡ step_to step value → to ≡ node_there nodes of value (place_of step value) → node_from nodes left of (Some value) ≡ node_from nodes steps to (Some part)
+pub further_node : (nodes : List Node) (step : Step) (steps : List Step) {left : List Step} (of : Option ℕ)
+    (value : Value) (to : Option ℕ) (part : Value) → left ≡ step ∷ steps
+    → Some part ≡ step_to step value → to ≡ node_there nodes of value (place_of step value)
+    → node_from nodes left of (Some value) ≡ node_from nodes steps to (Some part)
 further_node nodes step steps of value to part next found node =
     ap (λ s. node_from nodes s of (Some value)) next
     ∙ ap (node_from nodes steps (node_there nodes of value (place_of step value))) (sym found)
@@ -77,7 +87,8 @@ step_there (Element place) value = chosen (is_array (label_of value))
     chosen false = refl
 
 -- a part is printed as the part of a value of a table, and has the same parts
-module _ (table : Table) (id : TypeId) (terms : Terms) (whole part : Typed) (nodes : nodes_in (types_in whole) ≡ nodes_of table) (of : node_in whole ≡ Some id.node)
+module _ (table : Table) (id : TypeId) (terms : Terms) (whole part : Typed)
+    (nodes : nodes_in (types_in whole) ≡ nodes_of table) (of : node_in whole ≡ Some id.node)
     (same : types_in part ≡ types_in whole) (node : node_in part ≡ node_of terms.part whole) where
   part_nodes : nodes_in (types_in part) ≡ nodes_of table
   part_nodes = ap nodes_in same ∙ nodes
@@ -88,12 +99,15 @@ module _ (table : Table) (id : TypeId) (terms : Terms) (whole part : Typed) (nod
       ∙ ap (λ n. node_at (nodes_in (types_in whole)) terms.part n (mapped_in whole)) of
       ∙ ap (λ ns. node_at ns terms.part (Some id.node) (mapped_in whole)) nodes)
 
-  pub part_printed : (ask : Ask) → char_node_in (types_in whole) ≡ char_node_of table → typed_text terms ask.mode part ≡ part_text table id ask terms (mapped_in whole) (mapped_in part)
+  pub part_printed : (ask : Ask) → char_node_in (types_in whole) ≡ char_node_of table →
+      typed_text terms ask.mode part ≡ part_text table id ask terms (mapped_in whole) (mapped_in part)
   part_printed ask chars =
       ap (λ ns. text_under ns (char_node_in (types_in part)) terms ask.mode (part_in part)) part_nodes
       ∙ ap (λ letters. text_under (nodes_of table) letters terms ask.mode (part_in part)) (ap char_node_in same ∙ chars)
       ∙ ap (text_under (nodes_of table) (char_node_of table) terms ask.mode) part_requested
 
-  pub part_has_selected : has_selected (nodes_in (types_in part)) terms.selection (part_in part) ≡ part_has table id terms (mapped_in whole) (mapped_in part)
+  pub part_has_selected : has_selected (nodes_in (types_in part)) terms.selection (part_in part)
+      ≡ part_has table id terms (mapped_in whole) (mapped_in part)
   part_has_selected =
-      ap (λ ns. has_selected ns terms.selection (part_in part)) part_nodes ∙ ap (has_selected (nodes_of table) terms.selection) part_requested
+      ap (λ ns. has_selected ns terms.selection (part_in part)) part_nodes
+      ∙ ap (has_selected (nodes_of table) terms.selection) part_requested

@@ -12,12 +12,14 @@ same_value value part e = cc
 nothing_found : (part : Value) → None ≡ Some part → ⊥
 nothing_found part e = cc
 
-module _ (P : Value → Type 0) (keeps : (value part : Value) (place : ℕ) → P value → member_at (members_of value) place ≡ Some part → P part) where
+module _ (P : Value → Type 0)
+    (keeps : (value part : Value) (place : ℕ) → P value → member_at (members_of value) place ≡ Some part → P part) where
   there_keeps : (value part : Value) (found : Option ℕ) → P value → member_there value found ≡ Some part → P part
   there_keeps value part None h e = absurd (nothing_found part e)
   there_keeps value part (Some place) h e = keeps value part place h e
 
-  if_keeps : (value part : Value) (is : Bool) (place : ℕ) → P value → member_if is (member_at (members_of value) place) ≡ Some part → P part
+  if_keeps : (value part : Value) (is : Bool) (place : ℕ) → P value →
+      member_if is (member_at (members_of value) place) ≡ Some part → P part
   if_keeps value part true place h e = keeps value part place h e
   if_keeps value part false place h e = absurd (nothing_found part e)
 
@@ -26,11 +28,14 @@ module _ (P : Value → Type 0) (keeps : (value part : Value) (place : ℕ) → 
   step_keeps (Place place) value part h e = if_keeps value part _ place h e
   step_keeps (Element place) value part h e = if_keeps value part _ place h e
 
-  found_keeps : (steps : List Step) (found : Option Value) (part : Value) → ((value : Value) → found ≡ Some value → P value) → part_from steps found ≡ Some part → P part
+  found_keeps : (steps : List Step) (found : Option Value) (part : Value) →
+      ((value : Value) → found ≡ Some value → P value) → part_from steps found ≡ Some part → P part
   found_keeps [] found part h e = h part e
   found_keeps (step ∷ steps) None part h e = found_keeps steps None part h e
-  found_keeps (step ∷ steps) (Some value) part h e = found_keeps steps (step_to step value) part (λ u is. step_keeps step value u (h value refl) is) e
+  found_keeps (step ∷ steps) (Some value) part h e =
+      found_keeps steps (step_to step value) part (λ u is. step_keeps step value u (h value refl) is) e
 
   pub part_keeps : (path : Option Path) (value part : Value) → P value → part_at path value ≡ Some part → P part
   part_keeps None value part h e = subst P (same_value value part e) h
-  part_keeps (Some path) value part h e = found_keeps path.steps.items (Some value) part (λ u is. subst P (same_value value u is) h) e
+  part_keeps (Some path) value part h e =
+      found_keeps path.steps.items (Some value) part (λ u is. subst P (same_value value u is) h) e

@@ -89,7 +89,8 @@ refusal_not_done refusal.TooMany = tt
 refusal_not_done (refusal.Types kind declaration) = tt
 refusal_not_done refusal.Memory = tt
 
-map_not_done : {pickle : List ℕ} {ask : Ask} {before after : SpaceView} {saying : Saying} → MapsAs pickle ask before after saying → LineHas IsNotDone saying
+map_not_done : {pickle : List ℕ} {ask : Ask} {before after : SpaceView} {saying : Saying} →
+    MapsAs pickle ask before after saying → LineHas IsNotDone saying
 map_not_done (value asked means fits) = tt
 map_not_done (stops asked no_device not_memory means run limit) = tt
 map_not_done (device asked risen) = tt
@@ -97,7 +98,8 @@ map_not_done (unknown accepted none) = tt
 map_not_done (refused_map {refusal} refuses) = refusal_not_done refusal
 map_not_done no_memory = tt
 
-a_fault_is_done : (pickle : List ℕ) (ask : Ask) (before after : SpaceView) (line : List ℕ) → MapsAs pickle ask before after (Line Done line) → ⊥
+a_fault_is_done : (pickle : List ℕ) (ask : Ask) (before after : SpaceView) (line : List ℕ) →
+    MapsAs pickle ask before after (Line Done line) → ⊥
 a_fault_is_done pickle ask before after line m = map_not_done m
 
 -- nor of a device where none failed: the seventh byte of that line is a D
@@ -119,7 +121,8 @@ refusal_no_device refusal.TooMany h = h
 refusal_no_device (refusal.Types kind declaration) h = h
 refusal_no_device refusal.Memory h = apart 68 77 (omega arith) (sym h)
 
-map_no_device : {pickle : List ℕ} {ask : Ask} {before after : SpaceView} {saying : Saying} → before.failures ≡ 0 → after.failures ≡ 0 → MapsAs pickle ask before after saying → TellsDevice saying → ⊥
+map_no_device : {pickle : List ℕ} {ask : Ask} {before after : SpaceView} {saying : Saying} → before.failures ≡ 0 →
+    after.failures ≡ 0 → MapsAs pickle ask before after saying → TellsDevice saying → ⊥
 map_no_device b a (value asked means fits) h = h
 map_no_device b a (stops asked no_device not_memory means run limit) h = h
 map_no_device b a (device asked risen) h = not_risen _ _ b a risen
@@ -127,5 +130,6 @@ map_no_device b a (unknown accepted none) h = h
 map_no_device b a (refused_map {refusal} refuses) h = refusal_no_device refusal h
 map_no_device b a no_memory h = apart 68 77 (omega arith) (sym h)
 
-no_device_failed : (pickle bytes : List ℕ) (ask : Ask) → MapsAs pickle ask (honest bytes) (honest bytes) (Line Outside (fault_line (codes "Device"))) → ⊥
+no_device_failed : (pickle bytes : List ℕ) (ask : Ask) →
+    MapsAs pickle ask (honest bytes) (honest bytes) (Line Outside (fault_line (codes "Device"))) → ⊥
 no_device_failed pickle bytes ask m = map_no_device refl refl m refl

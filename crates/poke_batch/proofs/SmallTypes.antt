@@ -35,8 +35,10 @@ abbrev mutual
   IsSmallType (OffsetOf type unit) = (type.width ≤ 64) × (unit < 2 ^ 64)
   IsSmallType StringOf = Unit {0}
   IsSmallType (ArrayOf element bound) = IsSmallType element
-  IsSmallType (StructOf name pinned fields) = (length (field_names fields) < 2 ^ 64) × AreNamesOfBytes (field_names fields) × AreSmallFields fields
-  IsSmallType (IntegralOf name type fields) = (length (part_names fields) < 2 ^ 64) × AreNamesOfBytes (part_names fields) × AreSmallTypes fields
+  IsSmallType (StructOf name pinned fields) =
+      (length (field_names fields) < 2 ^ 64) × AreNamesOfBytes (field_names fields) × AreSmallFields fields
+  IsSmallType (IntegralOf name type fields) =
+      (length (part_names fields) < 2 ^ 64) × AreNamesOfBytes (part_names fields) × AreSmallTypes fields
   IsSmallType (UnionOf name alternatives) = AreNamesOfBytes (part_names alternatives) × AreSmallTypes alternatives
 
   pub AreSmallFields : Fields → Type 0
@@ -100,17 +102,24 @@ name_is None h = tt
 name_is (Some word) h = h.0
 
 parts_name : (p : FieldParts) → HaveWords (show_parts p) → IsWord p.name
-parts_name p h = name_is p.name (front_of (show_name p.name) _ (front_of _ (show_part _ p.label) (front_of _ (show_part _ p.condition) (front_of _ (Mark sign.Semicolon ∷ []) h))))
+parts_name p h = name_is p.name (front_of (show_name p.name) _
+    (front_of _ (show_part _ p.label) (front_of _ (show_part _ p.condition) (front_of _ (Mark sign.Semicolon ∷ []) h))))
 
 mutual
   form_names : (f : FormTree) → HaveWords (show_form f) → HasNames f
   form_names (Plain r) h = tt
   form_names StringForm h = tt
   form_names (OffsetForm r u) h = tt
-  form_names (ArrayForm e b) h = form_names e (front_of (show_form e) (Mark sign.OpenBracket ∷ show_optional b) (front_of _ (Mark sign.CloseBracket ∷ []) h))
-  form_names (StructForm p fs) h = fields_names fs (back_of (show_pinned p) (Reserved word.Struct ∷ Mark sign.OpenBrace ∷ show_fields fs) (front_of _ (Mark sign.CloseBrace ∷ []) h)).1.1
-  form_names (IntegralForm r fs) h = fields_names fs (back_of (Reserved word.Struct ∷ show_reference r) (Mark sign.OpenBrace ∷ show_fields fs) (front_of (Reserved word.Struct ∷ show_reference r ++ Mark sign.OpenBrace ∷ show_fields fs) (Mark sign.CloseBrace ∷ []) h)).1
-  form_names (UnionForm fs) h = fields_names fs (front_of (Reserved word.Union ∷ Mark sign.OpenBrace ∷ show_fields fs) (Mark sign.CloseBrace ∷ []) h).1.1
+  form_names (ArrayForm e b) h = form_names e
+      (front_of (show_form e) (Mark sign.OpenBracket ∷ show_optional b) (front_of _ (Mark sign.CloseBracket ∷ []) h))
+  form_names (StructForm p fs) h = fields_names fs (back_of (show_pinned p)
+      (Reserved word.Struct ∷ Mark sign.OpenBrace ∷ show_fields fs) (front_of _ (Mark sign.CloseBrace ∷ []) h)).1.1
+  form_names (IntegralForm r fs) h =
+      fields_names fs (back_of (Reserved word.Struct ∷ show_reference r) (Mark sign.OpenBrace ∷ show_fields fs)
+      (front_of (Reserved word.Struct ∷ show_reference r ++ Mark sign.OpenBrace ∷ show_fields fs)
+      (Mark sign.CloseBrace ∷ []) h)).1
+  form_names (UnionForm fs) h = fields_names fs
+      (front_of (Reserved word.Union ∷ Mark sign.OpenBrace ∷ show_fields fs) (Mark sign.CloseBrace ∷ []) h).1.1
 
   fields_names : (fs : FieldTrees) → HaveWords (show_fields fs) → HaveNames fs
   fields_names tree.NoFields h = tt
@@ -126,7 +135,8 @@ pickle_names : (ds : List DeclarationTree) → HaveWords (show_pickle ds) → De
 pickle_names [] h = tt
 pickle_names (d ∷ ds) h =
     let declaration = front_of (show_declaration d) (show_pickle ds) h in (
-      form_names d.form (front_of (Reserved word.«Type» ∷ Named d.name ∷ Mark sign.Assign ∷ show_form d.form) (Mark sign.Semicolon ∷ []) declaration).1.1.1,
+      form_names d.form (front_of (Reserved word.«Type» ∷ Named d.name ∷ Mark sign.Assign ∷ show_form d.form)
+          (Mark sign.Semicolon ∷ []) declaration).1.1.1,
       pickle_names ds (back_of (show_declaration d) (show_pickle ds) h),
     )
 
@@ -162,8 +172,11 @@ piece_words : (token : Option Token) (bytes rest : List ℕ) → IsPiece token b
 piece_words None bytes rest h = tt
 piece_words (Some (Reserved w)) bytes rest h = (tt, tt)
 piece_words (Some (Named n)) bytes rest h =
-    let word = h.0.1 in
-    (subst IsName (sym (h.0.0 ∙ word.2)) (letter_begins word.0 word.3, (letter_word word.0 word.3, words_are word.1 word.4)), tt)
+    let word = h.0.1 in (
+      subst IsName
+          (sym (h.0.0 ∙ word.2)) (letter_begins word.0 word.3, (letter_word word.0 word.3, words_are word.1 word.4)),
+      tt,
+    )
 piece_words (Some (Opens o)) bytes rest h = (tt, tt)
 piece_words (Some (Numeral n)) bytes rest h = (tt, tt)
 piece_words (Some (Character b)) bytes rest h = (tt, tt)
@@ -177,7 +190,8 @@ joined_words (t ∷ a) b h g = (h.0, joined_words a b h.1 g)
 
 pieces_words : (ps : List Piece) (bytes rest : List ℕ) → pieces ps bytes rest → HaveWords (tokens_in ps)
 pieces_words [] bytes rest h = tt
-pieces_words (p ∷ ps) bytes rest h = joined_words (token_list p.token) (tokens_in ps) (piece_words p.token p.bytes h.0 h.2.is) (pieces_words ps h.0 rest h.3)
+pieces_words (p ∷ ps) bytes rest h = joined_words (token_list p.token) (tokens_in ps)
+    (piece_words p.token p.bytes h.0 h.2.is) (pieces_words ps h.0 rest h.3)
 
 -- ---- what forms mean
 
@@ -211,24 +225,32 @@ module _ (names : Names) (small : OfEach IsSmallType names) where
   refers_small _ _ (Refers.called {word} {t} is) = found_is IsSmallType word names t small is
 
   mutual
-    form_small : (seen : List Visible) (levels : ℕ) (title : Option (List ℕ)) (form : FormTree) (t : PokeType) → HasNames form → IsFormWithin standard form → Means names seen levels title form t → IsSmallType t
+    form_small : (seen : List Visible) (levels : ℕ) (title : Option (List ℕ)) (form : FormTree) (t : PokeType) →
+        HasNames form → IsFormWithin standard form → Means names seen levels title form t → IsSmallType t
     form_small seen levels title _ _ named within (Means.plain {r = r} {t = t} refers) = refers_small r t refers
     form_small seen levels title _ _ named within Means.string = tt
-    form_small seen levels title _ _ named within (Means.offset {r = r} {u = u} {t = t} {n = n} refers bits) = (refers_small r (IntegerOf t) refers, bits_small u n bits)
-    form_small seen levels title _ _ named within (Means.array {element = element} {t = t} is bound) = form_small seen (levels + 1) None element t named within.0 is
+    form_small seen levels title _ _ named within (Means.offset {r = r} {u = u} {t = t} {n = n} refers bits) =
+        (refers_small r (IntegerOf t) refers, bits_small u n bits)
+    form_small seen levels title _ _ named within (Means.array {element = element} {t = t} is bound) =
+        form_small seen (levels + 1) None element t named within.0 is
     form_small seen levels title _ _ named within (Means.struct {fields = fields} {fs = fs} are) =
         let h = fields_small _ seen levels [] fields fs named within.1 are in
         (omega (arith, h.count, within.0), h.names, h.types)
     form_small seen levels title _ _ named within (Means.integral {fields = fields} {fs = fs} refers are total) =
         let h = fields_small _ seen levels [] fields fs named within.1 are in
         (omega (arith, parts_count fs, h.count, within.0), parts_names fs h.names, parts_types fs h.types)
-    form_small seen levels title _ _ named within (Means.union {form = form} {parts = parts} {rest = rest} {fs = fs} are) =
+    form_small seen levels title _ _ named within
+        (Means.union {form = form} {parts = parts} {rest = rest} {fs = fs} are) =
         let h = fields_small _ seen levels [] (tree.FieldThen form parts rest) fs named within.1 are in
         (parts_names fs h.names, parts_types fs h.types)
 
-    fields_small : (here : Place) (seen : List Visible) (levels : ℕ) (before : List (Option (List ℕ))) (trees : FieldTrees) (fs : Fields) → HaveNames trees → AreFieldsWithin standard trees → FieldsMean names here seen levels before trees fs → AreSmall trees fs
-    fields_small here seen levels before _ _ named within FieldsMean.done = record { count = refl; names = tt; types = tt }
-    fields_small here seen levels before _ _ named within (FieldsMean.field {form = form} {parts = parts} {rest = rest} {t = t} {fs = fs} is stands fresh label condition constraint are) =
+    fields_small : (here : Place) (seen : List Visible) (levels : ℕ) (before : List (Option (List ℕ)))
+        (trees : FieldTrees) (fs : Fields) → HaveNames trees → AreFieldsWithin standard trees →
+        FieldsMean names here seen levels before trees fs → AreSmall trees fs
+    fields_small here seen levels before _ _ named within FieldsMean.done =
+        record { count = refl; names = tt; types = tt }
+    fields_small here seen levels before _ _ named within (FieldsMean.field {form = form} {parts = parts} {rest = rest}
+        {t = t} {fs = fs} is stands fresh label condition constraint are) =
         let h = fields_small here _ levels _ rest fs named.2 within.2 are in
         record {
           count = omega (arith, h.count);
@@ -236,24 +258,30 @@ module _ (names : Names) (small : OfEach IsSmallType names) where
           types = (form_small seen (levels + 1) None form t named.1 within.0 is, h.types);
         }
 
-declared_small : (names : Names) (ds : List DeclarationTree) (all : Names) → OfEach IsSmallType names → DeclareNames ds → AreDeclarationsWithin standard ds → Declares names ds all → OfEach IsSmallType all
+declared_small : (names : Names) (ds : List DeclarationTree) (all : Names) → OfEach IsSmallType names →
+    DeclareNames ds → AreDeclarationsWithin standard ds → Declares names ds all → OfEach IsSmallType all
 declared_small names _ _ small named within Declares.none = small
 declared_small names _ all small named within (Declares.more {d = d} {ds = ds} {t = t} fresh is deep rest) =
-    declared_small (names ++ (d.name, t) ∷ []) ds all (one_more_is IsSmallType names d.name t small (form_small names small [] 0 (Some d.name) d.form t named.0 within.0 is)) named.1 within.2 rest
+    declared_small (names ++ (d.name, t) ∷ []) ds all (one_more_is IsSmallType names d.name t small
+    (form_small names small [] 0 (Some d.name) d.form t named.0 within.0 is)) named.1 within.2 rest
 
 predeclared_small : OfEach IsSmallType predeclared
 predeclared_small = search (arith)
 
 -- the names in an accepted pickle are words
-pub accepted_names : (pickle : List ℕ) (declarations : List DeclarationTree) (types : Names) → IsAccepted pickle declarations types → DeclareNames declarations
+pub accepted_names : (pickle : List ℕ) (declarations : List DeclarationTree) (types : Names) →
+    IsAccepted pickle declarations types → DeclareNames declarations
 accepted_names pickle declarations types accepted =
     let syntax = accepted.syntax in
     let tokens = (tokens_are pickle (syntax.tokens, syntax.spans)).0 syntax.cut in
-    let words : HaveWords syntax.tokens = subst HaveWords (sym tokens.1.2) (pieces_words tokens.1.0 pickle [] tokens.1.1) in
+    let words : HaveWords syntax.tokens =
+    subst HaveWords (sym tokens.1.2) (pieces_words tokens.1.0 pickle [] tokens.1.1) in
     pickle_names declarations (subst HaveWords syntax.parsed.shown words)
 
 -- each type of an accepted pickle is small
-pub accepted_small : (pickle : List ℕ) (declarations : List DeclarationTree) (types : Names) (name : List ℕ) (type : PokeType) → IsAccepted pickle declarations types → find_type name types ≡ Some type → IsSmallType type
+pub accepted_small : (pickle : List ℕ) (declarations : List DeclarationTree) (types : Names) (name : List ℕ)
+    (type : PokeType) → IsAccepted pickle declarations types → find_type name types ≡ Some type → IsSmallType type
 accepted_small pickle declarations types name type accepted found =
     let named = accepted_names pickle declarations types accepted in
-    found_is IsSmallType name types type (declared_small predeclared declarations types predeclared_small named accepted.syntax.parsed.within.1 accepted.declares) found
+    found_is IsSmallType name types type (declared_small predeclared declarations types predeclared_small named
+    accepted.syntax.parsed.within.1 accepted.declares) found

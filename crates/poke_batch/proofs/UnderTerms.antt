@@ -52,17 +52,21 @@ fits_start m (StructOf name pinned _) levels s v h = ap start_of h.4
 fits_start m (IntegralOf name type fields) levels s v h = ap start_of h.0.2
 fits_start m (UnionOf name alternatives) levels s v h = ap start_of h.2
 
-elements_forward : {Fit : Levels → ℕ → Value → Type 0} {inside : Levels} {end n : ℕ} {levels : Levels} {place i : ℕ} → ElementsFit Fit inside end n levels place i → place ≤ end
+elements_forward : {Fit : Levels → ℕ → Value → Type 0} {inside : Levels} {end n : ℕ} {levels : Levels} {place i : ℕ} →
+    ElementsFit Fit inside end n levels place i → place ≤ end
 elements_forward no_more_fit = omega arith
 elements_forward (one_more_fits v fit lt more) = let h = elements_forward more in omega arith
 
-fields_forward : (m : ℕ) (pinned : Bool) (s : ℕ) (fields : Fields) (levels : Levels) (behind top : ℕ) (inside : Levels) (end : ℕ) → FieldsFit m pinned s fields levels behind top inside end → top ≤ end
+fields_forward : (m : ℕ) (pinned : Bool) (s : ℕ) (fields : Fields) (levels : Levels) (behind top : ℕ) (inside : Levels)
+    (end : ℕ) → FieldsFit m pinned s fields levels behind top inside end → top ≤ end
 unfolding Fits
 fields_forward m pinned s NoFields levels behind top inside end h = let e = h.1 in omega arith
-fields_forward m pinned s (FieldThen name set ty c label when rest) levels behind top inside end (inl h) = fields_forward m pinned s rest (pushed levels None) behind top inside end h.1
+fields_forward m pinned s (FieldThen name set ty c label when rest) levels behind top inside end (inl h) =
+    fields_forward m pinned s rest (pushed levels None) behind top inside end h.1
 fields_forward m pinned s (FieldThen name set ty c label when rest) levels behind top inside end (inr h) =
     let v = h.4 in
-    let more = fields_forward m pinned s rest (pushed levels (Some h.4)) (end_of h.4) (max top (end_of h.4)) inside end h.7 in
+    let more =
+    fields_forward m pinned s rest (pushed levels (Some h.4)) (end_of h.4) (max top (end_of h.4)) inside end h.7 in
     omega arith
 
 -- a value that fits doesn't end before its start
@@ -73,19 +77,23 @@ mutual
   fits_forward m (IntegerOf type) levels s v h = let e = ap end_of h.0.2 in omega arith
   fits_forward m (OffsetOf type unit) levels s v h = let e = ap end_of h.0.2 in omega arith
   fits_forward m StringOf levels s v h = let e = ap end_of h.2 in omega arith
-  fits_forward m (ArrayOf element bound) levels s v h = let e = ap end_of h.8 in let up = elements_forward h.5 in omega arith
+  fits_forward m (ArrayOf element bound) levels s v h =
+      let e = ap end_of h.8 in let up = elements_forward h.5 in omega arith
   fits_forward m (StructOf name pinned fields) levels s v h =
       let e = ap end_of h.4 in let up = fields_forward m pinned s fields (opened levels) s s h.0 h.1 h.2 in omega arith
   fits_forward m (IntegralOf name type fields) levels s v h = let e = ap end_of h.0.2 in omega arith
   fits_forward m (UnionOf name alternatives) levels s v h =
       let e = ap end_of h.2 in let up = alternative_forward m alternatives 0 (opened levels) s h.0 h.1 in omega arith
 
-  alternative_forward : (m : ℕ) (parts : Parts) (index : ℕ) (levels : Levels) (s : ℕ) (t : Taken) → AlternativeFits m parts index levels s t → s ≤ end_of t.value
+  alternative_forward : (m : ℕ) (parts : Parts) (index : ℕ) (levels : Levels) (s : ℕ) (t : Taken) →
+      AlternativeFits m parts index levels s t → s ≤ end_of t.value
   alternative_forward m NoParts index levels s t h = absurd h
   alternative_forward m (PartThen name set ty c rest) index levels s t (inl h) = fits_forward m ty levels s t.value h.2
-  alternative_forward m (PartThen name set ty c rest) index levels s t (inr h) = alternative_forward m rest (index + 1) levels s t h
+  alternative_forward m (PartThen name set ty c rest) index levels s t (inr h) =
+      alternative_forward m rest (index + 1) levels s t h
 
-pub starts_before_end : (m : ℕ) (ty : PokeType) (levels : Levels) (s : ℕ) (v : Value) → Fits m ty levels s v → start_of v ≤ end_of v
+pub starts_before_end : (m : ℕ) (ty : PokeType) (levels : Levels) (s : ℕ) (v : Value) → Fits m ty levels s v →
+    start_of v ≤ end_of v
 starts_before_end m ty levels s v h =
     let start = fits_start m ty levels s v h in
     let up = fits_forward m ty levels s v h in
@@ -97,46 +105,64 @@ pub says_more : {P Q : Saying → Type 0} {status : Status} {out out' err err' :
 says_more more says = record { saying = says.saying; right = more says.saying says.right; said = says.said }
 
 -- a text without a limit on its length
-pub free_saying : (most : Option ℕ) (start : ℕ) (text : List ℕ) → most ≡ None → SaysIt (text_saying most start text) (Text text)
+pub free_saying : (most : Option ℕ) (start : ℕ) (text : List ℕ) → most ≡ None →
+    SaysIt (text_saying most start text) (Text text)
 free_saying most start text free = subst (λ o. SaysIt (text_saying o start text) (Text text)) (sym free) said_so
 
 -- one that has no more bytes than the most
-pub short_saying : (most start : ℕ) (given text : List ℕ) → given ≡ text → length given ≤ most → SaysIt (text_saying (Some most) start text) (Text given)
+pub short_saying : (most start : ℕ) (given text : List ℕ) → given ≡ text → length given ≤ most →
+    SaysIt (text_saying (Some most) start text) (Text given)
 short_saying most start given text same few =
     subst (λ t. SaysIt (text_saying (Some most) start t) (Text given)) same
-    (subst (λ b. SaysIt (if b then Text given else Line Fault (fault_at_line (codes "Output") start)) (Text given)) (sym (le-leb (length given) most few)) said_so)
+    (subst (λ b. SaysIt (if b then Text given else Line Fault (fault_at_line (codes "Output") start)) (Text given))
+    (sym (le-leb (length given) most few)) said_so)
 
 -- and one that has more
-pub long_saying : (most start : ℕ) (text : List ℕ) → most < length text → SaysIt (text_saying (Some most) start text) (Line Fault (fault_at_line (codes "Output") start))
+pub long_saying : (most start : ℕ) (text : List ℕ) → most < length text →
+    SaysIt (text_saying (Some most) start text) (Line Fault (fault_at_line (codes "Output") start))
 long_saying most start text more =
-    subst (λ b. SaysIt (if b then Text text else Line Fault (fault_at_line (codes "Output") start)) (Line Fault (fault_at_line (codes "Output") start))) (sym (lt-leb (length text) most more)) said_so
+    subst (λ b. SaysIt (if b then Text text else Line Fault (fault_at_line (codes "Output") start))
+    (Line Fault (fault_at_line (codes "Output") start))) (sym (lt-leb (length text) most more)) said_so
 
 -- a value without the requested part
-pub no_part_saying : (ask : Ask) (most : Option ℕ) (has : Value → Bool) (text : Value → List ℕ) (found : Option Value) → found ≡ None → SaysIt (part_saying ask most has text found) (Line Fault (fault_line (codes "NoSuchPart")))
-no_part_saying ask most has text found none = subst (λ o. SaysIt (part_saying ask most has text o) (Line Fault (fault_line (codes "NoSuchPart")))) (sym none) said_so
+pub no_part_saying : (ask : Ask) (most : Option ℕ) (has : Value → Bool) (text : Value → List ℕ) (found : Option Value) →
+    found ≡ None → SaysIt (part_saying ask most has text found) (Line Fault (fault_line (codes "NoSuchPart")))
+no_part_saying ask most has text found none =
+    subst (λ o. SaysIt (part_saying ask most has text o) (Line Fault (fault_line (codes "NoSuchPart")))) (sym none)
+    said_so
 
 -- a part that hasn't all parts that are selected, and one that has
-pub none_selected_saying : (ask : Ask) (most : Option ℕ) (has : Value → Bool) (text : Value → List ℕ) (found : Option Value) (part : Value) → found ≡ Some part → has part ≡ false
+pub none_selected_saying : (ask : Ask) (most : Option ℕ) (has : Value → Bool) (text : Value → List ℕ)
+    (found : Option Value) (part : Value) → found ≡ Some part → has part ≡ false
     → SaysIt (part_saying ask most has text found) (Line Fault (fault_line (codes "NoSuchPart")))
 none_selected_saying ask most has text found part is lacks =
     subst (λ o. SaysIt (part_saying ask most has text o) (Line Fault (fault_line (codes "NoSuchPart")))) (sym is)
-    (subst (λ b. SaysIt (if b then text_saying most ask.start (text part) else Line Fault (fault_line (codes "NoSuchPart"))) (Line Fault (fault_line (codes "NoSuchPart")))) (sym lacks) said_so)
+    (subst (λ b.
+    SaysIt (if b then text_saying most ask.start (text part) else Line Fault (fault_line (codes "NoSuchPart")))
+    (Line Fault (fault_line (codes "NoSuchPart")))) (sym lacks) said_so)
 
-pub selected_saying : (ask : Ask) (most : Option ℕ) (has : Value → Bool) (text : Value → List ℕ) (found : Option Value) (part : Value) → found ≡ Some part → has part ≡ true
+pub selected_saying : (ask : Ask) (most : Option ℕ) (has : Value → Bool) (text : Value → List ℕ) (found : Option Value)
+    (part : Value) → found ≡ Some part → has part ≡ true
     → part_saying ask most has text found ≡ text_saying most ask.start (text part)
 selected_saying ask most has text found part is whole =
-    ap (part_saying ask most has text) is ∙ ap (λ b. if b then text_saying most ask.start (text part) else Line Fault (fault_line (codes "NoSuchPart"))) whole
+    ap (part_saying ask most has text) is
+    ∙ ap (λ b. if b then text_saying most ask.start (text part) else Line Fault (fault_line (codes "NoSuchPart"))) whole
 
 -- a value that ends before its file
-pub left_saying : (table : Table) (id : TypeId) (ask : Ask) (terms : Terms) (bits : ℕ) (mapped : Value) (end : ℕ) → end ≡ end_of mapped → is_left terms.whole end bits ≡ true
+pub left_saying : (table : Table) (id : TypeId) (ask : Ask) (terms : Terms) (bits : ℕ) (mapped : Value) (end : ℕ)
+    → end ≡ end_of mapped → is_left terms.whole end bits ≡ true
     → SaysIt (value_saying table id ask terms bits mapped) (Line Fault (fault_at_line (codes "Left") end))
 left_saying table id ask terms bits mapped end same left =
-    let t : is_left terms.whole (end_of mapped) bits ≡ true = subst (λ e. is_left terms.whole e bits ≡ true) same left in
-    subst (λ e. SaysIt (value_saying table id ask terms bits mapped) (Line Fault (fault_at_line (codes "Left") e))) (sym same)
-    (subst (λ b. SaysIt (if b then Line Fault (fault_at_line (codes "Left") (end_of mapped)) else kept_saying table id ask terms mapped) (Line Fault (fault_at_line (codes "Left") (end_of mapped)))) (sym t) said_so)
+    let t : is_left terms.whole (end_of mapped) bits ≡ true =
+    subst (λ e. is_left terms.whole e bits ≡ true) same left in
+    subst (λ e. SaysIt (value_saying table id ask terms bits mapped) (Line Fault (fault_at_line (codes "Left") e)))
+    (sym same)
+    (subst (λ b. SaysIt (if b then Line Fault (fault_at_line (codes "Left") (end_of mapped)) else kept_saying table id
+    ask terms mapped) (Line Fault (fault_at_line (codes "Left") (end_of mapped)))) (sym t) said_so)
 
 -- what is printed of a value is what a mapping under terms prints
-pub said_under : (table : Table) (id : TypeId) (pickle : List ℕ) (ask : Ask) (terms : Terms) (before after : SpaceView) (mapped : Value)
+pub said_under : (table : Table) (id : TypeId) (pickle : List ℕ) (ask : Ask) (terms : Terms)
+    (before after : SpaceView) (mapped : Value)
     → MapsUnder pickle ask terms before after (value_saying table id ask terms (8 * before.len) mapped)
     → (saying : Saying) → SaysIt (value_saying table id ask terms (8 * before.len) mapped) saying
     → MapsUnder pickle ask terms before after saying
@@ -145,58 +171,82 @@ said_under table id pickle ask terms before after mapped right saying no_memory_
 
 -- without terms a mapping prints what it prints under none
 pub without_terms : (pickle : List ℕ) (ask : Ask) (before after : SpaceView) (saying : Saying)
-    → MapsUnder pickle ask (record { whole = false; most_output = None; part = None; most_slots = None; style = plain; look = None; selection = None }) before after saying → MapsAs pickle ask before after saying
+    → MapsUnder pickle ask (record {
+      whole = false;
+      most_output = None;
+      part = None;
+      most_slots = None;
+      style = plain;
+      look = None;
+      selection = None;
+    }) before after saying → MapsAs pickle ask before after saying
 without_terms pickle ask before after saying (mapped_under {mapped = mapped} table id named asked answer fits) =
-    subst (λ text. MapsAs pickle ask before after (Text text)) (sym (prints_plain (nodes_of table) (char_node_of table) (Some id.node) ask.mode mapped)) (value asked answer fits)
+    subst (λ text. MapsAs pickle ask before after (Text text))
+    (sym (prints_plain (nodes_of table) (char_node_of table) (Some id.node) ask.mode mapped)) (value asked answer fits)
 without_terms pickle ask before after saying (ended_under ends) = ends
 without_terms pickle ask before after saying (slots_under asked e less few) = absurd cc
 
 -- an outcome without a value is reported as without terms
 reported_under : {pickle : List ℕ} {ask : Ask} {terms : Terms} {before after : SpaceView} (ended : Outcome)
-    → MapsAs pickle ask before after (outcome_saying ended) → MapsUnder pickle ask terms before after (outcome_saying ended)
+    → MapsAs pickle ask before after (outcome_saying ended)
+    → MapsUnder pickle ask terms before after (outcome_saying ended)
 reported_under {pickle} {ask} {terms} {before} {after} ended right =
     let line = outcome_lines ended in
-    subst (MapsUnder pickle ask terms before after) (sym line) (ended_under (subst (MapsAs pickle ask before after) line right))
+    subst (MapsUnder pickle ask terms before after) (sym line)
+    (ended_under (subst (MapsAs pickle ask before after) line right))
 
-pub fault_under : (pickle : List ℕ) (ask : Ask) (terms : Terms) (before after : SpaceView) (kind : MapFaultKind) (at : ℕ)
-    → MapsAs pickle ask before after (fault_saying kind at) → MapsUnder pickle ask terms before after (fault_saying kind at)
-fault_under pickle ask terms before after kind at right = reported_under (outcome.Fault (record { kind = kind; at = at })) right
+pub fault_under : (pickle : List ℕ) (ask : Ask) (terms : Terms) (before after : SpaceView)
+    (kind : MapFaultKind) (at : ℕ)
+    → MapsAs pickle ask before after (fault_saying kind at)
+    → MapsUnder pickle ask terms before after (fault_saying kind at)
+fault_under pickle ask terms before after kind at right =
+    reported_under (outcome.Fault (record { kind = kind; at = at })) right
 
 pub refused_under : {pickle : List ℕ} {ask : Ask} {terms : Terms} {before after : SpaceView} (why : Refusal)
     → Refuses pickle why → MapsUnder pickle ask terms before after (refusal_saying why)
 refused_under why refuses = reported_under (outcome.Refused why) (refused_map refuses)
 
 -- what a store was made with stays
-pub store_stays : (most : Option ℕ) (old cleared new : Held) → IsStoreOf most old → cleared ≡ emptied old → KeepsRoom cleared new → IsStoreOf most new
-store_stays None old cleared new is same keeps = let room = keeps.room ∙ ap (λ (h : Held). h.room) same in ap (λ (r : Room). r.growth) room ∙ is
+pub store_stays : (most : Option ℕ) (old cleared new : Held) → IsStoreOf most old → cleared ≡ emptied old →
+    KeepsRoom cleared new → IsStoreOf most new
+store_stays None old cleared new is same keeps =
+    let room = keeps.room ∙ ap (λ (h : Held). h.room) same in ap (λ (r : Room). r.growth) room ∙ is
 store_stays (Some m) old cleared new is same keeps = keeps.room ∙ ap (λ (h : Held). h.room) same ∙ is
 
 -- a store of the most slots has exactly these
-pub least_of : (most : Option ℕ) (old cleared : Held) {bound : ℕ} → IsStoreOf most old → cleared ≡ emptied old → cleared.room.least < bound → (n : ℕ) → most ≡ Some n → n < bound
+pub least_of : (most : Option ℕ) (old cleared : Held) {bound : ℕ} → IsStoreOf most old → cleared ≡ emptied old →
+    cleared.room.least < bound → (n : ℕ) → most ≡ Some n → n < bound
 least_of None old cleared is same less n e = absurd cc
 least_of (Some m) old cleared {bound} is same less n e =
     subst (λ x. x < bound) (ap (λ (h : Held). h.room.least) same ∙ ap (λ (r : Room). r.least) is ∙ same_Some m n e) less
 
 -- what is too much for a store of the most slots is so for slots of that number
-pub few_of : (most : Option ℕ) (old cleared : Held) (type : PokeType) (ask : Ask) (before : SpaceView) (left : ℕ) → IsStoreOf most old → cleared ≡ emptied old
+pub few_of : (most : Option ℕ) (old cleared : Held) (type : PokeType) (ask : Ask) (before : SpaceView) (left : ℕ)
+    → IsStoreOf most old → cleared ≡ emptied old
     → (cleared.room.growth ≡ Never → cleared.capacity ≡ each_of cleared.room.least) → left ≡ ask.limit
-    → ((bytes : List ℕ) → before.bytes ≡ Some bytes → KeepsBy (λ state. IsWithin state cleared.capacity) (packs cleared.room) (bits_of bytes) (plan (8 * before.len) type ask.order no_values ask.start) left no_state → ⊥)
+    → ((bytes : List ℕ) → before.bytes ≡ Some bytes
+    → KeepsBy (λ state. IsWithin state cleared.capacity) (packs cleared.room) (bits_of bytes)
+    (plan (8 * before.len) type ask.order no_values ask.start) left no_state → ⊥)
     → (n : ℕ) → most ≡ Some n → AreTooFew n type ask before
 few_of None old cleared type ask before left is same exact full wants n e = absurd cc
 few_of (Some m) old cleared type ask before left is same exact full wants n e =
     let made : cleared.room ≡ fixed n = ap (λ (h : Held). h.room) same ∙ is ∙ ap fixed (same_Some m n e) in
-    let each : cleared.capacity ≡ each_of n = exact (ap (λ (r : Room). r.growth) made) ∙ ap (λ (r : Room). each_of r.least) made in
+    let each : cleared.capacity ≡ each_of n =
+    exact (ap (λ (r : Room). r.growth) made) ∙ ap (λ (r : Room). each_of r.least) made in
     let planned = plan (8 * before.len) type ask.order no_values ask.start in
     record {
       lack = λ bytes known kept.
           wants bytes known
-          (subst (λ (r : Room). KeepsBy (λ state. IsWithin state cleared.capacity) (packs r) (bits_of bytes) planned left no_state) (sym made)
+          (subst (λ (r : Room).
+          KeepsBy (λ state. IsWithin state cleared.capacity) (packs r) (bits_of bytes) planned left no_state) (sym made)
           (subst (λ k. KeepsBy (λ state. IsWithin state k) false (bits_of bytes) planned left no_state) (sym each)
-          (subst (λ steps. KeepsBy (λ state. IsWithin state (each_of n)) false (bits_of bytes) planned steps no_state) (sym full) kept)));
+          (subst (λ steps. KeepsBy (λ state. IsWithin state (each_of n)) false (bits_of bytes) planned steps no_state)
+          (sym full) kept)));
     }
 
 -- in a store of the most slots a fault is reported as in one that grows, but for an allocation failure
-fixed_or_memory : (start : ℕ) (kind : MapFaultKind) (at : ℕ) → (kind ≡ fault.Memory) ⊎ (fault_saying kind at ≡ fixed_saying start kind at)
+fixed_or_memory : (start : ℕ) (kind : MapFaultKind) (at : ℕ) →
+    (kind ≡ fault.Memory) ⊎ (fault_saying kind at ≡ fixed_saying start kind at)
 fixed_or_memory start fault.End at = inr refl
 fixed_or_memory start fault.Constraint at = inr refl
 fixed_or_memory start fault.Bounds at = inr refl
@@ -209,24 +259,33 @@ fixed_or_memory start fault.Limit at = inr refl
 fixed_or_memory start fault.Device at = inr refl
 fixed_or_memory start fault.Memory at = inl refl
 
-pub fixed_as_fault : (start : ℕ) (kind : MapFaultKind) (at : ℕ) → kind ≢ fault.Memory → fault_saying kind at ≡ fixed_saying start kind at
-fixed_as_fault start kind at other = elim (fixed_or_memory start kind at) [ inl memory ↦ absurd (other memory) | inr same ↦ same ]
+pub fixed_as_fault : (start : ℕ) (kind : MapFaultKind) (at : ℕ) → kind ≢ fault.Memory →
+    fault_saying kind at ≡ fixed_saying start kind at
+fixed_as_fault start kind at other =
+    elim (fixed_or_memory start kind at) [ inl memory ↦ absurd (other memory) | inr same ↦ same ]
 
-end_by : (pickle : List ℕ) (ask : Ask) (terms : Terms) (before after : SpaceView) {type : PokeType} (most : Option ℕ) (kind : MapFaultKind) (at : ℕ)
+end_by : (pickle : List ℕ) (ask : Ask) (terms : Terms) (before after : SpaceView) {type : PokeType} (most : Option ℕ)
+    (kind : MapFaultKind) (at : ℕ)
     → terms.most_slots ≡ most → IsAsked pickle ask.name.now type
     → (kind ≡ fault.Memory → (n : ℕ) → most ≡ Some n → n < room type (8 * before.len))
     → (kind ≡ fault.Memory → (n : ℕ) → most ≡ Some n → AreTooFew n type ask before)
-    → MapsUnder pickle ask terms before after (fault_saying kind at) → MapsUnder pickle ask terms before after (end_saying most ask.start kind at)
+    → MapsUnder pickle ask terms before after (fault_saying kind at)
+    → MapsUnder pickle ask terms before after (end_saying most ask.start kind at)
 end_by pickle ask terms before after None kind at e asked less few right = right
-end_by pickle ask terms before after (Some n) kind at e asked less few right = elim (fixed_or_memory ask.start kind at) [
-  | inl memory ↦ subst (λ k. MapsUnder pickle ask terms before after (fixed_saying ask.start k at)) (sym memory) (slots_under asked e (less memory n refl) (few memory n refl))
-  | inr same ↦ subst (MapsUnder pickle ask terms before after) same right
-]
+end_by pickle ask terms before after (Some n) kind at e asked less few right =
+    elim (fixed_or_memory ask.start kind at) [
+      | inl memory ↦ subst (λ k. MapsUnder pickle ask terms before after (fixed_saying ask.start k at)) (sym memory)
+          (slots_under asked e (less memory n refl) (few memory n refl))
+      | inr same ↦ subst (MapsUnder pickle ask terms before after) same right
+    ]
 
 -- in a store of the most slots an allocation failure is the fault `Slots`
-pub end_under : (pickle : List ℕ) (ask : Ask) (terms : Terms) (before after : SpaceView) {type : PokeType} (kind : MapFaultKind) (at : ℕ)
+pub end_under : (pickle : List ℕ) (ask : Ask) (terms : Terms) (before after : SpaceView) {type : PokeType}
+    (kind : MapFaultKind) (at : ℕ)
     → IsAsked pickle ask.name.now type
     → (kind ≡ fault.Memory → (n : ℕ) → terms.most_slots ≡ Some n → n < room type (8 * before.len))
     → (kind ≡ fault.Memory → (n : ℕ) → terms.most_slots ≡ Some n → AreTooFew n type ask before)
-    → MapsUnder pickle ask terms before after (fault_saying kind at) → MapsUnder pickle ask terms before after (end_saying terms.most_slots ask.start kind at)
-end_under pickle ask terms before after kind at asked less few right = end_by pickle ask terms before after terms.most_slots kind at refl asked less few right
+    → MapsUnder pickle ask terms before after (fault_saying kind at)
+    → MapsUnder pickle ask terms before after (end_saying terms.most_slots ask.start kind at)
+end_under pickle ask terms before after kind at asked less few right =
+    end_by pickle ask terms before after terms.most_slots kind at refl asked less few right

@@ -44,7 +44,8 @@ written_of faults ended text = outcome_text faults ended
 
 -- name, status and what was written, which ends with a line feed
 abbrev pub file_line : FaultForm → (name : List ℕ) → Outcome → (text : List ℕ) → List ℕ
-file_line faults name ended text = shown_name name ++ (status_text (outcome_status ended) ++ written_of faults ended text)
+file_line faults name ended text =
+    shown_name name ++ (status_text (outcome_status ended) ++ written_of faults ended text)
 
 -- a run that writes into memory fails to write only where an allocation fails
 abbrev pub failed_in_memory : Failure → Outcome
@@ -56,7 +57,9 @@ in_memory (outcome.Failed why) = failed_in_memory why
 in_memory ended = ended
 
 -- the line of a file has the exit status of its run, and what the run wrote into memory
-pub record TellsFile (faults : FaultForm) (IsRight : Saying → Type 0) (Takes : Option (List ℕ) → Option (List ℕ) → List ℕ → Type 0) (name : List ℕ) (status : Status) (old new : Option (List ℕ)) : Type 0 where
+pub record TellsFile (faults : FaultForm) (IsRight : Saying → Type 0)
+    (Takes : Option (List ℕ) → Option (List ℕ) → List ℕ → Type 0) (name : List ℕ) (status : Status)
+    (old new : Option (List ℕ)) : Type 0 where
   pub text : List ℕ
   pub ended : Outcome
   pub ends : EndsAs IsRight ended (Some []) (Some text)
@@ -64,6 +67,7 @@ pub record TellsFile (faults : FaultForm) (IsRight : Saying → Type 0) (Takes :
   pub takes : Takes old new (file_line faults name (in_memory ended) text)
 
 -- the line of a file is made from what is stored of its run
-pub record TellsKept (faults : FaultForm) (kept : Kept) (name : List ℕ) (status : Status) (old new : Option (List ℕ)) : Type 0 where
+pub record TellsKept (faults : FaultForm) (kept : Kept) (name : List ℕ) (status : Status)
+    (old new : Option (List ℕ)) : Type 0 where
   pub status_is : status ≡ outcome_status kept.outcome
   pub takes : Appends old new (file_line faults name kept.outcome kept.text.items)

@@ -47,7 +47,8 @@ text_lines (byte ∷ bytes) = if byte == 10 then [] ∷ text_lines bytes else be
 
 -- a line without the two blanks (32) that indent it
 abbrev pub without_indent : List ℕ → List ℕ
-without_indent (byte ∷ other ∷ line) = if byte == 32 then (if other == 32 then line else byte ∷ other ∷ line) else byte ∷ other ∷ line
+without_indent (byte ∷ other ∷ line) =
+    if byte == 32 then (if other == 32 then line else byte ∷ other ∷ line) else byte ∷ other ∷ line
 without_indent line = line
 
 -- how many bytes the first line of a text has
@@ -75,7 +76,8 @@ why_member (byte ∷ reasons) = reasons_member (byte ∷ reasons)
 -- the object, on a line
 abbrev pub file_object : (name : List ℕ) → Outcome → (text reasons : List ℕ) → List ℕ
 file_object name ended text reasons =
-    codes "{\"name\":" ++ (name_json name ++ (status_member (outcome_status ended) ++ (result_members ended text ++ (why_member reasons ++ codes "}\n"))))
+    codes "{\"name\":" ++ (name_json name
+    ++ (status_member (outcome_status ended) ++ (result_members ended text ++ (why_member reasons ++ codes "}\n"))))
 
 -- the object of a file whose run is stored
 abbrev pub kept_object : Kept → (name reasons : List ℕ) → List ℕ

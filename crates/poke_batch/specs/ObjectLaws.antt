@@ -35,30 +35,36 @@ why_entries (byte ∷ reasons) = EntryThen (codes "why") (JsonList (strings_of (
 -- an object with the name of a file as its line has it, the exit status 0, a value, and reasons
 abbrev pub done_object : (name : List ℕ) (value : Json) (reasons : List ℕ) → Json
 done_object name value reasons =
-    JsonObject (EntryThen (codes "name") (JsonString (shown_name name)) (EntryThen (codes "status") (whole_number (pos 0)) (EntryThen (codes "value") value (why_entries reasons))))
+    JsonObject (EntryThen (codes "name") (JsonString (shown_name name))
+    (EntryThen (codes "status") (whole_number (pos 0)) (EntryThen (codes "value") value (why_entries reasons))))
 
 -- the object of a run that is done reads so, if its text without the line feed reads as the value
 abbrev pub DoneObjectReads : Type 0
 DoneObjectReads = (name text reasons : List ℕ) (value : Json) → AreBytes name → AreBytes reasons → ReadsValue text value
     → Reads (file_object name Done (text ++ codes "\n") reasons) (done_object name value reasons)
 
--- What is stored of a run that is done makes an object that reads as the requested part of the value that was mapped. If
--- the file's bits are known, that is the value that the type means on them; over any space it is one that fits.
-pub record ReadsAsObject (pickle : List ℕ) (ask : Ask) (terms : Terms) (before : SpaceView) (kept : Kept) (name reasons : List ℕ) : Type 0 where
+-- What is stored of a run that is done makes an object that reads as the requested part of the value that was mapped.
+-- If the file's bits are known, that is the value that the type means on them; over any space it is one that fits.
+pub record ReadsAsObject (pickle : List ℕ) (ask : Ask) (terms : Terms) (before : SpaceView) (kept : Kept)
+    (name reasons : List ℕ) : Type 0 where
   pub type : PokeType
   pub asked : IsAsked pickle ask.name.now type
   pub table : Table
   pub id : TypeId
   pub named : type_named table id ≡ type
   pub mapped : Value
-  pub means : (bytes : List ℕ) → before.bytes ≡ Some bytes → HasAnswer bytes type ask.order ask.start ask.limit (Ok mapped)
+  pub means : (bytes : List ℕ) → before.bytes ≡ Some bytes →
+      HasAnswer bytes type ask.order ask.start ask.limit (Ok mapped)
   pub fits : Fits (8 * before.len) type no_values ask.start mapped
   pub part : Value
   pub found : part_at terms.part mapped ≡ Some part
-  pub reads : Reads (file_object name kept.outcome kept.text.items reasons) (done_object name (part_json table id terms mapped part) reasons)
+  pub reads : Reads (file_object name kept.outcome kept.text.items reasons)
+      (done_object name (part_json table id terms mapped part) reasons)
 
 -- a run in JSON without a selection, of a space of fewer than 2^60 bytes, as each space is
 abbrev pub StoredObjectReadsBack : Type 0
-StoredObjectReadsBack = (pickle : List ℕ) (ask : Ask) (terms : Terms) (before after : SpaceView) (kept : Kept) (name reasons : List ℕ)
-    → ask.mode ≡ mode.Json → terms.look ≡ None → terms.selection ≡ None → before.len < 2 ^ 60 → AreBytes name → AreBytes reasons → kept.outcome ≡ Done
+StoredObjectReadsBack =
+    (pickle : List ℕ) (ask : Ask) (terms : Terms) (before after : SpaceView) (kept : Kept) (name reasons : List ℕ)
+    → ask.mode ≡ mode.Json → terms.look ≡ None → terms.selection ≡ None → before.len < 2 ^ 60 → AreBytes name
+    → AreBytes reasons → kept.outcome ≡ Done
     → HoldsRun (MapsUnder pickle ask terms before after) kept → ReadsAsObject pickle ask terms before kept name reasons

@@ -35,7 +35,8 @@ pub record IsPathTo (value : Value) (text : List ℕ) (part : Value) : Type 0 wh
 
 -- the path on a line leads to just the part whose line it is
 abbrev pub PathsLeadToParts : Type 0
-PathsLeadToParts = (value : Value) (line : Line) → HasClearPaths value → HasFewMembers value → IsLineOf value line → IsPathTo value (path_text line.steps) line.part
+PathsLeadToParts = (value : Value) (line : Line) → HasClearPaths value → HasFewMembers value → IsLineOf value line →
+    IsPathTo value (path_text line.steps) line.part
 
 -- a value that fits a type of an accepted pickle has such names
 abbrev pub MappedPathsAreClear : Type 0

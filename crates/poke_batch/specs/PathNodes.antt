@@ -8,7 +8,8 @@ use Rattle.poke_batch.specs.PathParts.{place_of, node_there, node_from, node_at}
 
 -- of the part to which one step leads, of that to which steps lead, and of the requested one
 abbrev pub node_through : Step → Typed → Option ℕ
-node_through step value = node_there (nodes_in (types_in value)) (node_in value) (mapped_in value) (place_of step (mapped_in value))
+node_through step value =
+    node_there (nodes_in (types_in value)) (node_in value) (mapped_in value) (place_of step (mapped_in value))
 
 abbrev pub node_after : List Step → Typed → Option ℕ
 node_after steps value = node_from (nodes_in (types_in value)) steps (node_in value) (Some (mapped_in value))

@@ -27,12 +27,14 @@ is_nameless (Some its) = false
 
 -- whether the member at a place of a value is a field or an alternative, and has no name
 abbrev pub is_nameless_at : Value → (place : ℕ) → Bool
-is_nameless_at value place = if is_array (label_of value) then false else is_nameless (member_name (label_of value) place)
+is_nameless_at value place =
+    if is_array (label_of value) then false else is_nameless (member_name (label_of value) place)
 
 -- the first of so many places, from one on, whose member has this name
 abbrev pub place_named : (name : List ℕ) → Label → (count place : ℕ) → Option ℕ
 place_named name label zero place = None
-place_named name label (suc count) place = if is_named name (member_name label place) then Some place else place_named name label count (place + 1)
+place_named name label (suc count) place =
+    if is_named name (member_name label place) then Some place else place_named name label count (place + 1)
 
 abbrev pub member_if : Bool → Option Value → Option Value
 member_if true found = found
@@ -45,7 +47,8 @@ member_there value (Some place) = member_at (members_of value) place
 -- the part to which a step leads: a field or alternative by its name, a nameless one by its place, an element by its
 -- place
 abbrev pub step_to : Step → Value → Option Value
-step_to (Field name) value = member_there value (place_named name.items (label_of value) (member_count (members_of value)) 0)
+step_to (Field name) value =
+    member_there value (place_named name.items (label_of value) (member_count (members_of value)) 0)
 step_to (Place place) value = member_if (is_nameless_at value place) (member_at (members_of value) place)
 step_to (Element place) value = member_if (is_array (label_of value)) (member_at (members_of value) place)
 
@@ -85,7 +88,8 @@ node_there nodes of value (Some place) = part_node nodes of (label_of value) pla
 abbrev pub node_from : List Node → List Step → (of : Option ℕ) → Option Value → Option ℕ
 node_from nodes [] of found = of
 node_from nodes (step ∷ steps) of None = None
-node_from nodes (step ∷ steps) of (Some value) = node_from nodes steps (node_there nodes of value (place_of step value)) (step_to step value)
+node_from nodes (step ∷ steps) of (Some value) =
+    node_from nodes steps (node_there nodes of value (place_of step value)) (step_to step value)
 
 -- the node of the type of the part that is requested
 abbrev pub node_at : List Node → Option Path → (of : Option ℕ) → Value → Option ℕ

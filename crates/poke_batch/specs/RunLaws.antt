@@ -36,11 +36,13 @@ MappedPartsAreSmall = (pickle name : List ℕ) (m : ℕ) (type : PokeType) (leve
 
 -- The bytes that were written are a text in JSON of the part at a path of a value. If the file's bits are known, that
 -- is the value that the type means on them; over any space it is one that fits.
-pub record WritesJson (pickle : List ℕ) (ask : Ask) (path : Option Path) (before : SpaceView) (out out' : Option (List ℕ)) : Type 0 where
+pub record WritesJson (pickle : List ℕ) (ask : Ask) (path : Option Path) (before : SpaceView)
+    (out out' : Option (List ℕ)) : Type 0 where
   pub type : PokeType
   pub asked : IsAsked pickle ask.name.now type
   pub mapped : Value
-  pub means : (bytes : List ℕ) → before.bytes ≡ Some bytes → HasAnswer bytes type ask.order ask.start ask.limit (Ok mapped)
+  pub means : (bytes : List ℕ) → before.bytes ≡ Some bytes →
+      HasAnswer bytes type ask.order ask.start ask.limit (Ok mapped)
   pub fits : Fits (8 * before.len) type no_values ask.start mapped
   pub part : Value
   pub found : part_at path mapped ≡ Some part
@@ -50,28 +52,37 @@ pub record WritesJson (pickle : List ℕ) (ask : Ask) (path : Option Path) (befo
 
 -- a mapping in JSON that is done wrote the value that was mapped
 abbrev pub MappedJsonReadsBack : Type 0
-MappedJsonReadsBack = (pickle : List ℕ) (ask : Ask) (before after : SpaceView) (status : Status) (out out' err err' : Option (List ℕ))
-    → ask.mode ≡ mode.Json → status ≡ Done → Says (MapsAs pickle ask before after) status out out' err err' → WritesJson pickle ask None before out out'
+MappedJsonReadsBack =
+    (pickle : List ℕ) (ask : Ask) (before after : SpaceView) (status : Status) (out out' err err' : Option (List ℕ))
+    → ask.mode ≡ mode.Json → status ≡ Done → Says (MapsAs pickle ask before after) status out out' err err'
+    → WritesJson pickle ask None before out out'
 
 -- and under terms in the plain style, without a look and a selection, the part that they request
 abbrev pub PartJsonReadsBack : Type 0
-PartJsonReadsBack = (pickle : List ℕ) (ask : Ask) (terms : Terms) (before after : SpaceView) (status : Status) (out out' err err' : Option (List ℕ))
-    → ask.mode ≡ mode.Json → terms.style ≡ plain → terms.look ≡ None → terms.selection ≡ None → status ≡ Done → Says (MapsUnder pickle ask terms before after) status out out' err err' → WritesJson pickle ask terms.part before out out'
+PartJsonReadsBack = (pickle : List ℕ) (ask : Ask) (terms : Terms) (before after : SpaceView) (status : Status)
+    (out out' err err' : Option (List ℕ))
+    → ask.mode ≡ mode.Json → terms.style ≡ plain → terms.look ≡ None → terms.selection ≡ None → status ≡ Done
+    → Says (MapsUnder pickle ask terms before after) status out out' err err'
+    → WritesJson pickle ask terms.part before out out'
 
 -- the JSON value of a part of a mapped value in a style, by the types of a table
 abbrev pub part_json : Table → TypeId → Terms → (mapped part : Value) → Json
 part_json table id terms mapped part =
-    styled_json_of terms.style (with_chars terms.style.chars (nodes_of table) (char_node_of table) (node_at (nodes_of table) terms.part (Some id.node) mapped) part)
+    styled_json_of terms.style (with_chars terms.style.chars (nodes_of table) (char_node_of table)
+    (node_at (nodes_of table) terms.part (Some id.node) mapped) part)
 
--- The same as `WritesJson` in the style of terms: the text reads as the part in that style, by a table that has the type.
-pub record WritesStyledJson (pickle : List ℕ) (ask : Ask) (terms : Terms) (before : SpaceView) (out out' : Option (List ℕ)) : Type 0 where
+-- The same as `WritesJson` in the style of terms: the text reads as the part in that style, by a table that has the
+-- type.
+pub record WritesStyledJson (pickle : List ℕ) (ask : Ask) (terms : Terms) (before : SpaceView)
+    (out out' : Option (List ℕ)) : Type 0 where
   pub type : PokeType
   pub asked : IsAsked pickle ask.name.now type
   pub table : Table
   pub id : TypeId
   pub named : type_named table id ≡ type
   pub mapped : Value
-  pub means : (bytes : List ℕ) → before.bytes ≡ Some bytes → HasAnswer bytes type ask.order ask.start ask.limit (Ok mapped)
+  pub means : (bytes : List ℕ) → before.bytes ≡ Some bytes →
+      HasAnswer bytes type ask.order ask.start ask.limit (Ok mapped)
   pub fits : Fits (8 * before.len) type no_values ask.start mapped
   pub part : Value
   pub found : part_at terms.part mapped ≡ Some part
@@ -81,16 +92,23 @@ pub record WritesStyledJson (pickle : List ℕ) (ask : Ask) (terms : Terms) (bef
 
 -- in every style, without a selection, of a space of fewer than 2^60 bytes, as each space is
 abbrev pub StyledPartJsonReadsBack : Type 0
-StyledPartJsonReadsBack = (pickle : List ℕ) (ask : Ask) (terms : Terms) (before after : SpaceView) (status : Status) (out out' err err' : Option (List ℕ))
-    → ask.mode ≡ mode.Json → terms.look ≡ None → terms.selection ≡ None → before.len < 2 ^ 60 → status ≡ Done → Says (MapsUnder pickle ask terms before after) status out out' err err' → WritesStyledJson pickle ask terms before out out'
+StyledPartJsonReadsBack = (pickle : List ℕ) (ask : Ask) (terms : Terms) (before after : SpaceView) (status : Status)
+    (out out' err err' : Option (List ℕ))
+    → ask.mode ≡ mode.Json → terms.look ≡ None → terms.selection ≡ None → before.len < 2 ^ 60 → status ≡ Done
+    → Says (MapsUnder pickle ask terms before after) status out out' err err'
+    → WritesStyledJson pickle ask terms before out out'
 
 -- a path leads to one part, or to none, whether it is a pattern or a path
 abbrev pub PathsLeadToOnePart : Type 0
-PathsLeadToOnePart = (nodes : List Node) (path : Path) (part : Part) → parts_through nodes (map Exact path.steps.items) part ≡ path_part nodes path part ∷ []
+PathsLeadToOnePart = (nodes : List Node) (path : Path) (part : Part) →
+    parts_through nodes (map Exact path.steps.items) part ≡ path_part nodes path part ∷ []
 
--- in flat and in JSON the cell of a part that is there is what the request of this part alone prints, but for the line feed
--- at its end
+-- in flat and in JSON the cell of a part that is there is what the request of this part alone prints, but for the line
+-- feed at its end
 abbrev pub CellsAreParts : Type 0
 CellsAreParts = (table : Table) (id : TypeId) (ask : Ask) (terms : Terms) (path : Path) (mapped part : Value)
-    → (ask.mode ≡ mode.Flat) ⊎ (ask.mode ≡ mode.Json) → terms.look ≡ None → terms.selection ≡ None → terms.part ≡ Some path → part_at (Some path) mapped ≡ Some part
-    → cell_of (nodes_of table) (char_node_of table) terms.style ask.mode (path_part (nodes_of table) path (record { node = Some id.node; value = mapped })) ++ codes "\n" ≡ part_text table id ask terms mapped part
+    → (ask.mode ≡ mode.Flat) ⊎ (ask.mode ≡ mode.Json) → terms.look ≡ None → terms.selection ≡ None
+    → terms.part ≡ Some path → part_at (Some path) mapped ≡ Some part
+    → cell_of (nodes_of table) (char_node_of table) terms.style ask.mode
+    (path_part (nodes_of table) path (record { node = Some id.node; value = mapped })) ++ codes "\n"
+    ≡ part_text table id ask terms mapped part

@@ -30,14 +30,18 @@ types_text n = bound_line (codes "types ") (Some n)
 
 -- what a check prints: how many types an accepted pickle declares, or why it is refused
 pub data ChecksAs (pickle : List ℕ) : Saying → Type 0 where
-  accepted : {declarations : List DeclarationTree} {types : Names} → IsAccepted pickle declarations types → ChecksAs pickle (Text (types_text (length declarations)))
+  accepted : {declarations : List DeclarationTree} {types : Names} → IsAccepted pickle declarations types →
+      ChecksAs pickle (Text (types_text (length declarations)))
   refused : {refusal : Refusal} → Refuses pickle refusal → ChecksAs pickle (refusal_saying refusal)
 
 -- what is printed for the bounds of a type of a pickle, over so many bits
 pub data BoundsAs (pickle name : List ℕ) (bits : ℕ) : Saying → Type 0 where
-  bounds : {declarations : List DeclarationTree} {types : Names} {type : PokeType} (steps slots : Option ℕ) → IsAccepted pickle declarations types → find_type name types ≡ Some type
-      → IsBound steps (cost type bits) → IsBound slots (room type bits) → BoundsAs pickle name bits (Text (bound_text steps slots))
-  no_such_type : {declarations : List DeclarationTree} {types : Names} → IsAccepted pickle declarations types → find_type name types ≡ None
+  bounds : {declarations : List DeclarationTree} {types : Names} {type : PokeType} (steps slots : Option ℕ)
+      → IsAccepted pickle declarations types → find_type name types ≡ Some type
+      → IsBound steps (cost type bits) → IsBound slots (room type bits)
+      → BoundsAs pickle name bits (Text (bound_text steps slots))
+  no_such_type : {declarations : List DeclarationTree} {types : Names} → IsAccepted pickle declarations types
+      → find_type name types ≡ None
       → BoundsAs pickle name bits (Line Refused (refused_line (codes "NoSuchType")))
   refused_bounds : {refusal : Refusal} → Refuses pickle refusal → BoundsAs pickle name bits (refusal_saying refusal)
 
@@ -48,8 +52,10 @@ pub record IsAsked (pickle name : List ℕ) (type : PokeType) : Type 0 where
   pub accepted : IsAccepted pickle declarations types
   pub found : find_type name types ≡ Some type
 
--- the answer of a type from the bit `start` of a file's bytes on, under a limit of steps, in some steps and with some values made
-pub record HasAnswer (bytes : List ℕ) (type : PokeType) (order : Order) (start limit : ℕ) (answer : Result Value FaultAt) : Type 0 where
+-- the answer of a type from the bit `start` of a file's bytes on, under a limit of steps, in some steps and with some
+-- values made
+pub record HasAnswer (bytes : List ℕ) (type : PokeType) (order : Order) (start limit : ℕ)
+    (answer : Result Value FaultAt) : Type 0 where
   pub steps : ℕ
   pub made : ℕ
   pub means : Answer (bits_of bytes) type order start limit answer steps made
@@ -61,17 +67,20 @@ pub data MapsAs (pickle : List ℕ) (ask : Ask) (before after : SpaceView) : Say
       → ((bytes : List ℕ) → before.bytes ≡ Some bytes → HasAnswer bytes type ask.order ask.start ask.limit (Ok mapped))
       → Fits (8 * before.len) type no_values ask.start mapped
       → MapsAs pickle ask before after (Text (printed ask.mode mapped))
-  -- the fault that the type means there; over any space the fault of a run on the numbers that were read, and Limit only
-  -- if the type can take more steps than the limit
-  stops : {type : PokeType} {kind : MapFaultKind} {at : ℕ} → IsAsked pickle ask.name.now type → kind ≢ fault.Device → kind ≢ fault.Memory
-      → ((bytes : List ℕ) → before.bytes ≡ Some bytes → HasAnswer bytes type ask.order ask.start ask.limit (Err (kind, at)))
+  -- the fault that the type means there; over any space the fault of a run on the numbers that were read, and Limit
+  -- only if the type can take more steps than the limit
+  stops : {type : PokeType} {kind : MapFaultKind} {at : ℕ} → IsAsked pickle ask.name.now type → kind ≢ fault.Device
+      → kind ≢ fault.Memory
+      → ((bytes : List ℕ) → before.bytes ≡ Some bytes
+      → HasAnswer bytes type ask.order ask.start ask.limit (Err (kind, at)))
       → RunsToFault before type ask.order ask.start ask.limit kind at
       → (kind ≡ fault.Limit → (at ≡ ask.start) × (ask.limit < cost type (8 * before.len)))
       → MapsAs pickle ask before after (Line Fault (fault_at_line (fault_kind kind) at))
   device : {type : PokeType} → IsAsked pickle ask.name.now type → HasRisen before.failures after.failures
       → MapsAs pickle ask before after (Line Outside (fault_line (codes "Device")))
   -- the pickle has no type of that name
-  unknown : {declarations : List DeclarationTree} {types : Names} → IsAccepted pickle declarations types → find_type ask.name.now types ≡ None
+  unknown : {declarations : List DeclarationTree} {types : Names} → IsAccepted pickle declarations types
+      → find_type ask.name.now types ≡ None
       → MapsAs pickle ask before after (Line Refused (refused_line (codes "NoSuchType")))
   refused_map : {refusal : Refusal} → Refuses pickle refusal → MapsAs pickle ask before after (refusal_saying refusal)
   no_memory : MapsAs pickle ask before after (Line Outside (fault_line (codes "Memory")))

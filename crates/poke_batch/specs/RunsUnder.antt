@@ -32,24 +32,29 @@ use Rattle.run_parts.specs.Told.{Saying, Text, Line}
 -- a text if it has no more bytes than the most, else a fault at the first bit of the mapping
 abbrev pub text_saying : (most : Option ℕ) (start : ℕ) → List ℕ → Saying
 text_saying None start text = Text text
-text_saying (Some most) start text = if nat_le (length text) most then Text text else Line Fault (fault_at_line (codes "Output") start)
+text_saying (Some most) start text =
+    if nat_le (length text) most then Text text else Line Fault (fault_at_line (codes "Output") start)
 
 -- whether a value must end with the last bit of its file, and ends before that
 abbrev pub is_left : (whole : Bool) (end bits : ℕ) → Bool
 is_left whole end bits = whole && nat_lt end bits
 
 -- what is printed of the requested part, if the value has it and it has the parts that are selected
-abbrev pub part_saying : Ask → (most : Option ℕ) → (has : Value → Bool) → (text : Value → List ℕ) → Option Value → Saying
+abbrev pub part_saying : Ask → (most : Option ℕ) → (has : Value → Bool) → (text : Value → List ℕ) →
+    Option Value → Saying
 part_saying ask most has text None = Line Fault (fault_line (codes "NoSuchPart"))
-part_saying ask most has text (Some part) = if has part then text_saying most ask.start (text part) else Line Fault (fault_line (codes "NoSuchPart"))
+part_saying ask most has text (Some part) =
+    if has part then text_saying most ask.start (text part) else Line Fault (fault_line (codes "NoSuchPart"))
 
 -- the requested part of a value that has a type of a table
 abbrev pub requested : Table → TypeId → Terms → (value part : Value) → Part
-requested table id terms value part = record { node = node_at (nodes_of table) terms.part (Some id.node) value; value = part }
+requested table id terms value part =
+    record { node = node_at (nodes_of table) terms.part (Some id.node) value; value = part }
 
 -- its text, and whether it has the parts that are selected
 abbrev pub part_text : Table → TypeId → Ask → Terms → (value part : Value) → List ℕ
-part_text table id ask terms value part = text_under (nodes_of table) (char_node_of table) terms ask.mode (requested table id terms value part)
+part_text table id ask terms value part =
+    text_under (nodes_of table) (char_node_of table) terms ask.mode (requested table id terms value part)
 
 abbrev pub part_has : Table → TypeId → Terms → (value part : Value) → Bool
 part_has table id terms value part = has_selected (nodes_of table) terms.selection (requested table id terms value part)
@@ -57,7 +62,8 @@ part_has table id terms value part = has_selected (nodes_of table) terms.selecti
 -- what is printed of a value that ends where it must
 abbrev pub kept_saying : Table → TypeId → Ask → Terms → Value → Saying
 kept_saying table id ask terms value =
-    part_saying ask terms.most_output (part_has table id terms value) (part_text table id ask terms value) (part_at terms.part value)
+    part_saying ask terms.most_output (part_has table id terms value) (part_text table id ask terms value)
+    (part_at terms.part value)
 
 -- what is printed of a value mapped from a file of so many bits: the first term that it fails to meet, or its text
 abbrev pub value_saying : Table → TypeId → Ask → Terms → (bits : ℕ) → Value → Saying
@@ -73,13 +79,15 @@ pub data SaysIt (saying : Saying) : Saying → Type 0 where
 -- so many slots of each kind are too few for what a mapping stores on the file's bits, if these are known
 pub record AreTooFew (most : ℕ) (type : PokeType) (ask : Ask) (space : SpaceView) : Type 0 where
   pub lack : (bytes : List ℕ) → space.bytes ≡ Some bytes
-      → KeepsBy (λ state. IsWithin state (each_of most)) false (bits_of bytes) (plan (8 * space.len) type ask.order no_values ask.start) ask.limit no_state → ⊥
+      → KeepsBy (λ state. IsWithin state (each_of most)) false (bits_of bytes)
+      (plan (8 * space.len) type ask.order no_values ask.start) ask.limit no_state → ⊥
 
 -- what a mapping under terms prints
 pub data MapsUnder (pickle : List ℕ) (ask : Ask) (terms : Terms) (before after : SpaceView) : Saying → Type 0 where
   -- what the terms make of the value that the type means on the file's bits, if these are known; over any space, of one
   -- that fits; it is printed by a table that has the type
-  mapped_under : {type : PokeType} {mapped : Value} (table : Table) (id : TypeId) → type_named table id ≡ type → IsAsked pickle ask.name.now type
+  mapped_under : {type : PokeType} {mapped : Value} (table : Table) (id : TypeId) → type_named table id ≡ type
+      → IsAsked pickle ask.name.now type
       → ((bytes : List ℕ) → before.bytes ≡ Some bytes → HasAnswer bytes type ask.order ask.start ask.limit (Ok mapped))
       → Fits (8 * before.len) type no_values ask.start mapped
       → MapsUnder pickle ask terms before after (value_saying table id ask terms (8 * before.len) mapped)
@@ -88,7 +96,8 @@ pub data MapsUnder (pickle : List ℕ) (ask : Ask) (terms : Terms) (before after
       → MapsUnder pickle ask terms before after (Line status line)
   -- so many slots of each kind, fewer than the mapping's bound, don't suffice
   slots_under : {type : PokeType} {most : ℕ} → IsAsked pickle ask.name.now type → terms.most_slots ≡ Some most
-      → most < room type (8 * before.len) → AreTooFew most type ask before → MapsUnder pickle ask terms before after (Line Fault (fault_at_line (codes "Slots") ask.start))
+      → most < room type (8 * before.len) → AreTooFew most type ask before
+      → MapsUnder pickle ask terms before after (Line Fault (fault_at_line (codes "Slots") ask.start))
 
 -- a store for a mapping under terms: with a most it has exactly that capacity
 abbrev pub IsStoreOf : (most : Option ℕ) → Held → Type 0

@@ -65,8 +65,10 @@ places_if false places = None
 -- the places of the members to which a step leads that may lead to many: the elements of a span, or all fields
 abbrev pub places_of : PatternStep → Value → Option Places
 places_of (Exact step) value = None
-places_of (Elements span) value = places_if (is_array (label_of value)) (places_in span (member_count (members_of value)))
-places_of Fields value = places_if (has_fields (label_of value)) (record { from = 0; end = member_count (members_of value) })
+places_of (Elements span) value =
+    places_if (is_array (label_of value)) (places_in span (member_count (members_of value)))
+places_of Fields value =
+    places_if (has_fields (label_of value)) (record { from = 0; end = member_count (members_of value) })
 
 module _ (nodes : List Node) where
   -- the part that is at a place of another
@@ -75,10 +77,14 @@ module _ (nodes : List Node) where
 
   -- the part to which a step of a path leads, and that to which a path does
   abbrev pub step_part : Step → Part → Option Part
-  step_part step part = option_map (λ value. record { node = node_there nodes part.node part.value (place_of step part.value); value = value }) (step_to step part.value)
+  step_part step part = option_map
+      (λ value. record { node = node_there nodes part.node part.value (place_of step part.value); value = value })
+      (step_to step part.value)
 
   abbrev pub path_part : Path → Part → Option Part
-  path_part path part = option_map (λ value. record { node = node_from nodes path.steps.items part.node (Some part.value); value = value }) (part_of path.steps.items part.value)
+  path_part path part = option_map
+      (λ value. record { node = node_from nodes path.steps.items part.node (Some part.value); value = value })
+      (part_of path.steps.items part.value)
 
   -- what follows from the member at a place, if it is there
   abbrev pub at_member : {A : Type 0} → (follow : Part → List A) → Part → (place : ℕ) → Option Value → List A
@@ -88,7 +94,8 @@ module _ (nodes : List Node) where
   -- what follows from the members at so many places, from one on
   abbrev pub at_places : {A : Type 0} → (follow : Part → List A) → Part → (count place : ℕ) → List A
   at_places follow part zero place = []
-  at_places follow part (suc count) place = at_member follow part place (member_at (members_of part.value) place) ++ at_places follow part count (place + 1)
+  at_places follow part (suc count) place =
+      at_member follow part place (member_at (members_of part.value) place) ++ at_places follow part count (place + 1)
 
   -- a part that isn't there leads nowhere
   abbrev pub from_step : (follow : Part → List (Option Part)) → Option Part → List (Option Part)
@@ -205,7 +212,8 @@ module _ (nodes : List Node) (chars : Option ℕ) (look : Option Look) (style : 
   -- the lines of a part that is there: as it is printed alone, or the cells of a row
   abbrev pub there_lines : LineOf → Part → List ℕ
   there_lines OfPart part = text_in look style mode nodes chars part.node part.value
-  there_lines (OfRow columns) part = row_text mode (λ column. cell_of nodes chars style mode (path_part nodes column.path part)) columns
+  there_lines (OfRow columns) part =
+      row_text mode (λ column. cell_of nodes chars style mode (path_part nodes column.path part)) columns
 
   abbrev pub lines_of : LineOf → Option Part → List ℕ
   lines_of line None = absent_lines mode line
@@ -217,8 +225,10 @@ module _ (nodes : List Node) (chars : Option ℕ) (look : Option Look) (style : 
 
   -- what is printed of the parts of a part
   abbrev pub shape_text : Shape → Part → List ℕ
-  shape_text (shape.Parts patterns) part = each_text (λ pattern. pattern_lines OfPart part pattern.steps.items) patterns.items
-  shape_text (shape.Rows rows) part = header_text rows.header rows.columns.items ++ pattern_lines (OfRow rows.columns.items) part rows.pattern.steps.items
+  shape_text (shape.Parts patterns) part =
+      each_text (λ pattern. pattern_lines OfPart part pattern.steps.items) patterns.items
+  shape_text (shape.Rows rows) part = header_text rows.header rows.columns.items
+      ++ pattern_lines (OfRow rows.columns.items) part rows.pattern.steps.items
 
   abbrev pub selected_text : Option Selection → Part → List ℕ
   selected_text None part = text_in look style mode nodes chars part.node part.value
@@ -230,10 +240,12 @@ text_under nodes chars terms mode part = selected_text nodes chars terms.look te
 
 -- the same of a part beside its type, and its text without a selection
 abbrev pub typed_whole : Option Look → Style → Mode → Typed → List ℕ
-typed_whole look style mode typed = text_in look style mode (nodes_in (types_in typed)) (char_node_in (types_in typed)) (node_in typed) (mapped_in typed)
+typed_whole look style mode typed = text_in look style mode (nodes_in (types_in typed)) (char_node_in (types_in typed))
+    (node_in typed) (mapped_in typed)
 
 abbrev pub typed_text : Terms → Mode → Typed → List ℕ
-typed_text terms mode typed = text_under (nodes_in (types_in typed)) (char_node_in (types_in typed)) terms mode (part_in typed)
+typed_text terms mode typed =
+    text_under (nodes_in (types_in typed)) (char_node_in (types_in typed)) terms mode (part_in typed)
 
 -- ---- parts that are there
 
@@ -255,7 +267,8 @@ module _ (nodes : List Node) where
   has_parts absent.Fault shape part = has_shape shape part
   has_parts absent.Empty shape part = may_have nodes part.node shape
 
-  -- whether a part has all parts that are selected; where the absence of one is no fault, whether its type may have them
+  -- whether a part has all parts that are selected; where the absence of one is no fault, whether its type may have
+  -- them
   abbrev pub has_selected : Option Selection → Part → Bool
   has_selected None part = true
   has_selected (Some selection) part = has_parts selection.absent selection.shape part

@@ -101,7 +101,8 @@ lead_of (Some node) = To node
 
 -- whether a value of the type at a node may have the parts that are selected
 abbrev pub may_have : List Node → (node : Option ℕ) → Selected → Bool
-may_have nodes node (Parts patterns) = all_of (λ pattern. is_possible (pattern_lead nodes pattern.steps.items (lead_of node))) patterns.items
+may_have nodes node (Parts patterns) =
+    all_of (λ pattern. is_possible (pattern_lead nodes pattern.steps.items (lead_of node))) patterns.items
 may_have nodes node (Rows rows) =
     let row = pattern_lead nodes rows.pattern.steps.items (lead_of node) in
     is_possible row && all_of (λ column. is_possible (path_lead nodes column.path.steps.items row)) rows.columns.items

@@ -16,8 +16,8 @@ use Rattle.poke_batch.specs.Selected.{typed_text}
 abbrev pub run_type : TypeRun → PokeType
 run_type run = type_named run.table.now run.id
 
--- what is printed of a value of the type that is mapped from a file of so many bits, of one that ends where it must, and of
--- its requested part beside its type
+-- what is printed of a value of the type that is mapped from a file of so many bits, of one that ends where it must,
+-- and of its requested part beside its type
 abbrev pub run_saying : TypeRun → (bits : ℕ) → Value → Saying
 run_saying run bits value = value_saying run.table.now run.id run.ask.now run.terms.now bits value
 
@@ -30,11 +30,12 @@ run_text run part = typed_text run.terms.now run.ask.now.mode part
 abbrev pub run_text_saying : TypeRun → (most : Option ℕ) → Typed → Saying
 run_text_saying run most part = text_saying most run.ask.now.start (run_text run part)
 
--- what holds of all that a run may print over a space, from its view before to its view after, for each pickle that has the
--- type under the requested name
+-- what holds of all that a run may print over a space, from its view before to its view after, for each pickle that has
+-- the type under the requested name
 abbrev pub ForPickles : TypeRun → (before after : SpaceView) → (Holds : (Saying → Type 0) → Type 0) → Type 0
 ForPickles run before after Holds =
-    (pickle : List ℕ) → IsAsked pickle run.ask.now.name.now (run_type run) → Holds (MapsUnder pickle run.ask.now run.terms.now before after)
+    (pickle : List ℕ) → IsAsked pickle run.ask.now.name.now (run_type run) →
+    Holds (MapsUnder pickle run.ask.now run.terms.now before after)
 
 -- so the run ended, and wrote what is right
 abbrev pub EndsRun : TypeRun → (before after : SpaceView) → Outcome → (old new : Option (List ℕ)) → Type 0

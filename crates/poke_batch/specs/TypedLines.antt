@@ -25,7 +25,8 @@ typed_cell_of style mode (Some part) = typed_cell style mode part
 abbrev pub typed_path_cell : Style → Mode → Option Typed → Path → List ℕ
 typed_path_cell style mode None path = no_cell mode
 typed_path_cell style mode (Some row) path =
-    cell_of (nodes_in (types_in row)) (char_node_in (types_in row)) style mode (path_part (nodes_in (types_in row)) path (part_in row))
+    cell_of (nodes_in (types_in row)) (char_node_in (types_in row)) style mode
+    (path_part (nodes_in (types_in row)) path (part_in row))
 
 abbrev pub typed_row_cell : Style → Mode → Option Typed → Column → List ℕ
 typed_row_cell style mode row column = typed_path_cell style mode row column.path
@@ -33,16 +34,19 @@ typed_row_cell style mode row column = typed_path_cell style mode row column.pat
 -- the lines of a part, if it is there
 abbrev pub typed_lines : Option Look → Style → Mode → LineOf → Option Typed → List ℕ
 typed_lines look style mode line None = absent_lines mode line
-typed_lines look style mode line (Some part) = there_lines (nodes_in (types_in part)) (char_node_in (types_in part)) look style mode line (part_in part)
+typed_lines look style mode line (Some part) =
+    there_lines (nodes_in (types_in part)) (char_node_in (types_in part)) look style mode line (part_in part)
 
--- the lines of the parts to which a pattern leads, of those to which it leads from so many members on, and of those to which
--- many patterns lead
+-- the lines of the parts to which a pattern leads, of those to which it leads from so many members on, and of those to
+-- which many patterns lead
 module _ (look : Option Look) (style : Style) (mode : Mode) where
   abbrev pub typed_pattern : LineOf → Typed → List PatternStep → List ℕ
-  typed_pattern line part steps = pattern_lines (nodes_in (types_in part)) (char_node_in (types_in part)) look style mode line (part_in part) steps
+  typed_pattern line part steps =
+      pattern_lines (nodes_in (types_in part)) (char_node_in (types_in part)) look style mode line (part_in part) steps
 
   abbrev pub typed_members : LineOf → Typed → List PatternStep → (count place : ℕ) → List ℕ
-  typed_members line part steps count place = each_text (lines_of (nodes_in (types_in part)) (char_node_in (types_in part)) look style mode line)
+  typed_members line part steps count place =
+      each_text (lines_of (nodes_in (types_in part)) (char_node_in (types_in part)) look style mode line)
       (at_places (nodes_in (types_in part)) (parts_through (nodes_in (types_in part)) steps) (part_in part) count place)
 
   -- the same where the part, or the places, may be absent
@@ -59,9 +63,11 @@ module _ (look : Option Look) (style : Style) (mode : Mode) where
 
   -- what is printed of the parts of a part
   abbrev pub typed_shape : Shape → Typed → List ℕ
-  typed_shape shape part = shape_text (nodes_in (types_in part)) (char_node_in (types_in part)) look style mode shape (part_in part)
+  typed_shape shape part =
+      shape_text (nodes_in (types_in part)) (char_node_in (types_in part)) look style mode shape (part_in part)
 
--- whether a part has all parts to which a pattern leads, from members on, and where the part, or the places, may be absent
+-- whether a part has all parts to which a pattern leads, from members on, and where the part, or the places, may be
+-- absent
 abbrev pub has_typed : LineOf → Typed → List PatternStep → Bool
 has_typed line part steps = has_pattern (nodes_in (types_in part)) line (part_in part) steps
 
@@ -82,7 +88,8 @@ has_typed_between line part steps places = has_typed_members line part steps (pl
 
 abbrev pub has_typed_places : LineOf → Typed → List PatternStep → Option Places → Bool
 has_typed_places line part steps None = false
-has_typed_places line part steps (Some places) = has_typed_members line part steps (places.end - places.from) places.from
+has_typed_places line part steps (Some places) =
+    has_typed_members line part steps (places.end - places.from) places.from
 
 -- ---- the same in a format
 
@@ -97,10 +104,12 @@ module _ (format : Format) where
   next_in part steps = typed_next format.look format.style format.mode (line_of format.line) part steps
 
   abbrev pub places_in : Typed → List PatternStep → Option Places → List ℕ
-  places_in part steps places = typed_places format.look format.style format.mode (line_of format.line) part steps places
+  places_in part steps places =
+      typed_places format.look format.style format.mode (line_of format.line) part steps places
 
   abbrev pub members_in : Typed → List PatternStep → Places → List ℕ
-  members_in part steps places = typed_members format.look format.style format.mode (line_of format.line) part steps (places.end - places.from) places.from
+  members_in part steps places = typed_members format.look format.style format.mode (line_of format.line) part steps
+      (places.end - places.from) places.from
 
   abbrev pub patterns_in : Typed → List Pattern → List ℕ
   patterns_in part patterns = typed_patterns format.look format.style format.mode (line_of format.line) part patterns

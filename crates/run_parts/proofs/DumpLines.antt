@@ -43,7 +43,8 @@ length_hex_of n = length-map (digits_of 16 n) hex_digit
 
 hex_of_step : (n : ℕ) → 0 < n → hex_of n ≡ hex_of (n / 16) ++ hex_digit (n % 16) ∷ []
 unfolding hex_of
-hex_of_step n h = ap (map hex_digit) (digits_of_step 16 n (omega arith) h) ∙ map-append hex_digit (digits_of 16 (n / 16)) (n % 16 ∷ [])
+hex_of_step n h = ap (map hex_digit) (digits_of_step 16 n (omega arith) h)
+    ∙ map-append hex_digit (digits_of 16 (n / 16)) (n % 16 ∷ [])
 
 hex_of_zero : hex_of 0 ≡ []
 unfolding hex_of
@@ -55,13 +56,18 @@ unfolding hex_digits
 padded zero n h = let e : n ≡ 0 = omega arith in rw (e, hex_of_zero) refl
 padded (suc k) zero h =
     let zeros : hex_digits k 0 ≡ replicate (k - length (hex_of 0)) 48 ++ hex_of 0 = padded k 0 (pow_pos_16 k) in
-    let plain : replicate (k - length (hex_of 0)) 48 ++ hex_of 0 ≡ replicate k 48 = rw (hex_of_zero, sub_none k) (append-nil (replicate k 48)) in
-    ap (λ s. s ++ 48 ∷ []) (zeros ∙ plain) ∙ replicate_more k 48 ∙ rw (hex_of_zero, add-one, sub_none) (sym (append-nil (replicate (suc k) 48)))
+    let plain : replicate (k - length (hex_of 0)) 48 ++ hex_of 0 ≡ replicate k 48 =
+    rw (hex_of_zero, sub_none k) (append-nil (replicate k 48)) in
+    ap (λ s. s ++ 48 ∷ []) (zeros ∙ plain) ∙ replicate_more k 48
+    ∙ rw (hex_of_zero, add-one, sub_none) (sym (append-nil (replicate (suc k) 48)))
 padded (suc k) (suc m) h =
-    let low : suc m / 16 < 16 ^ k = div_below (suc m) 16 (16 ^ k) (omega arith) (subst (λ x. suc m < x) (pow-suc 16 k) h) in
+    let low : suc m / 16 < 16 ^ k =
+    div_below (suc m) 16 (16 ^ k) (omega arith) (subst (λ x. suc m < x) (pow-suc 16 k) h) in
     let front = padded k (suc m / 16) low in
-    let split : hex_of (suc m) ≡ hex_of (suc m / 16) ++ hex_digit (suc m % 16) ∷ [] = hex_of_step (suc m) (omega arith) in
-    let len : length (hex_of (suc m)) ≡ length (hex_of (suc m / 16)) + 1 = ap length split ∙ length-append (hex_of (suc m / 16)) (hex_digit (suc m % 16) ∷ []) in
+    let split : hex_of (suc m) ≡ hex_of (suc m / 16) ++ hex_digit (suc m % 16) ∷ [] =
+    hex_of_step (suc m) (omega arith) in
+    let len : length (hex_of (suc m)) ≡ length (hex_of (suc m / 16)) + 1 =
+    ap length split ∙ length-append (hex_of (suc m / 16)) (hex_digit (suc m % 16) ∷ []) in
     let same : suc k - length (hex_of (suc m)) ≡ k - length (hex_of (suc m / 16)) = omega arith in
     ap (λ s. s ++ hex_digit (suc m % 16) ∷ []) front
     ∙ append_assoc (replicate (k - length (hex_of (suc m / 16))) 48) (hex_of (suc m / 16)) (hex_digit (suc m % 16) ∷ [])
@@ -73,7 +79,8 @@ length_needed : (count n : ℕ) → n < 16 ^ count → (0 < count → 16 ^ (coun
 length_needed count n fits needed =
     let most : length (digits_of 16 n) ≤ count = length-digits_of-le 16 count n (omega arith) fits in
     let least : n < 16 ^ length (digits_of 16 n) =
-    subst (λ x. x < 16 ^ length (digits_of 16 n)) (number_digits_of 16 n (omega arith)) (number_lt 16 (digits_of 16 n) (all_below_base_digits_of 16 n (omega arith))) in
+    subst (λ x. x < 16 ^ length (digits_of 16 n)) (number_digits_of 16 n (omega arith))
+    (number_lt 16 (digits_of 16 n) (all_below_base_digits_of 16 n (omega arith))) in
     length_hex_of n ∙ squeeze count (length (digits_of 16 n)) most (λ small.
     let up : 16 ^ length (digits_of 16 n) ≤ 16 ^ (count - 1) = pow-le-pow_right {n = 16} (omega arith) (omega arith) in
     let low : 16 ^ (count - 1) ≤ n = needed (omega arith) in
@@ -83,43 +90,57 @@ length_needed count n fits needed =
     squeeze a b h k = omega arith
 
 -- the digits of a place, by their count
-pub place_is : (count place : ℕ) → 8 ≤ count → place < 2 ^ (4 * count) → (8 < count → 2 ^ (4 * (count - 1)) ≤ place) → hex_digits count place ≡ place_text place
+pub place_is : (count place : ℕ) → 8 ≤ count → place < 2 ^ (4 * count) → (8 < count → 2 ^ (4 * (count - 1)) ≤ place) →
+    hex_digits count place ≡ place_text place
 unfolding place_text hex_of
 place_is count place least fits needed =
     let fits' : place < 16 ^ count = subst (λ x. place < x) (pow_of_16 count) fits in
     let long : 8 < count → length (hex_of place) ≡ count =
     λ h. length_needed count place fits' (λ _. subst (λ x. x ≤ place) (pow_of_16 (count - 1)) (needed h)) in
-    let zeros : count - length (hex_of place) ≡ 8 - length (hex_of place) = same_zeros count (length (hex_of place)) least long in
+    let zeros : count - length (hex_of place) ≡ 8 - length (hex_of place) =
+    same_zeros count (length (hex_of place)) least long in
     padded count place fits' ∙ ap (λ n. replicate n 48 ++ hex_of place) zeros
   where
     same_zeros : (count n : ℕ) → 8 ≤ count → (8 < count → n ≡ count) → count - n ≡ 8 - n
     same_zeros count n least long = grind arith
 
 -- one digit more
-pub digit_more : (place count i : ℕ) → i < count → hex_digits (i + 1) (place / 2 ^ (4 * (count - (i + 1)))) ≡ hex_digits i (place / 2 ^ (4 * (count - i))) ++ hex_digit (bit_and (place / 2 ^ (4 * (count - 1 - i))) 15) ∷ []
+pub digit_more : (place count i : ℕ) → i < count → hex_digits (i + 1) (place / 2 ^ (4 * (count - (i + 1))))
+    ≡ hex_digits i (place / 2 ^ (4 * (count - i))) ++ hex_digit (bit_and (place / 2 ^ (4 * (count - 1 - i))) 15) ∷ []
 unfolding hex_digits
 digit_more place count i h =
     let at : count - suc i ≡ count - 1 - i = omega arith in
     let up : 4 * (count - suc i) + 4 ≡ 4 * (count - i) = omega arith in
-    let front : place / 2 ^ (4 * (count - suc i)) / 16 ≡ place / 2 ^ (4 * (count - i)) = shr-shr place (4 * (count - suc i)) 4 ∙ ap (λ k. place / 2 ^ k) up in
-    let last : place / 2 ^ (4 * (count - suc i)) % 16 ≡ bit_and (place / 2 ^ (4 * (count - 1 - i))) 15 = sym (and_mask (place / 2 ^ (4 * (count - suc i))) 4) ∙ ap (λ k. bit_and (place / 2 ^ (4 * k)) 15) at in
+    let front : place / 2 ^ (4 * (count - suc i)) / 16 ≡ place / 2 ^ (4 * (count - i)) =
+    shr-shr place (4 * (count - suc i)) 4 ∙ ap (λ k. place / 2 ^ k) up in
+    let last : place / 2 ^ (4 * (count - suc i)) % 16 ≡ bit_and (place / 2 ^ (4 * (count - 1 - i))) 15 =
+    sym (and_mask (place / 2 ^ (4 * (count - suc i))) 4) ∙ ap (λ k. bit_and (place / 2 ^ (4 * k)) 15) at in
     rw (add-one, front, last) refl
 
 -- a column after what stands before it
-pub column_some : (old bytes : List ℕ) (i byte high low : ℕ) → slice_get bytes i ≡ Some byte → high ≡ hex_digit (byte / 16) → low ≡ hex_digit (byte % 16) → old ++ gap i ++ high ∷ [] ++ low ∷ [] ≡ old ++ column bytes i
+pub column_some : (old bytes : List ℕ) (i byte high low : ℕ) → slice_get bytes i ≡ Some byte →
+    high ≡ hex_digit (byte / 16) → low ≡ hex_digit (byte % 16) →
+    old ++ gap i ++ high ∷ [] ++ low ∷ [] ≡ old ++ column bytes i
 column_some old bytes i byte high low e h l =
-    rw (e, h, l) (ap (λ s. s ++ hex_digit (byte % 16) ∷ []) (append_assoc old (gap i) (hex_digit (byte / 16) ∷ [])) ∙ append_assoc old (gap i ++ hex_digit (byte / 16) ∷ []) (hex_digit (byte % 16) ∷ []) ∙ ap (λ s. old ++ s) (append_assoc (gap i) (hex_digit (byte / 16) ∷ []) (hex_digit (byte % 16) ∷ [])))
+    rw (e, h, l) (ap (λ s. s ++ hex_digit (byte % 16) ∷ []) (append_assoc old (gap i) (hex_digit (byte / 16) ∷ []))
+    ∙ append_assoc old (gap i ++ hex_digit (byte / 16) ∷ []) (hex_digit (byte % 16) ∷ [])
+    ∙ ap (λ s. old ++ s) (append_assoc (gap i) (hex_digit (byte / 16) ∷ []) (hex_digit (byte % 16) ∷ [])))
 
-pub column_none : (old bytes : List ℕ) (i : ℕ) → slice_get bytes i ≡ None → old ++ gap i ++ 32 ∷ [] ++ 32 ∷ [] ≡ old ++ column bytes i
+pub column_none : (old bytes : List ℕ) (i : ℕ) → slice_get bytes i ≡ None →
+    old ++ gap i ++ 32 ∷ [] ++ 32 ∷ [] ≡ old ++ column bytes i
 column_none old bytes i e =
-    rw e (ap (λ s. s ++ 32 ∷ []) (append_assoc old (gap i) (32 ∷ [])) ∙ append_assoc old (gap i ++ 32 ∷ []) (32 ∷ []) ∙ ap (λ s. old ++ s) (append_assoc (gap i) (32 ∷ []) (32 ∷ [])))
+    rw e (ap (λ s. s ++ 32 ∷ []) (append_assoc old (gap i) (32 ∷ [])) ∙ append_assoc old (gap i ++ 32 ∷ []) (32 ∷ [])
+    ∙ ap (λ s. old ++ s) (append_assoc (gap i) (32 ∷ []) (32 ∷ [])))
 
 -- one column more
 pub range_more : (n : ℕ) → range_with_len 0 (n + 1) ≡ range_with_len 0 n ++ n ∷ []
-range_more n = sym (map-id (range_with_len 0 (n + 1))) ∙ map-range_with_len_more (λ x. x) 0 n n (omega arith) ∙ ap (λ s. s ++ n ∷ []) (map-id (range_with_len 0 n))
+range_more n = sym (map-id (range_with_len 0 (n + 1))) ∙ map-range_with_len_more (λ x. x) 0 n n (omega arith)
+    ∙ ap (λ s. s ++ n ∷ []) (map-id (range_with_len 0 n))
 
-pub flat_more : {A : Type 0} (f : ℕ → List A) (now was : List A) (n : ℕ) → now ≡ was ++ flat_map f (range_with_len 0 n) → now ++ f n ≡ was ++ flat_map f (range_with_len 0 (n + 1))
-flat_more f now was n e = ap (λ s. s ++ f n) e ∙ flat_map_more f was (range_with_len 0 n) n ∙ ap (λ s. was ++ flat_map f s) (sym (range_more n))
+pub flat_more : {A : Type 0} (f : ℕ → List A) (now was : List A) (n : ℕ) →
+    now ≡ was ++ flat_map f (range_with_len 0 n) → now ++ f n ≡ was ++ flat_map f (range_with_len 0 (n + 1))
+flat_more f now was n e = ap (λ s. s ++ f n) e ∙ flat_map_more f was (range_with_len 0 n) n
+    ∙ ap (λ s. was ++ flat_map f s) (sym (range_more n))
 
 pub no_digit : (n : ℕ) → [] ≡ hex_digits 0 n
 unfolding hex_digits
@@ -134,56 +155,77 @@ all_digits place count i e =
     none_left count = omega arith
 
 -- a line by its pieces
-pub line_is : (b c d e f g h : List ℕ) (place : ℕ) (bytes : List ℕ) → b ≡ place_text place → c ≡ b ++ 58 ∷ [] → d ≡ c ++ columns bytes → e ≡ d ++ 32 ∷ [] → f ≡ e ++ 32 ∷ [] → g ≡ f ++ map shown bytes → h ≡ g ++ 10 ∷ [] → h ≡ line_text place bytes
+pub line_is : (b c d e f g h : List ℕ) (place : ℕ) (bytes : List ℕ) → b ≡ place_text place → c ≡ b ++ 58 ∷ [] →
+    d ≡ c ++ columns bytes → e ≡ d ++ 32 ∷ [] → f ≡ e ++ 32 ∷ [] → g ≡ f ++ map shown bytes → h ≡ g ++ 10 ∷ [] →
+    h ≡ line_text place bytes
 unfolding line_text
 line_is b c d e f g h place bytes pb pc pd pe pf pg ph =
-    rw (ph, pg, pf, pe, pd, pc, pb) (ap (λ s. s ++ map shown bytes ++ 10 ∷ []) (append_assoc (place_text place ++ 58 ∷ [] ++ columns bytes) (32 ∷ []) (32 ∷ [])))
+    rw (ph, pg, pf, pe, pd, pc, pb) (ap (λ s. s ++ map shown bytes ++ 10 ∷ [])
+    (append_assoc (place_text place ++ 58 ∷ [] ++ columns bytes) (32 ∷ []) (32 ∷ [])))
 
 pub Appends-nil : (contents : Option (List ℕ)) → Appends contents contents []
 Appends-nil None = tt
 Appends-nil (Some xs) = sym (append-nil xs)
 
 -- a line is not empty, so nothing is a part of it
-pub line_part_none : (contents : Option (List ℕ)) (place : ℕ) (bytes : List ℕ) → AppendsPart contents contents (line_text place bytes)
+pub line_part_none : (contents : Option (List ℕ)) (place : ℕ) (bytes : List ℕ) →
+    AppendsPart contents contents (line_text place bytes)
 unfolding line_text
 line_part_none contents place bytes = record {
   taken = [];
   rest = line_text place bytes;
   appends = Appends-nil contents;
   whole = refl;
-  more = omega (arith, length-append (place_text place ++ codes ":" ++ columns bytes ++ codes "  " ++ map shown bytes) (10 ∷ []));
+  more = omega (
+    arith,
+    length-append (place_text place ++ codes ":" ++ columns bytes ++ codes "  " ++ map shown bytes) (10 ∷ []),
+  );
 }
 
 take_twice : (m n : ℕ) (xs : List ℕ) → take m (take n xs) ≡ take (min m n) xs
 take_twice m n xs = elim (cases_lt m n) [
   | inl h ↦ take-take m n xs (omega arith) ∙ ap (λ k. take k xs) (sym (min-eq_left (omega arith)))
-  | inr h ↦ take_all m (take n xs) (omega (arith, length-take n xs)) ∙ ap (λ k. take k xs) (sym (min-eq_right (omega arith)))
+  | inr h ↦
+      take_all m (take n xs) (omega (arith, length-take n xs)) ∙ ap (λ k. take k xs) (sym (min-eq_right (omega arith)))
 ]
 
 -- the bytes of a line, and of the range that it is a line of
-line_bytes : (all : List ℕ) (from size i : ℕ) → take 16 (drop (16 * i) (take size (drop from all))) ≡ take (min 16 (min (from + size) (length all) - (from + 16 * i))) (drop (from + 16 * i) all)
+line_bytes : (all : List ℕ) (from size i : ℕ) → take 16 (drop (16 * i) (take size (drop from all)))
+    ≡ take (min 16 (min (from + size) (length all) - (from + 16 * i))) (drop (from + 16 * i) all)
 line_bytes all from size i =
     let rest = drop (from + 16 * i) all in
-    let cut : drop (16 * i) (take size (drop from all)) ≡ take (size - 16 * i) rest = sym (between_is (drop from all) (16 * i) size) ∙ ap (take (size - 16 * i)) (drop-drop (16 * i) from all) in
-    let bound : min (min 16 (size - 16 * i)) (length rest) ≡ min 16 (min (from + size) (length all) - (from + 16 * i)) = ap (min (min 16 (size - 16 * i))) (length-drop (from + 16 * i) all) ∙ least size from i (length all) in
-    ap (take 16) cut ∙ take_twice 16 (size - 16 * i) rest ∙ sym (take_min (min 16 (size - 16 * i)) rest) ∙ ap (λ k. take k rest) bound
+    let cut : drop (16 * i) (take size (drop from all)) ≡ take (size - 16 * i) rest =
+    sym (between_is (drop from all) (16 * i) size) ∙ ap (take (size - 16 * i)) (drop-drop (16 * i) from all) in
+    let bound : min (min 16 (size - 16 * i)) (length rest) ≡ min 16 (min (from + size) (length all) - (from + 16 * i)) =
+    ap (min (min 16 (size - 16 * i))) (length-drop (from + 16 * i) all) ∙ least size from i (length all) in
+    ap (take 16) cut ∙ take_twice 16 (size - 16 * i) rest ∙ sym (take_min (min 16 (size - 16 * i)) rest)
+    ∙ ap (λ k. take k rest) bound
   where
-    least : (size from i len : ℕ) → min (min 16 (size - 16 * i)) (len - (from + 16 * i)) ≡ min 16 (min (from + size) len - (from + 16 * i))
+    least : (size from i len : ℕ) →
+        min (min 16 (size - 16 * i)) (len - (from + 16 * i)) ≡ min 16 (min (from + size) len - (from + 16 * i))
     least size from i len = omega arith
 
-pub line_piece : (all : List ℕ) (from size i end count : ℕ) → end ≡ min (from + size) (length all) → count ≡ min (end - (from + 16 * i)) 16 → slice_range all (from + 16 * i) (from + 16 * i + count) ≡ take 16 (drop (16 * i) (take size (drop from all)))
+pub line_piece : (all : List ℕ) (from size i end count : ℕ) → end ≡ min (from + size) (length all) →
+    count ≡ min (end - (from + 16 * i)) 16 →
+    slice_range all (from + 16 * i) (from + 16 * i + count) ≡ take 16 (drop (16 * i) (take size (drop from all)))
 line_piece all from size i end count e n =
-    let same : from + 16 * i + count - (from + 16 * i) ≡ min 16 (min (from + size) (length all) - (from + 16 * i)) = omega arith in
+    let same : from + 16 * i + count - (from + 16 * i) ≡ min 16 (min (from + size) (length all) - (from + 16 * i)) =
+    omega arith in
     ap (λ k. take k (drop (from + 16 * i) all)) same ∙ sym (line_bytes all from size i)
 
 -- the lines of a range, by their number
-lines_counted : (place n : ℕ) (bytes : List ℕ) → n ≡ (length bytes + 15) / 16 → flat_map (λ line. line_text (place + 16 * line) (take 16 (drop (16 * line) bytes))) (range_with_len 0 n) ≡ lines_text place bytes
+lines_counted : (place n : ℕ) (bytes : List ℕ) → n ≡ (length bytes + 15) / 16 →
+    flat_map (λ line. line_text (place + 16 * line) (take 16 (drop (16 * line) bytes))) (range_with_len 0 n)
+    ≡ lines_text place bytes
 unfolding lines_text
-lines_counted place n bytes e = ap (λ k. flat_map (λ line. line_text (place + 16 * line) (take 16 (drop (16 * line) bytes))) (range_with_len 0 k)) e
+lines_counted place n bytes e =
+    ap (λ k. flat_map (λ line. line_text (place + 16 * line) (take 16 (drop (16 * line) bytes))) (range_with_len 0 k)) e
 
-pub line_count : (all : List ℕ) (from size end n : ℕ) → end ≡ min (from + size) (length all) → n ≡ (end - from) / 16 + min 1 ((end - from) % 16) → n ≡ (length (take size (drop from all)) + 15) / 16
+pub line_count : (all : List ℕ) (from size end n : ℕ) → end ≡ min (from + size) (length all) →
+    n ≡ (end - from) / 16 + min 1 ((end - from) % 16) → n ≡ (length (take size (drop from all)) + 15) / 16
 line_count all from size end n e h =
-    let len : length (take size (drop from all)) ≡ end - from = length-take size (drop from all) ∙ ap (min size) (length-drop from all) ∙ cut_length size from (length all) end e in
+    let len : length (take size (drop from all)) ≡ end - from =
+    length-take size (drop from all) ∙ ap (min size) (length-drop from all) ∙ cut_length size from (length all) end e in
     h ∙ rounded (end - from) ∙ ap (λ k. (k + 15) / 16) (sym len)
   where
     cut_length : (size from len end : ℕ) → end ≡ min (from + size) len → min size (len - from) ≡ end - from
@@ -192,19 +234,25 @@ line_count all from size end n e h =
     rounded : (n : ℕ) → n / 16 + min 1 (n % 16) ≡ (n + 15) / 16
     rounded n = omega arith
 
-flat_next : {A : Type 0} (f : ℕ → List A) (n : ℕ) → flat_map f (range_with_len 0 (n + 1)) ≡ flat_map f (range_with_len 0 n) ++ f n
+flat_next : {A : Type 0} (f : ℕ → List A) (n : ℕ) →
+    flat_map f (range_with_len 0 (n + 1)) ≡ flat_map f (range_with_len 0 n) ++ f n
 flat_next f n = sym (flat_more f (flat_map f (range_with_len 0 n)) [] n refl)
 
 -- a list by pieces, cut at one of them
-flat_cut : {A : Type 0} (f : ℕ → List A) (i d n : ℕ) → n ≡ i + 1 + d → (rest : List A) × (flat_map f (range_with_len 0 n) ≡ flat_map f (range_with_len 0 i) ++ f i ++ rest)
+flat_cut : {A : Type 0} (f : ℕ → List A) (i d n : ℕ) → n ≡ i + 1 + d →
+    (rest : List A) × (flat_map f (range_with_len 0 n) ≡ flat_map f (range_with_len 0 i) ++ f i ++ rest)
 flat_cut f i zero n e =
-    let last : n ≡ i + 1 = omega arith in
-    ([], ap (λ k. flat_map f (range_with_len 0 k)) last ∙ flat_next f i ∙ sym (append-nil (flat_map f (range_with_len 0 i) ++ f i)))
+    let last : n ≡ i + 1 = omega arith in (
+      [],
+      ap (λ k. flat_map f (range_with_len 0 k)) last ∙ flat_next f i
+          ∙ sym (append-nil (flat_map f (range_with_len 0 i) ++ f i)),
+    )
 flat_cut f i (suc d) n e =
     let last : n ≡ (i + 1 + d) + 1 = omega arith in
     let before = flat_cut f i d (i + 1 + d) refl in (
       before.0 ++ f (i + 1 + d),
-      ap (λ k. flat_map f (range_with_len 0 k)) last ∙ flat_next f (i + 1 + d) ∙ ap (λ s. s ++ f (i + 1 + d)) before.1 ∙ append_assoc (flat_map f (range_with_len 0 i) ++ f i) before.0 (f (i + 1 + d)),
+      ap (λ k. flat_map f (range_with_len 0 k)) last ∙ flat_next f (i + 1 + d) ∙ ap (λ s. s ++ f (i + 1 + d)) before.1
+          ∙ append_assoc (flat_map f (range_with_len 0 i) ++ f i) before.0 (f (i + 1 + d)),
     )
 
 -- the text of a line, of a range of bytes
@@ -219,26 +267,40 @@ pub no_line : (from size : ℕ) (all : List ℕ) → lines_begun from size all 0
 unfolding lines_begun
 no_line from size all = refl
 
-pub line_more : (a b c : Option (List ℕ)) (all : List ℕ) (from size i end count : ℕ) → end ≡ min (from + size) (length all) → count ≡ min (end - (from + 16 * i)) 16
-    → Appends a b (lines_begun from size all i) → Appends b c (line_text (from + 16 * i) (slice_range all (from + 16 * i) (from + 16 * i + count))) → Appends a c (lines_begun from size all (i + 1))
+pub line_more : (a b c : Option (List ℕ)) (all : List ℕ) (from size i end count : ℕ)
+    → end ≡ min (from + size) (length all) → count ≡ min (end - (from + 16 * i)) 16
+    → Appends a b (lines_begun from size all i)
+    → Appends b c (line_text (from + 16 * i) (slice_range all (from + 16 * i) (from + 16 * i + count)))
+    → Appends a c (lines_begun from size all (i + 1))
 unfolding lines_begun line_in
 line_more a b c all from size i end count e n h g =
     let piece = line_piece all from size i end count e n in
-    subst (λ s. Appends a c s) (sym (flat_next (line_in from size all) i)) (Appends-trans a b c _ _ h (subst (λ s. Appends b c (line_text (from + 16 * i) s)) piece g))
+    subst (λ s. Appends a c s) (sym (flat_next (line_in from size all) i))
+    (Appends-trans a b c _ _ h (subst (λ s. Appends b c (line_text (from + 16 * i) s)) piece g))
 
-lines_all : (all : List ℕ) (from size end n : ℕ) → end ≡ min (from + size) (length all) → n ≡ (end - from) / 16 + min 1 ((end - from) % 16) → lines_begun from size all n ≡ lines_text from (take size (drop from all))
+lines_all : (all : List ℕ) (from size end n : ℕ) → end ≡ min (from + size) (length all) →
+    n ≡ (end - from) / 16 + min 1 ((end - from) % 16) →
+    lines_begun from size all n ≡ lines_text from (take size (drop from all))
 unfolding lines_begun line_in
-lines_all all from size end n e h = lines_counted from n (take size (drop from all)) (line_count all from size end n e h)
+lines_all all from size end n e h =
+    lines_counted from n (take size (drop from all)) (line_count all from size end n e h)
 
-pub lines_done : (a b : Option (List ℕ)) (all : List ℕ) (from size end n i : ℕ) → end ≡ min (from + size) (length all) → n ≡ (end - from) / 16 + min 1 ((end - from) % 16) → i ≡ n
+pub lines_done : (a b : Option (List ℕ)) (all : List ℕ) (from size end n i : ℕ) → end ≡ min (from + size) (length all)
+    → n ≡ (end - from) / 16 + min 1 ((end - from) % 16) → i ≡ n
     → Appends a b (lines_begun from size all i) → Appends a b (lines_text from (take size (drop from all)))
-lines_done a b all from size end n i e h k g = subst (λ s. Appends a b s) (ap (lines_begun from size all) k ∙ lines_all all from size end n e h) g
+lines_done a b all from size end n i e h k g =
+    subst (λ s. Appends a b s) (ap (lines_begun from size all) k ∙ lines_all all from size end n e h) g
 
-pub line_failed : (a b c : Option (List ℕ)) (all : List ℕ) (from size i end count n : ℕ) → end ≡ min (from + size) (length all) → count ≡ min (end - (from + 16 * i)) 16 → n ≡ (end - from) / 16 + min 1 ((end - from) % 16) → i < n
-    → Appends a b (lines_begun from size all i) → AppendsPart b c (line_text (from + 16 * i) (slice_range all (from + 16 * i) (from + 16 * i + count))) → AppendsPart a c (lines_text from (take size (drop from all)))
+pub line_failed : (a b c : Option (List ℕ)) (all : List ℕ) (from size i end count n : ℕ)
+    → end ≡ min (from + size) (length all) → count ≡ min (end - (from + 16 * i)) 16
+    → n ≡ (end - from) / 16 + min 1 ((end - from) % 16) → i < n
+    → Appends a b (lines_begun from size all i)
+    → AppendsPart b c (line_text (from + 16 * i) (slice_range all (from + 16 * i) (from + 16 * i + count)))
+    → AppendsPart a c (lines_text from (take size (drop from all)))
 unfolding lines_begun line_in
 line_failed a b c all from size i end count n e m k lt h g =
     let piece = line_piece all from size i end count e m in
     let cut = flat_cut (line_in from size all) i (n - (i + 1)) n (omega arith) in
-    let part = part_first a c _ cut.0 (part_next a b c _ _ h (subst (λ s. AppendsPart b c (line_text (from + 16 * i) s)) piece g)) in
+    let part = part_first a c _ cut.0
+    (part_next a b c _ _ h (subst (λ s. AppendsPart b c (line_text (from + 16 * i) s)) piece g)) in
     subst (λ s. AppendsPart a c s) (sym cut.1 ∙ lines_all all from size end n e k) part

@@ -61,7 +61,8 @@ outcome_lines (outcome.Output at) = refl
 outcome_lines (outcome.Failed why) = refl
 
 -- the object of an outcome is made of its exit status, name and place
-pub object_made : (ended : Outcome) → ended ≢ outcome.Done → outcome_json ended ≡ report_json (outcome_status ended) (outcome_kind ended) (outcome_place ended)
+pub object_made : (ended : Outcome) → ended ≢ outcome.Done →
+    outcome_json ended ≡ report_json (outcome_status ended) (outcome_kind ended) (outcome_place ended)
 object_made outcome.Done other = absurd (other refl)
 object_made (outcome.Refused why) other = refl
 object_made outcome.NoSuchType other = refl
@@ -73,7 +74,8 @@ object_made outcome.NoSuchPart other = refl
 object_made (outcome.Output at) other = refl
 object_made (outcome.Failed why) other = refl
 
-pub members_made : (ended : Outcome) → ended ≢ outcome.Done → outcome_members ended ≡ report_members (outcome_status ended) (outcome_kind ended) (outcome_place ended)
+pub members_made : (ended : Outcome) → ended ≢ outcome.Done →
+    outcome_members ended ≡ report_members (outcome_status ended) (outcome_kind ended) (outcome_place ended)
 members_made outcome.Done other = absurd (other refl)
 members_made (outcome.Refused why) other = refl
 members_made outcome.NoSuchType other = refl
@@ -99,24 +101,32 @@ keeps_none (Some xs) None h = absurd h
 keeps_none (Some xs) (Some ys) h = h ∙ append-nil xs
 
 -- what is told of a run that is done is nothing
-nothing_told : (status : Status) (err err' : Option (List ℕ)) → IsTold Done [] status err err' → (status ≡ Done) × Keeps err err'
+nothing_told : (status : Status) (err err' : Option (List ℕ)) → IsTold Done [] status err err' →
+    (status ≡ Done) × Keeps err err'
 nothing_told status err err' (inl whole) = (whole.0, keeps_none err err' whole.1)
 nothing_told status err err' (inr part) = absurd (no_part err err' part.1)
 
 -- a line, whole or in part
-up_to : (line : List ℕ) (status : Status) (err err' : Option (List ℕ)) → IsTold Outside line status err err' → (status ≡ Outside) × AppendsUpTo err err' line
-up_to line status err err' (inl whole) = (whole.0, record { taken = line; rest = []; appends = whole.1; whole = append-nil line })
-up_to line status err err' (inr part) = (part.0, record { taken = part.1.taken; rest = part.1.rest; appends = part.1.appends; whole = part.1.whole })
+up_to : (line : List ℕ) (status : Status) (err err' : Option (List ℕ)) → IsTold Outside line status err err' →
+    (status ≡ Outside) × AppendsUpTo err err' line
+up_to line status err err' (inl whole) =
+    (whole.0, record { taken = line; rest = []; appends = whole.1; whole = append-nil line })
+up_to line status err err' (inr part) =
+    (part.0, record { taken = part.1.taken; rest = part.1.rest; appends = part.1.appends; whole = part.1.whole })
 
-line_moved : (saying : Saying) (status line_status : Status) (line : List ℕ) (out out' err err' : Option (List ℕ)) → saying ≡ Line line_status line
+line_moved : (saying : Saying) (status line_status : Status) (line : List ℕ) (out out' err err' : Option (List ℕ))
+    → saying ≡ Line line_status line
     → IsSaid saying status None None err err' → Keeps out out' → IsSaid saying status out out' err err'
 line_moved saying status line_status line out out' err err' same said keeps =
-    let told : IsSaid (Line line_status line) status None None err err' = subst (λ s. IsSaid s status None None err err') same said in
+    let told : IsSaid (Line line_status line) status None None err err' =
+    subst (λ s. IsSaid s status None None err err') same said in
     subst (λ s. IsSaid s status out out' err err') (sym same) (keeps, told.1)
 
 -- a run that ended with what is right says it, once its outcome is told
-pub ends_says : (IsRight : Saying → Type 0) (ended : Outcome) (status : Status) (out out' err err' : Option (List ℕ)) → EndsAs IsRight ended out out'
-    → ((out : Option (List ℕ)) → IsSaid (outcome_saying ended) status out out err err') → Says IsRight status out out' err err'
+pub ends_says : (IsRight : Saying → Type 0) (ended : Outcome) (status : Status) (out out' err err' : Option (List ℕ))
+    → EndsAs IsRight ended out out'
+    → ((out : Option (List ℕ)) → IsSaid (outcome_saying ended) status out out err err')
+    → Says IsRight status out out' err err'
 ends_says IsRight ended status out out' err err' (writes text right whole) said =
     let done = nothing_told status err err' (said None).1 in
     record { saying = Text text; right = right; said = inl (done.0, whole, done.1) }
@@ -124,18 +134,27 @@ ends_says IsRight ended status out out' err err' (cuts text right part) said =
     let failed = up_to (fault_line (codes "Write")) status err err' (said None).1 in
     record { saying = Text text; right = right; said = inr (failed.0, part, failed.1) }
 ends_says IsRight ended status out out' err err' (reports right keeps) said =
-    record { saying = outcome_saying ended; right = right; said = line_moved (outcome_saying ended) status _ _ out out' err err' (outcome_lines ended) (said None) keeps }
+    record {
+      saying = outcome_saying ended;
+      right = right;
+      said = line_moved (outcome_saying ended) status _ _ out out' err err' (outcome_lines ended) (said None) keeps;
+    }
 
 -- a run that ended with a line
-pub line_ends : (IsRight : Saying → Type 0) (ended : Outcome) (out : Option (List ℕ)) → IsRight (outcome_saying ended) → EndsAs IsRight ended out out
+pub line_ends : (IsRight : Saying → Type 0) (ended : Outcome) (out : Option (List ℕ)) → IsRight (outcome_saying ended) →
+    EndsAs IsRight ended out out
 line_ends IsRight ended out right = reports right (Keeps-refl out)
 
 -- a run that wrote a text, or a part of it
-pub text_ends : (IsRight : Saying → Type 0) (text : List ℕ) (ended : Outcome) (out out' : Option (List ℕ)) (written : Result (Unit {0}) WriteFault)
+pub text_ends : (IsRight : Saying → Type 0) (text : List ℕ) (ended : Outcome) (out out' : Option (List ℕ))
+    (written : Result (Unit {0}) WriteFault)
     → IsRight (Text text) → OnOk written (Appends out out' text) → OnErr written (AppendsPart out out' text)
-    → OnOk written (ended ≡ outcome.Done) → OnErr written (ended ≡ outcome.Failed failure.Write) → EndsAs IsRight ended out out'
-text_ends IsRight text ended out out' (Ok u) right whole part done failed = subst (λ o. EndsAs IsRight o out out') (sym done) (writes text right whole)
-text_ends IsRight text ended out out' (Err e) right whole part done failed = subst (λ o. EndsAs IsRight o out out') (sym failed) (cuts text right part)
+    → OnOk written (ended ≡ outcome.Done) → OnErr written (ended ≡ outcome.Failed failure.Write)
+    → EndsAs IsRight ended out out'
+text_ends IsRight text ended out out' (Ok u) right whole part done failed =
+    subst (λ o. EndsAs IsRight o out out') (sym done) (writes text right whole)
+text_ends IsRight text ended out out' (Err e) right whole part done failed =
+    subst (λ o. EndsAs IsRight o out out') (sym failed) (cuts text right part)
 
 -- what is right is right in a wider sense
 pub ends_more : {P Q : Saying → Type 0} {ended : Outcome} {out out' : Option (List ℕ)}

@@ -26,18 +26,24 @@ module _ {X : Type 0} (text : X → List ℕ) (xs : List X) (k : ℕ) (x : X) (l
 
   one_more : flat_map text (take (k + 1) xs) ≡ flat_map text (take k xs) ++ text (get_or xs k x)
   one_more =
-      ap (λ n. flat_map text (take n xs)) (next_is k) ∙ ap (flat_map text) (take-suc xs k x lt) ∙ flat_map-append text (take k xs) (get_or xs k x ∷ [])
+      ap (λ n. flat_map text (take n xs)) (next_is k) ∙ ap (flat_map text) (take-suc xs k x lt)
+      ∙ flat_map-append text (take k xs) (get_or xs k x ∷ [])
       ∙ ap (λ s. flat_map text (take k xs) ++ s) (append-nil (text (get_or xs k x)))
 
   -- one turn of writing their texts
-  pub texts_step : (a b c : Option (List ℕ)) → Appends a b (flat_map text (take k xs)) → Appends b c (text (get_or xs k x)) → Appends a c (flat_map text (take (k + 1) xs))
-  texts_step a b c h g = subst (λ s. Appends a c s) (sym one_more) (Appends-trans a b c (flat_map text (take k xs)) (text (get_or xs k x)) h g)
+  pub texts_step : (a b c : Option (List ℕ)) → Appends a b (flat_map text (take k xs)) →
+      Appends b c (text (get_or xs k x)) → Appends a c (flat_map text (take (k + 1) xs))
+  texts_step a b c h g = subst (λ s. Appends a c s) (sym one_more)
+      (Appends-trans a b c (flat_map text (take k xs)) (text (get_or xs k x)) h g)
 
-  pub texts_cut : (a b c : Option (List ℕ)) → Appends a b (flat_map text (take k xs)) → AppendsPart b c (text (get_or xs k x)) → AppendsPart a c (flat_map text xs)
+  pub texts_cut : (a b c : Option (List ℕ)) → Appends a b (flat_map text (take k xs)) →
+      AppendsPart b c (text (get_or xs k x)) → AppendsPart a c (flat_map text xs)
   texts_cut a b c h g =
       subst (λ s. AppendsPart a c s) (sym split_at)
-      (part_next a b c (flat_map text (take k xs)) _ h (part_first b c (text (get_or xs k x)) (flat_map text (drop (k + 1) xs)) g))
+      (part_next a b c (flat_map text (take k xs)) _ h
+      (part_first b c (text (get_or xs k x)) (flat_map text (drop (k + 1) xs)) g))
 
 -- the lines of what was told of types are the lines of the types
-pub lines_same : (told : List DeclaredType) (types : Names) → map told_of told ≡ map told_as (declared_in types) → told_lines told ≡ types_lines types
+pub lines_same : (told : List DeclaredType) (types : Names) → map told_of told ≡ map told_as (declared_in types) →
+    told_lines told ≡ types_lines types
 lines_same told types e = sym (flat_map-map type_line told_of told) ∙ ap (flat_map type_line) e

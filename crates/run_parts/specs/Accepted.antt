@@ -60,15 +60,19 @@ pub record IsAccepted (pickle : List ℕ) (declarations : List DeclarationTree) 
 
 -- a table has the types of such a pickle, and knows how many it declares
 abbrev pub IsTableOf : (pickle : List ℕ) → Table → Type 0
-IsTableOf pickle table = (declarations : List DeclarationTree) × IsAccepted pickle declarations (types_of table) × (count_of table ≡ length declarations)
+IsTableOf pickle table = (declarations : List DeclarationTree) × IsAccepted pickle declarations (types_of table)
+    × (count_of table ≡ length declarations)
 
 -- why the bytes aren't a pickle, or its types not well formed; an allocation failure says nothing about them
 pub data Refuses (pickle : List ℕ) : Refusal → Type 0 where
   no_tokens : {kind : LexFaultKind} {at : ℕ} → lexed pickle ≡ Err (kind, at) → Refuses pickle (refusal.Tokens kind at)
-  no_syntax : {spans : List (ℕ × ℕ)} {count token at : ℕ} → IsNoPickle pickle spans count (Wrong (count - token)) → token ≤ count → at ≡ place_of spans token (length pickle) → Refuses pickle (refusal.Syntax at)
+  no_syntax : {spans : List (ℕ × ℕ)} {count token at : ℕ} → IsNoPickle pickle spans count (Wrong (count - token)) →
+      token ≤ count → at ≡ place_of spans token (length pickle) → Refuses pickle (refusal.Syntax at)
   too_deep : {spans : List (ℕ × ℕ)} {count : ℕ} → IsNoPickle pickle spans count Deep → Refuses pickle refusal.TooDeep
   too_many : {spans : List (ℕ × ℕ)} {count : ℕ} → IsNoPickle pickle spans count Many → Refuses pickle refusal.TooMany
-  ill_typed : {declarations : List DeclarationTree} {kind : FaultKind} {declaration : ℕ} → HasSyntax pickle declarations → IsIllTyped declarations kind declaration → kind ≢ types.Memory → Refuses pickle (refusal.Types kind declaration)
+  ill_typed : {declarations : List DeclarationTree} {kind : FaultKind} {declaration : ℕ} →
+      HasSyntax pickle declarations → IsIllTyped declarations kind declaration → kind ≢ types.Memory →
+      Refuses pickle (refusal.Types kind declaration)
   no_memory : Refuses pickle refusal.Memory
 
 -- the name of a refusal: that of the fault from which it comes

@@ -41,7 +41,8 @@ line_text place bytes =
 -- the lines of bytes that begin at a place, one for each 16 of them
 unfoldable pub lines_text : ℕ → List ℕ → List ℕ
 lines_text place bytes =
-    flat_map (λ line. line_text (place + 16 * line) (take 16 (drop (16 * line) bytes))) (range_with_len 0 ((length bytes + 15) / 16))
+    flat_map (λ line. line_text (place + 16 * line) (take 16 (drop (16 * line) bytes)))
+    (range_with_len 0 ((length bytes + 15) / 16))
 
 -- of a file's bytes, the lines of at most `size` of them from the place `from` on
 abbrev pub range_text : (from size : ℕ) (bytes : List ℕ) → List ℕ

@@ -116,6 +116,9 @@ outcome_members ended = report_members (outcome_status ended) (outcome_kind ende
 -- a run ends with what is right: its text is written whole, or in part to a failing writer; or nothing is written, and
 -- its line is right
 pub data EndsAs (IsRight : Saying → Type 0) : Outcome → (out out' : Option (List ℕ)) → Type 0 where
-  writes : {out out' : Option (List ℕ)} (text : List ℕ) → IsRight (Text text) → Appends out out' text → EndsAs IsRight outcome.Done out out'
-  cuts : {out out' : Option (List ℕ)} (text : List ℕ) → IsRight (Text text) → AppendsPart out out' text → EndsAs IsRight (outcome.Failed failure.Write) out out'
-  reports : {ended : Outcome} {out out' : Option (List ℕ)} → IsRight (outcome_saying ended) → Keeps out out' → EndsAs IsRight ended out out'
+  writes : {out out' : Option (List ℕ)} (text : List ℕ) → IsRight (Text text) → Appends out out' text →
+      EndsAs IsRight outcome.Done out out'
+  cuts : {out out' : Option (List ℕ)} (text : List ℕ) → IsRight (Text text) → AppendsPart out out' text →
+      EndsAs IsRight (outcome.Failed failure.Write) out out'
+  reports : {ended : Outcome} {out out' : Option (List ℕ)} → IsRight (outcome_saying ended) → Keeps out out' →
+      EndsAs IsRight ended out out'

@@ -20,12 +20,14 @@ pub data Saying : Type 0 where
 
 -- a line is printed whole, with its exit status, or in part, with the exit status of a failing writer
 abbrev pub IsTold : Status → List ℕ → Status → Option (List ℕ) → Option (List ℕ) → Type 0
-IsTold line_status line status err err' = ((status ≡ line_status) × Appends err err' line) ⊎ ((status ≡ Outside) × AppendsPart err err' line)
+IsTold line_status line status err err' =
+    ((status ≡ line_status) × Appends err err' line) ⊎ ((status ≡ Outside) × AppendsPart err err' line)
 
 -- a text is written whole, or in part, which a line reports
 abbrev pub IsWritten : List ℕ → Status → (out out' err err' : Option (List ℕ)) → Type 0
 IsWritten text status out out' err err' =
-    ((status ≡ Done) × Appends out out' text × Keeps err err') ⊎ ((status ≡ Outside) × AppendsPart out out' text × AppendsUpTo err err' (fault_line (codes "Write")))
+    ((status ≡ Done) × Appends out out' text × Keeps err err')
+    ⊎ ((status ≡ Outside) × AppendsPart out out' text × AppendsUpTo err err' (fault_line (codes "Write")))
 
 abbrev pub IsSaid : Saying → Status → (out out' err err' : Option (List ℕ)) → Type 0
 IsSaid (Text text) status out out' err err' = IsWritten text status out out' err err'

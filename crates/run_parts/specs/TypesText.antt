@@ -43,5 +43,6 @@ types_lines types = flat_map type_line (map told_as (declared_in types))
 
 -- the types of an accepted pickle, or why it is refused
 pub data TypesAs (pickle : List ℕ) : Saying → Type 0 where
-  told_types : {declarations : List DeclarationTree} {types : Names} → IsAccepted pickle declarations types → TypesAs pickle (Text (types_lines types))
+  told_types : {declarations : List DeclarationTree} {types : Names} → IsAccepted pickle declarations types →
+      TypesAs pickle (Text (types_lines types))
   refused_types : {refusal : Refusal} → Refuses pickle refusal → TypesAs pickle (refusal_saying refusal)

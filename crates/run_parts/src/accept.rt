@@ -105,7 +105,8 @@ fn no_tokens(fault: LexFault) -> Refusal
 
 fn ill_typed(fault: TypeFault) -> Refusal
     ensures { (pickle : List ℕ) (declarations : List DeclarationTree) → HasSyntax pickle declarations
-        → (fault.kind ≢ types.Memory → IsWellTyped declarations → ⊥) → checking.Fails fault.kind (declared predeclared declarations)
+        → (fault.kind ≢ types.Memory → IsWellTyped declarations → ⊥) →
+        checking.Fails fault.kind (declared predeclared declarations)
         → TellsPlace fault.kind fault.decl (first_wrong 1 predeclared declarations) → Refuses pickle result }
 {
     if fault.kind == FaultKind::Memory {

@@ -66,9 +66,12 @@ pub fn dump<S: Space, W: Write>(
     ruler: bool,
     w: &mut W,
 ) -> Result<(), DumpFault>
-    ensures ok { OnOk result (Dumps (S.view space.old) (W.contents w.old) (W.contents w.new) (λ bytes. dump_text bytes from size ruler)) }
-    ensures err { OnErr result (DumpsPart (S.view space.old) (W.contents w.old) (W.contents w.new) (λ bytes. dump_text bytes from size ruler)) }
-    ensures device { IfErr result (λ fault. fault ≡ DumpFault.Device → HasRisen (S.view space.old).failures (S.view space.new).failures) }
+    ensures ok { OnOk result
+        (Dumps (S.view space.old) (W.contents w.old) (W.contents w.new) (λ bytes. dump_text bytes from size ruler)) }
+    ensures err { OnErr result (DumpsPart (S.view space.old) (W.contents w.old) (W.contents w.new)
+        (λ bytes. dump_text bytes from size ruler)) }
+    ensures device { IfErr result
+        (λ fault. fault ≡ DumpFault.Device → HasRisen (S.view space.old).failures (S.view space.new).failures) }
     ensures keeps { Keeps (S.view space.old) (S.view space.new) }
 {
     put_ruler(ruler, w)?;
@@ -98,8 +101,10 @@ fn put_lines<S: Space, W: Write>(
     w: &mut W,
 ) -> Result<(), DumpFault>
     ensures ok { OnOk result (Dumps (S.view space.old) (W.contents w.old) (W.contents w.new) (range_text from size)) }
-    ensures err { OnErr result (DumpsPart (S.view space.old) (W.contents w.old) (W.contents w.new) (range_text from size)) }
-    ensures device { IfErr result (λ fault. fault ≡ DumpFault.Device → HasRisen (S.view space.old).failures (S.view space.new).failures) }
+    ensures err { OnErr result
+        (DumpsPart (S.view space.old) (W.contents w.old) (W.contents w.new) (range_text from size)) }
+    ensures device { IfErr result
+        (λ fault. fault ≡ DumpFault.Device → HasRisen (S.view space.old).failures (S.view space.new).failures) }
     ensures keeps { Keeps (S.view space.old) (S.view space.new) }
 {
     let end = from.saturating_add(size).min(space.len());
@@ -121,8 +126,10 @@ fn put_line<S: Space, W: Write>(
     requires few { count ≤ 16 }
     requires within { at + count ≤ (S.view space.old).len }
     ensures ok { OnOk result (Dumps (S.view space.old) (W.contents w.old) (W.contents w.new) (row_text at count)) }
-    ensures err { OnErr result (DumpsPart (S.view space.old) (W.contents w.old) (W.contents w.new) (row_text at count)) }
-    ensures device { IfErr result (λ fault. fault ≡ DumpFault.Device → HasRisen (S.view space.old).failures (S.view space.new).failures) }
+    ensures err { OnErr result
+        (DumpsPart (S.view space.old) (W.contents w.old) (W.contents w.new) (row_text at count)) }
+    ensures device { IfErr result
+        (λ fault. fault ≡ DumpFault.Device → HasRisen (S.view space.old).failures (S.view space.new).failures) }
     ensures keeps { Keeps (S.view space.old) (S.view space.new) }
 {
     let mut window = [0u8; 16];

@@ -70,7 +70,8 @@ pub fn put_report_members<W: Write>(
     place: Place,
 ) -> Result<(), WriteFault>
     ensures ok { OnOk result (Appends (W.contents w.old) (W.contents w.new) (report_members status kind.now place)) }
-    ensures err { OnErr result (AppendsPart (W.contents w.old) (W.contents w.new) (report_members status kind.now place)) }
+    ensures err { OnErr result
+        (AppendsPart (W.contents w.old) (W.contents w.new) (report_members status kind.now place)) }
 {
     let lead = member_lead(status);
     match place {
@@ -107,7 +108,8 @@ fn member_lead(status: Status) -> &'static [u8]
 #[tactic(auto, using(text_output::proofs::Parts::written))]
 fn put_plain<W: Write>(w: &mut W, lead: &[u8], kind: &[u8], tail: &[u8]) -> Result<(), WriteFault>
     ensures ok { OnOk result (Appends (W.contents w.old) (W.contents w.new) (lead.now ++ (kind.now ++ tail.now))) }
-    ensures err { OnErr result (AppendsPart (W.contents w.old) (W.contents w.new) (lead.now ++ (kind.now ++ tail.now))) }
+    ensures err { OnErr result
+        (AppendsPart (W.contents w.old) (W.contents w.new) (lead.now ++ (kind.now ++ tail.now))) }
 {
     put(w, lead)?;
     put(w, kind)?;

@@ -38,7 +38,8 @@ impl PickleFault {
 /// they are dropped.
 pub fn read_pickle<R: Read>(alloc: Global, reader: &mut R) -> Result<Vec<u8>, PickleFault>
     ensures short { IfOk result (λ bytes. length bytes.items ≤ MOST_BYTES) }
-    ensures first { IfOk result (λ bytes. GivesFirst MOST_BYTES (R.remaining reader.old) (R.remaining reader.new) bytes.items) }
+    ensures first { IfOk result
+        (λ bytes. GivesFirst MOST_BYTES (R.remaining reader.old) (R.remaining reader.new) bytes.items) }
     ensures fault { OnErr result (ConsumesUpTo MOST_BYTES (R.remaining reader.old) (R.remaining reader.new)) }
 {
     let mut bytes = Vec::new(alloc);

@@ -13,7 +13,8 @@ use text_output::write::WriteFault;
 
 /// Writes the line of an outcome, and returns its exit status, or `Outside` if the writer failed.
 pub fn tell<E: Write>(outcome: Outcome, err: &mut E) -> Status
-    ensures { (out : Option (List ℕ)) → IsSaid (outcome_saying outcome) result out out (E.contents err.old) (E.contents err.new) }
+    ensures { (out : Option (List ℕ)) →
+        IsSaid (outcome_saying outcome) result out out (E.contents err.old) (E.contents err.new) }
 {
     match outcome.put_line(err) {
         Ok(()) => outcome.status(),

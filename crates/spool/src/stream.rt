@@ -47,8 +47,10 @@ pub fn read_stream<R: Read>(
     reader: &mut R,
     most: u64,
 ) -> Result<MemSpace, StreamFault>
-    ensures all { IfOk result (λ space. HoldsAll (longest most) (R.remaining reader.old) (R.remaining reader.new) (⟦<MemSpace as Space>⟧.view space)) }
-    ensures too_long { IfErr result (λ fault. fault ≡ StreamFault.TooLong → IsLonger (longest most) (R.remaining reader.old)) }
+    ensures all { IfOk result (λ space.
+        HoldsAll (longest most) (R.remaining reader.old) (R.remaining reader.new) (⟦<MemSpace as Space>⟧.view space)) }
+    ensures too_long { IfErr result
+        (λ fault. fault ≡ StreamFault.TooLong → IsLonger (longest most) (R.remaining reader.old)) }
     ensures fault { OnErr result (LosesUpTo (longest most + 1) (R.remaining reader.old) (R.remaining reader.new)) }
 {
     let most = most.min(LONGEST) as usize;

@@ -21,7 +21,8 @@ text_bounded mode m ty levels s v h = part_text_bounded mode m ty levels s v Non
 
 pub meant_text_bounded : MeantTextsAreBounded
 meant_text_bounded mode bytes ty order levels s v k j means =
-    text_bounded mode (length (Rattle.bit_space.specs.Bits.bits_of bytes)) ty levels s v (outcomes_fit bytes ty order levels s (Ok v) k j means)
+    text_bounded mode (length (Rattle.bit_space.specs.Bits.bits_of bytes)) ty levels s v
+    (outcomes_fit bytes ty order levels s (Ok v) k j means)
 
 pub any_mode_bounded : AnyModeIsBounded
 unfolding most_text_in_any
@@ -30,21 +31,36 @@ any_mode_bounded style Tree ty m = omega arith
 any_mode_bounded style Json ty m = omega arith
 any_mode_bounded style Lines ty m = omega arith
 
-pub written_within : (text : List ℕ) (status : Status) (out out' err err' : Option (List ℕ)) (most : ℕ) → length text ≤ most → IsWritten text status out out' err err' → GrowsWithin out out' most
+pub written_within : (text : List ℕ) (status : Status) (out out' err err' : Option (List ℕ)) (most : ℕ) →
+    length text ≤ most → IsWritten text status out out' err err' → GrowsWithin out out' most
 written_within text status out out' err err' most le (inl h) = record { taken = text; appends = h.1; few = le }
 written_within text status out out' err err' most le (inr h) =
     let part = h.1 in
-    record { taken = part.taken; appends = part.appends; few = omega (arith, le, ap length part.whole, length-append part.taken part.rest) }
+    record {
+      taken = part.taken;
+      appends = part.appends;
+      few = omega (arith, le, ap length part.whole, length-append part.taken part.rest);
+    }
 
-saying_bounded : (pickle : List ℕ) (ask : Ask) (before after : SpaceView) (saying : Saying) (status : Status) (out out' err err' : Option (List ℕ))
-    → MapsAs pickle ask before after saying → IsSaid saying status out out' err err' → OutputIsBounded pickle ask plain before.len out out'
-saying_bounded pickle ask before after saying status out out' err err' (value {type = type} {mapped = mapped} asked means fits) h =
-    inr (type, asked, written_within (printed ask.mode mapped) status out out' err err' _ (text_bounded ask.mode (8 * before.len) type _ ask.start mapped fits) h)
+saying_bounded : (pickle : List ℕ) (ask : Ask) (before after : SpaceView) (saying : Saying) (status : Status)
+    (out out' err err' : Option (List ℕ))
+    → MapsAs pickle ask before after saying → IsSaid saying status out out' err err'
+    → OutputIsBounded pickle ask plain before.len out out'
+saying_bounded pickle ask before after saying status out out' err err'
+    (value {type = type} {mapped = mapped} asked means fits) h =
+    inr (
+      type,
+      asked,
+      written_within (printed ask.mode mapped) status out out' err err' _
+          (text_bounded ask.mode (8 * before.len) type _ ask.start mapped fits) h,
+    )
 saying_bounded pickle ask before after saying status out out' err err' (stops asked a b c d e) h = inl h.0
 saying_bounded pickle ask before after saying status out out' err err' (device asked a) h = inl h.0
 saying_bounded pickle ask before after saying status out out' err err' (unknown a b) h = inl h.0
-saying_bounded pickle ask before after saying status out out' err err' (refused_map {refusal = why} a) h = inl (subst (λ s. IsSaid s status out out' err err') (outcome_lines (Refused why)) h).0
+saying_bounded pickle ask before after saying status out out' err err' (refused_map {refusal = why} a) h =
+    inl (subst (λ s. IsSaid s status out out' err err') (outcome_lines (Refused why)) h).0
 saying_bounded pickle ask before after saying status out out' err err' no_memory h = inl h.0
 
 pub output_bounded : OutputsAreBounded
-output_bounded pickle ask before after status out out' err err' h = saying_bounded pickle ask before after h.saying status out out' err err' h.right h.said
+output_bounded pickle ask before after status out out' err err' h =
+    saying_bounded pickle ask before after h.saying status out out' err err' h.right h.said

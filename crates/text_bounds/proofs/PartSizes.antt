@@ -13,7 +13,8 @@ module _ (form : Form) where
   abbrev mutual
     -- a value and all its parts have at most so many bytes
     pub AllWithin : (most : ℕ) → Value → Type 0
-    AllWithin most (Mapped label start end members) = ((size_in form (Mapped label start end members)).text ≤ most) × PartsWithin most members
+    AllWithin most (Mapped label start end members) =
+        ((size_in form (Mapped label start end members)).text ≤ most) × PartsWithin most members
 
     pub PartsWithin : (most : ℕ) → Members → Type 0
     PartsWithin most NoMembers = Unit {0}
@@ -37,18 +38,22 @@ module _ (form : Form) where
   pub all_of : (value : Value) {room : Size} → IsBounded value room → AllWithin room.text value
   all_of (Mapped label start end members) h = (h.size.text, h.parts)
 
-  member_within : (most : ℕ) (members : Members) (place : ℕ) (part : Value) → PartsWithin most members → member_at members place ≡ Some part → AllWithin most part
+  member_within : (most : ℕ) (members : Members) (place : ℕ) (part : Value) → PartsWithin most members →
+      member_at members place ≡ Some part → AllWithin most part
   member_within most NoMembers place part h e = cc
   member_within most (MemberThen value rest) zero part h e = subst (AllWithin most) (same_value value part e) h.0
   member_within most (MemberThen value rest) (suc place) part h e = member_within most rest place part h.1 e
   member_within most (AbsentThen rest) zero part h e = cc
   member_within most (AbsentThen rest) (suc place) part h e = member_within most rest place part h e
 
-  part_within : (most : ℕ) (value part : Value) (place : ℕ) → AllWithin most value → member_at (members_of value) place ≡ Some part → AllWithin most part
+  part_within : (most : ℕ) (value part : Value) (place : ℕ) → AllWithin most value →
+      member_at (members_of value) place ≡ Some part → AllWithin most part
   part_within most (Mapped label start end members) part place h e = member_within most members place part h.1 e
 
   within : (most : ℕ) (value : Value) → AllWithin most value → (size_in form value).text ≤ most
   within most (Mapped label start end _) h = h.0
 
-  pub asked_within : (most : ℕ) (path : Option Path) (value part : Value) → AllWithin most value → part_at path value ≡ Some part → (size_in form part).text ≤ most
-  asked_within most path value part h e = within most part (part_keeps (AllWithin most) (part_within most) path value part h e)
+  pub asked_within : (most : ℕ) (path : Option Path) (value part : Value) → AllWithin most value →
+      part_at path value ≡ Some part → (size_in form part).text ≤ most
+  asked_within most path value part h e =
+      within most part (part_keeps (AllWithin most) (part_within most) path value part h e)

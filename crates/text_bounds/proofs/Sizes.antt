@@ -58,7 +58,8 @@ abbrev pub or_chars : Form → Label → (count start end : ℕ) → Size → Si
 or_chars form (IntegerLabel number type) count start end size = size
 or_chars form (OffsetLabel magnitude type unit) count start end size = size
 or_chars form (TextLabel bytes) count start end size = size
-or_chars form ArrayLabel count start end size = or_text form.style.chars (text_size form.mode count start (end - start)) size
+or_chars form ArrayLabel count start end size =
+    or_text form.style.chars (text_size form.mode count start (end - start)) size
 or_chars form (StructLabel name fields) count start end size = size
 or_chars form (UnionLabel name index alternative) count start end size = size
 
@@ -71,7 +72,9 @@ module _ (form : Form) where
     pub size_in : Value → Size
     size_in (Mapped label start end members) =
         or_chars form label (member_count members) start end
-        (with_parts form.mode (own_room form.style form.mode label (member_count members) + line_room form.mode start (end - start)) (members_in (limit_of form.style label) label start end 0 members))
+        (with_parts form.mode
+        (own_room form.style form.mode label (member_count members) + line_room form.mode start (end - start))
+        (members_in (limit_of form.style label) label start end 0 members))
 
     -- of the members from a place on of a value from bit `start` to bit `end`, up to the limit
     pub members_in : (limit : Option ℕ) → Label → (start end place : ℕ) → Members → Size
@@ -81,7 +84,8 @@ module _ (form : Form) where
         else members_in limit label start end (suc place) rest
     members_in limit label start end place (MemberThen value rest) =
         if is_past limit place then rest_size form.mode start end place (start_of value) (suc (member_count rest))
-        else both (moved (member_before form.mode label place) (member_moves form.mode label place) (size_in value)) (members_in limit label start end (suc place) rest)
+        else both (moved (member_before form.mode label place) (member_moves form.mode label place) (size_in value))
+        (members_in limit label start end (suc place) rest)
 
 abbrev pub form_of : Style → Mode → Form
 form_of style mode = record { mode = mode; style = style }
@@ -92,7 +96,8 @@ comma_short : (first : Bool) → length (comma first) ≤ 1
 comma_short true = omega arith
 comma_short false = omega arith
 
-flat_before : (label : Label) (place : ℕ) → 1 + length (name_text (member_name label place)) ≡ member_before Flat label place
+flat_before : (label : Label) (place : ℕ) →
+    1 + length (name_text (member_name label place)) ≡ member_before Flat label place
 flat_before (IntegerLabel number type) place = refl
 flat_before (OffsetLabel magnitude type unit) place = refl
 flat_before (TextLabel bytes) place = refl
@@ -108,8 +113,10 @@ flat_moves ArrayLabel place lines = omega arith
 flat_moves (StructLabel name fields) place lines = omega arith
 flat_moves (UnionLabel name index alternative) place lines = omega arith
 
-in_braces : (title members : List ℕ) → length (title ++ (codes " {" ++ (members ++ codes "}"))) ≡ length title + 3 + length members
-in_braces title members = omega (arith, length-append title (codes " {" ++ (members ++ codes "}")), length-append members (codes "}"))
+in_braces : (title members : List ℕ) →
+    length (title ++ (codes " {" ++ (members ++ codes "}"))) ≡ length title + 3 + length members
+in_braces title members =
+    omega (arith, length-append title (codes " {" ++ (members ++ codes "}")), length-append members (codes "}"))
 
 more_member_short : (first : Bool) (left : ℕ) → length (more_member first left) ≤ length (more_member false left)
 more_member_short true left = omega arith
@@ -118,9 +125,13 @@ more_member_short false left = omega arith
 module _ (style : Style) where
   flat_member : (limit : Option ℕ) (label : Label) (start end place : ℕ) (first : Bool) (value : Value) (rest : Members)
       → length (styled_value style value) ≤ (size_in (form_of style Flat) value).text
-      → length (styled_members style limit label (suc place) false rest) ≤ (members_in (form_of style Flat) limit label start end (suc place) rest).text
-      → length ((comma first ++ (name_text (member_name label place) ++ styled_value style value)) ++ styled_members style limit label (suc place) false rest)
-      ≤ (both (moved (member_before Flat label place) (member_moves Flat label place) (size_in (form_of style Flat) value)) (members_in (form_of style Flat) limit label start end (suc place) rest)).text
+      → length (styled_members style limit label (suc place) false rest)
+      ≤ (members_in (form_of style Flat) limit label start end (suc place) rest).text
+      → length ((comma first ++ (name_text (member_name label place) ++ styled_value style value))
+      ++ styled_members style limit label (suc place) false rest)
+      ≤ (both
+      (moved (member_before Flat label place) (member_moves Flat label place) (size_in (form_of style Flat) value))
+      (members_in (form_of style Flat) limit label start end (suc place) rest)).text
   flat_member limit label start end place first value rest one more =
       let before = comma first in
       let name = name_text (member_name label place) in
@@ -145,15 +156,32 @@ module _ (style : Style) where
     flat_short (Mapped ArrayLabel start end members) =
         let text = styled_members style style.elements ArrayLabel 0 true members in
         let parts = members_in (form_of style Flat) style.elements ArrayLabel start end 0 members in
-        let inside = array_within style.chars (text_size Flat (member_count members) start (end - start)) (with_parts Flat (array_room Flat 0 + line_room Flat start (end - start)) parts) in
-        omega (arith, flat_members style.elements ArrayLabel start end 0 true members, inside.text, length-append text (codes "]"))
+        let inside = array_within style.chars (text_size Flat (member_count members) start (end - start))
+        (with_parts Flat (array_room Flat 0 + line_room Flat start (end - start)) parts) in
+        omega (
+          arith,
+          flat_members style.elements ArrayLabel start end 0 true members,
+          inside.text,
+          length-append text (codes "]"),
+        )
     flat_short (Mapped (StructLabel name fields) start end members) =
-        omega (arith, flat_members None (StructLabel name fields) start end 0 true members, in_braces (title_text (codes "struct") name) (styled_members style None (StructLabel name fields) 0 true members))
+        omega (
+          arith,
+          flat_members None (StructLabel name fields) start end 0 true members,
+          in_braces (title_text (codes "struct") name)
+              (styled_members style None (StructLabel name fields) 0 true members),
+        )
     flat_short (Mapped (UnionLabel name index alternative) start end members) =
-        omega (arith, flat_members None (UnionLabel name index alternative) start end 0 true members, in_braces (title_text (codes "union") name) (styled_members style None (UnionLabel name index alternative) 0 true members))
+        omega (
+          arith,
+          flat_members None (UnionLabel name index alternative) start end 0 true members,
+          in_braces (title_text (codes "union") name)
+              (styled_members style None (UnionLabel name index alternative) 0 true members),
+        )
 
     flat_members : (limit : Option ℕ) (label : Label) (start end place : ℕ) (first : Bool) (members : Members)
-        → length (styled_members style limit label place first members) ≤ (members_in (form_of style Flat) limit label start end place members).text
+        → length (styled_members style limit label place first members)
+        ≤ (members_in (form_of style Flat) limit label start end place members).text
     flat_members limit label start end place first NoMembers = omega arith
     flat_members limit label start end place first (AbsentThen rest) = elim (cases_Bool (is_past limit place)) [
       | inl past ↦ rw past (more_member_short first (suc (member_count rest)))
@@ -161,7 +189,8 @@ module _ (style : Style) where
     ]
     flat_members limit label start end place first (MemberThen value rest) = elim (cases_Bool (is_past limit place)) [
       | inl past ↦ rw past (more_member_short first (suc (member_count rest)))
-      | inr before ↦ rw before (flat_member limit label start end place first value rest (flat_short value) (flat_members limit label start end (suc place) false rest))
+      | inr before ↦ rw before (flat_member limit label start end place first value rest (flat_short value)
+          (flat_members limit label start end (suc place) false rest))
     ]
 
 -- ---- over lines
@@ -191,11 +220,19 @@ tree_moves (UnionLabel name index alternative) place lines = refl
 
 -- one more level puts two more blanks before each line
 level_more : (level lines : ℕ) → 2 * (level + 1) * lines ≡ 2 * level * lines + 2 * lines
-level_more level lines = let same : 2 * (level + 1) ≡ 2 * level + 2 = omega arith in rw same (add-mul (2 * level) 2 lines)
+level_more level lines =
+    let same : 2 * (level + 1) ≡ 2 * level + 2 = omega arith in rw same (add-mul (2 * level) 2 lines)
 
-line_length : (level : ℕ) (prefix head : List ℕ) → length (line_text level prefix head) ≡ 2 * level + (length prefix + (length head + 1))
+line_length : (level : ℕ) (prefix head : List ℕ) →
+    length (line_text level prefix head) ≡ 2 * level + (length prefix + (length head + 1))
 line_length level prefix head =
-    omega (arith, indent_length level, length-append (indent_text level) (prefix ++ (head ++ codes "\n")), length-append prefix (head ++ codes "\n"), length-append head (codes "\n"))
+    omega (
+      arith,
+      indent_length level,
+      length-append (indent_text level) (prefix ++ (head ++ codes "\n")),
+      length-append prefix (head ++ codes "\n"),
+      length-append head (codes "\n"),
+    )
 
 where_parted : (b : Bool) (text : List ℕ) (n : ℕ) → length text ≤ n → length (if b then text else []) ≤ n
 where_parted true text n h = h
@@ -212,21 +249,32 @@ more_line_length level left =
     )
 
 -- a value's size holds that of its parts
-chars_inside : (form : Form) (n : ℕ) (label : Label) (count start end : ℕ) (size : Size) → size.text + n * size.lines ≤ (or_chars form label count start end size).text + n * (or_chars form label count start end size).lines
+chars_inside : (form : Form) (n : ℕ) (label : Label) (count start end : ℕ) (size : Size) → size.text + n * size.lines
+    ≤ (or_chars form label count start end size).text + n * (or_chars form label count start end size).lines
 chars_inside form n (IntegerLabel number type) count start end size = omega arith
 chars_inside form n (OffsetLabel magnitude type unit) count start end size = omega arith
 chars_inside form n (TextLabel bytes) count start end size = omega arith
-chars_inside form n ArrayLabel count start end size = longer_within n (array_within form.style.chars (text_size form.mode count start (end - start)) size)
+chars_inside form n ArrayLabel count start end size =
+    longer_within n (array_within form.style.chars (text_size form.mode count start (end - start)) size)
 chars_inside form n (StructLabel name fields) count start end size = omega arith
 chars_inside form n (UnionLabel name index alternative) count start end size = omega arith
 
 module _ (style : Style) where
   tree_part : (limit : Option ℕ) (level : ℕ) (label : Label) (start end place : ℕ) (value : Value) (rest : Members)
-      → length (styled_lines style (level + 1) (prefix_text label place) value) ≤ (size_in (form_of style Tree) value).text + 2 * (level + 1) * (size_in (form_of style Tree) value).lines + length (prefix_text label place)
-      → length (styled_parts style limit (level + 1) label (suc place) rest) ≤ (members_in (form_of style Tree) limit label start end (suc place) rest).text + 2 * level * (members_in (form_of style Tree) limit label start end (suc place) rest).lines
-      → length (styled_lines style (level + 1) (prefix_text label place) value ++ styled_parts style limit (level + 1) label (suc place) rest)
-      ≤ (both (moved (member_before Tree label place) (member_moves Tree label place) (size_in (form_of style Tree) value)) (members_in (form_of style Tree) limit label start end (suc place) rest)).text
-      + 2 * level * (both (moved (member_before Tree label place) (member_moves Tree label place) (size_in (form_of style Tree) value)) (members_in (form_of style Tree) limit label start end (suc place) rest)).lines
+      → length (styled_lines style (level + 1) (prefix_text label place) value)
+      ≤ (size_in (form_of style Tree) value).text + 2 * (level + 1) * (size_in (form_of style Tree) value).lines
+      + length (prefix_text label place)
+      → length (styled_parts style limit (level + 1) label (suc place) rest)
+      ≤ (members_in (form_of style Tree) limit label start end (suc place) rest).text
+      + 2 * level * (members_in (form_of style Tree) limit label start end (suc place) rest).lines
+      → length (styled_lines style (level + 1) (prefix_text label place) value
+      ++ styled_parts style limit (level + 1) label (suc place) rest)
+      ≤ (both
+      (moved (member_before Tree label place) (member_moves Tree label place) (size_in (form_of style Tree) value))
+      (members_in (form_of style Tree) limit label start end (suc place) rest)).text
+      + 2 * level * (both
+      (moved (member_before Tree label place) (member_moves Tree label place) (size_in (form_of style Tree) value))
+      (members_in (form_of style Tree) limit label start end (suc place) rest)).lines
   tree_part limit level label start end place value rest first later =
       let one = size_in (form_of style Tree) value in
       let more = members_in (form_of style Tree) limit label start end (suc place) rest in
@@ -238,23 +286,30 @@ module _ (style : Style) where
         tree_moves label place one.lines,
         level_more level one.lines,
         mul-add (2 * level) one.lines more.lines,
-        length-append (styled_lines style (level + 1) (prefix_text label place) value) (styled_parts style limit (level + 1) label (suc place) rest),
+        length-append (styled_lines style (level + 1) (prefix_text label place) value)
+            (styled_parts style limit (level + 1) label (suc place) rest),
       )
 
   mutual
-    pub tree_short : (level : ℕ) (prefix : List ℕ) (v : Value) → length (styled_lines style level prefix v) ≤ (size_in (form_of style Tree) v).text + 2 * level * (size_in (form_of style Tree) v).lines + length prefix
+    pub tree_short : (level : ℕ) (prefix : List ℕ) (v : Value) → length (styled_lines style level prefix v)
+        ≤ (size_in (form_of style Tree) v).text + 2 * level * (size_in (form_of style Tree) v).lines + length prefix
     tree_short level prefix (Mapped label start end members) =
         let head = styled_head style label (member_count members) in
         let limit = limit_of style label in
         let parts = members_in (form_of style Tree) limit label start end 0 members in
         let line = line_text level prefix head in
         let below = if has_parts (kind_of label) then styled_parts style limit (level + 1) label 0 members else [] in
-        let few = where_parted (has_parts (kind_of label)) (styled_parts style limit (level + 1) label 0 members) _ (tree_parts limit level label start end 0 members) in
-        let inside = chars_inside (form_of style Tree) (2 * level) label (member_count members) start end (with_parts Tree (length head + line_room Tree start (end - start)) parts) in
-        omega (arith, few, inside, line_length level prefix head, length-append line below, mul-add (2 * level) 1 parts.lines)
+        let few = where_parted (has_parts (kind_of label)) (styled_parts style limit (level + 1) label 0 members) _
+        (tree_parts limit level label start end 0 members) in
+        let inside = chars_inside (form_of style Tree) (2 * level) label (member_count members) start end
+        (with_parts Tree (length head + line_room Tree start (end - start)) parts) in
+        omega
+        (arith, few, inside, line_length level prefix head, length-append line below, mul-add (2 * level) 1 parts.lines)
 
     tree_parts : (limit : Option ℕ) (level : ℕ) (label : Label) (start end place : ℕ) (members : Members)
-        → length (styled_parts style limit (level + 1) label place members) ≤ (members_in (form_of style Tree) limit label start end place members).text + 2 * level * (members_in (form_of style Tree) limit label start end place members).lines
+        → length (styled_parts style limit (level + 1) label place members)
+        ≤ (members_in (form_of style Tree) limit label start end place members).text
+        + 2 * level * (members_in (form_of style Tree) limit label start end place members).lines
     tree_parts limit level label start end place NoMembers = omega arith
     tree_parts limit level label start end place (AbsentThen rest) = elim (cases_Bool (is_past limit place)) [
       | inl past ↦ rw past (omega (arith, more_line_length level (suc (member_count rest))))
@@ -262,7 +317,9 @@ module _ (style : Style) where
     ]
     tree_parts limit level label start end place (MemberThen value rest) = elim (cases_Bool (is_past limit place)) [
       | inl past ↦ rw past (omega (arith, more_line_length level (suc (member_count rest))))
-      | inr before ↦ rw before (tree_part limit level label start end place value rest (tree_short (level + 1) (prefix_text label place) value) (tree_parts limit level label start end (suc place) rest))
+      | inr before ↦ rw before (tree_part limit level label start end place value rest
+          (tree_short (level + 1) (prefix_text label place) value)
+          (tree_parts limit level label start end (suc place) rest))
     ]
 
 -- ---- in JSON
@@ -274,11 +331,15 @@ IsShortBefore before label = (place : ℕ) → 1 + length (before place) ≤ mem
 no_key_short : IsShortBefore no_key ArrayLabel
 no_key_short place = omega arith
 
-struct_key_short : (name : Naming) (fields : List Naming) → IsShortBefore (key_before (StructLabel name fields)) (StructLabel name fields)
-struct_key_short name fields place = omega (arith, length-append (key_text (member_name (StructLabel name fields) place) place) (codes ":"))
+struct_key_short : (name : Naming) (fields : List Naming) →
+    IsShortBefore (key_before (StructLabel name fields)) (StructLabel name fields)
+struct_key_short name fields place =
+    omega (arith, length-append (key_text (member_name (StructLabel name fields) place) place) (codes ":"))
 
-union_key_short : (name : Naming) (index : ℕ) (alternative : Naming) → IsShortBefore (key_before (UnionLabel name index alternative)) (UnionLabel name index alternative)
-union_key_short name index alternative place = omega (arith, length-append (key_text (member_name (UnionLabel name index alternative) place) place) (codes ":"))
+union_key_short : (name : Naming) (index : ℕ) (alternative : Naming) →
+    IsShortBefore (key_before (UnionLabel name index alternative)) (UnionLabel name index alternative)
+union_key_short name index alternative place =
+    omega (arith, length-append (key_text (member_name (UnionLabel name index alternative) place) place) (codes ":"))
 
 json_moves : (label : Label) (place lines : ℕ) → member_moves Json label place * lines ≡ 0
 json_moves (IntegerLabel number type) place lines = omega arith
@@ -293,11 +354,16 @@ more_item_short true left = omega arith
 more_item_short false left = omega arith
 
 module _ (style : Style) where
-  json_member_short : (limit : Option ℕ) (before : (place : ℕ) → List ℕ) (label : Label) → IsShortBefore before label → (start end place : ℕ) (first : Bool) (value : Value) (rest : Members)
+  json_member_short : (limit : Option ℕ) (before : (place : ℕ) → List ℕ) (label : Label) → IsShortBefore before label
+      → (start end place : ℕ) (first : Bool) (value : Value) (rest : Members)
       → length (styled_json style value) ≤ (size_in (form_of style Json) value).text
-      → length (styled_json_members style limit before (suc place) false rest) ≤ (members_in (form_of style Json) limit label start end (suc place) rest).text
-      → length (((comma first ++ before place) ++ styled_json style value) ++ styled_json_members style limit before (suc place) false rest)
-      ≤ (both (moved (member_before Json label place) (member_moves Json label place) (size_in (form_of style Json) value)) (members_in (form_of style Json) limit label start end (suc place) rest)).text
+      → length (styled_json_members style limit before (suc place) false rest)
+      ≤ (members_in (form_of style Json) limit label start end (suc place) rest).text
+      → length (((comma first ++ before place) ++ styled_json style value)
+      ++ styled_json_members style limit before (suc place) false rest)
+      ≤ (both
+      (moved (member_before Json label place) (member_moves Json label place) (size_in (form_of style Json) value))
+      (members_in (form_of style Json) limit label start end (suc place) rest)).text
   json_member_short limit before label h start end place first value rest one more =
       let front = comma first ++ before place in
       omega (
@@ -307,7 +373,8 @@ module _ (style : Style) where
         comma_short first,
         h place,
         json_moves label place (size_in (form_of style Json) value).lines,
-        length-append (front ++ styled_json style value) (styled_json_members style limit before (suc place) false rest),
+        length-append (front ++ styled_json style value)
+            (styled_json_members style limit before (suc place) false rest),
         length-append front (styled_json style value),
         length-append (comma first) (before place),
       )
@@ -320,33 +387,55 @@ module _ (style : Style) where
     json_short (Mapped ArrayLabel start end members) =
         let text = styled_json_members style style.elements no_key 0 true members in
         let parts = members_in (form_of style Json) style.elements ArrayLabel start end 0 members in
-        let inside = array_within style.chars (text_size Json (member_count members) start (end - start)) (with_parts Json (array_room Json (member_count members) + line_room Json start (end - start)) parts) in
-        omega (arith, json_members_short style.elements no_key ArrayLabel no_key_short start end 0 true members, inside.text, length-append text (codes "]"))
+        let inside = array_within style.chars (text_size Json (member_count members) start (end - start))
+        (with_parts Json (array_room Json (member_count members) + line_room Json start (end - start)) parts) in
+        omega (
+          arith,
+          json_members_short style.elements no_key ArrayLabel no_key_short start end 0 true members,
+          inside.text,
+          length-append text (codes "]"),
+        )
     json_short (Mapped (StructLabel name fields) start end members) =
         let before = key_before (StructLabel name fields) in
-        omega (arith, json_members_short None before (StructLabel name fields) (struct_key_short name fields) start end 0 true members, length-append (styled_json_members style None before 0 true members) (codes "}"))
+        omega (
+          arith,
+          json_members_short None before (StructLabel name fields) (struct_key_short name fields)
+              start end 0 true members,
+          length-append (styled_json_members style None before 0 true members) (codes "}"),
+        )
     json_short (Mapped (UnionLabel name index alternative) start end members) =
         let before = key_before (UnionLabel name index alternative) in
-        omega (arith, json_members_short None before (UnionLabel name index alternative) (union_key_short name index alternative) start end 0 true members, length-append (styled_json_members style None before 0 true members) (codes "}"))
+        omega (
+          arith,
+          json_members_short None before (UnionLabel name index alternative) (union_key_short name index alternative)
+              start end 0 true members,
+          length-append (styled_json_members style None before 0 true members) (codes "}"),
+        )
 
-    json_members_short : (limit : Option ℕ) (before : (place : ℕ) → List ℕ) (label : Label) → IsShortBefore before label → (start end place : ℕ) (first : Bool) (members : Members)
-        → length (styled_json_members style limit before place first members) ≤ (members_in (form_of style Json) limit label start end place members).text
+    json_members_short : (limit : Option ℕ) (before : (place : ℕ) → List ℕ) (label : Label) → IsShortBefore before label
+        → (start end place : ℕ) (first : Bool) (members : Members)
+        → length (styled_json_members style limit before place first members)
+        ≤ (members_in (form_of style Json) limit label start end place members).text
     json_members_short limit before label h start end place first NoMembers = omega arith
-    json_members_short limit before label h start end place first (AbsentThen rest) = elim (cases_Bool (is_past limit place)) [
-      | inl past ↦ rw past (more_item_short first (suc (member_count rest)))
-      | inr earlier ↦ rw earlier (json_members_short limit before label h start end (suc place) first rest)
-    ]
-    json_members_short limit before label h start end place first (MemberThen value rest) = elim (cases_Bool (is_past limit place)) [
-      | inl past ↦ rw past (more_item_short first (suc (member_count rest)))
-      | inr earlier ↦ rw earlier (json_member_short limit before label h start end place first value rest (json_short value) (json_members_short limit before label h start end (suc place) false rest))
-    ]
+    json_members_short limit before label h start end place first (AbsentThen rest) =
+        elim (cases_Bool (is_past limit place)) [
+          | inl past ↦ rw past (more_item_short first (suc (member_count rest)))
+          | inr earlier ↦ rw earlier (json_members_short limit before label h start end (suc place) first rest)
+        ]
+    json_members_short limit before label h start end place first (MemberThen value rest) =
+        elim (cases_Bool (is_past limit place)) [
+          | inl past ↦ rw past (more_item_short first (suc (member_count rest)))
+          | inr earlier ↦ rw earlier (json_member_short limit before label h start end place first value rest
+              (json_short value) (json_members_short limit before label h start end (suc place) false rest))
+        ]
 
 -- ---- a line for each part without parts
 
 clash : true ≡ false → ⊥
 clash e = cc
 
-none_text : (style : Style) (label : Label) (place : ℕ) (first : Bool) (members : Members) → any_present members ≡ false → styled_members style None label place first members ≡ []
+none_text : (style : Style) (label : Label) (place : ℕ) (first : Bool) (members : Members) →
+    any_present members ≡ false → styled_members style None label place first members ≡ []
 none_text style label place first NoMembers e = refl
 none_text style label place first (MemberThen value rest) e = absurd (clash e)
 none_text style label place first (AbsentThen rest) e = none_text style label (suc place) first rest e
@@ -354,7 +443,8 @@ none_text style label place first (AbsentThen rest) e = none_text style label (s
 cell_length : (bits : ℕ) → length (bits_cell bits) ≡ 3 + length (decimal bits)
 cell_length bits = omega (arith, length-append (decimal bits) (codes "#b"))
 
-leaf_length : (style : Style) (steps : List ℕ) (v : Value) → length (styled_leaf style steps v) ≡ length (path_text steps) + (line_room Lines (start_of v) (end_of v - start_of v) + length (styled_value style v))
+leaf_length : (style : Style) (steps : List ℕ) (v : Value) → length (styled_leaf style steps v)
+    ≡ length (path_text steps) + (line_room Lines (start_of v) (end_of v - start_of v) + length (styled_value style v))
 leaf_length style steps v =
     let size = end_of v - start_of v in
     omega (
@@ -368,7 +458,8 @@ leaf_length style steps v =
     )
 
 more_leaf_length : (steps : List ℕ) (array : Value) (place from left : ℕ)
-    → length (more_leaf steps array place from left) ≡ length steps + (length (more_step place) + (line_room Lines from (end_of array - start_of array - (from - start_of array)) + length (more_text left)))
+    → length (more_leaf steps array place from left) ≡ length steps + (length (more_step place)
+    + (line_room Lines from (end_of array - start_of array - (from - start_of array)) + length (more_text left)))
 more_leaf_length steps array place from left =
     let size = end_of array - start_of array - (from - start_of array) in
     omega (
@@ -376,7 +467,8 @@ more_leaf_length steps array place from left =
       cell_length from,
       cell_length size,
       length-append (bits_cell from) (bits_cell size),
-      length-append steps (more_step place ++ (more_cells array from ++ (codes "\t" ++ (more_text left ++ codes "\n")))),
+      length-append steps
+          (more_step place ++ (more_cells array from ++ (codes "\t" ++ (more_text left ++ codes "\n")))),
       length-append (more_step place) (more_cells array from ++ (codes "\t" ++ (more_text left ++ codes "\n"))),
       length-append (more_cells array from) (codes "\t" ++ (more_text left ++ codes "\n")),
       length-append (more_text left) (codes "\n"),
@@ -404,7 +496,8 @@ step_some (OffsetLabel magnitude type unit) place = field_step_some None place
 step_some (TextLabel bytes) place = field_step_some None place
 step_some ArrayLabel place = omega arith
 step_some (StructLabel name fields) place = field_step_some (member_name (StructLabel name fields) place) place
-step_some (UnionLabel name index alternative) place = field_step_some (member_name (UnionLabel name index alternative) place) place
+step_some (UnionLabel name index alternative) place =
+    field_step_some (member_name (UnionLabel name index alternative) place) place
 
 lines_before : (label : Label) (place : ℕ) → member_before Lines label place ≡ 0
 lines_before (IntegerLabel number type) place = refl
@@ -424,36 +517,50 @@ module _ (style : Style) where
   -- the text of an array without present elements: none, or what stands for those that are left out
   absent_text : (limit : Option ℕ) (start end place : ℕ) (members : Members) → any_present members ≡ false
       → (styled_members style limit ArrayLabel place true members ≡ [])
-      ⊎ (line_room Lines start (end - start) + 2 + length (styled_members style limit ArrayLabel place true members) ≤ (members_in lines limit ArrayLabel start end place members).text)
+      ⊎ (line_room Lines start (end - start) + 2 + length (styled_members style limit ArrayLabel place true members)
+      ≤ (members_in lines limit ArrayLabel start end place members).text)
   absent_text limit start end place NoMembers e = inl refl
   absent_text limit start end place (MemberThen value rest) e = absurd (clash e)
   absent_text limit start end place (AbsentThen rest) e = elim (cases_Bool (is_past limit place)) [
-    | inl past ↦ rw past (inr (let same : end - start - (start - start) ≡ end - start = omega arith in rw same (omega (arith, more_step_some place))))
+    | inl past ↦ rw past (inr (let same : end - start - (start - start) ≡ end - start = omega arith in
+        rw same (omega (arith, more_step_some place))))
     | inr before ↦ rw before (absent_text limit start end (suc place) rest e)
   ]
 
   -- a value without present parts, on its line
   leaf_short : (label : Label) (start end : ℕ) (members : Members) → is_parted label members ≡ false
       → line_room Lines start (end - start) + length (styled_value style (Mapped label start end members))
-      ≤ (with_parts Lines (flat_own style label + line_room Lines start (end - start)) (members_in lines (limit_of style label) label start end 0 members)).text
+      ≤ (with_parts Lines (flat_own style label + line_room Lines start (end - start))
+      (members_in lines (limit_of style label) label start end 0 members)).text
   leaf_short (IntegerLabel number type) start end _ e = omega arith
   leaf_short (OffsetLabel magnitude type unit) start end _ e = omega arith
   leaf_short (TextLabel bytes) start end _ e = omega arith
   leaf_short ArrayLabel start end members e = elim (absent_text style.elements start end 0 members e) [
     | inl none ↦ rw none (omega arith)
-    | inr few ↦ omega (arith, few, length-append (styled_members style style.elements ArrayLabel 0 true members) (codes "]"))
+    | inr few ↦
+        omega (arith, few, length-append (styled_members style style.elements ArrayLabel 0 true members) (codes "]"))
   ]
   leaf_short (StructLabel name fields) start end members e =
-      rw (none_text style (StructLabel name fields) 0 true members e) (omega (arith, in_braces (title_text (codes "struct") name) []))
+      rw (none_text style (StructLabel name fields) 0 true members e)
+      (omega (arith, in_braces (title_text (codes "struct") name) []))
   leaf_short (UnionLabel name index alternative) start end members e =
-      rw (none_text style (UnionLabel name index alternative) 0 true members e) (omega (arith, in_braces (title_text (codes "union") name) []))
+      rw (none_text style (UnionLabel name index alternative) 0 true members e)
+      (omega (arith, in_braces (title_text (codes "union") name) []))
 
-  branch_short : (limit : Option ℕ) (steps : List ℕ) (label : Label) (start end : ℕ) (all : Members) (place : ℕ) (value : Value) (rest : Members)
-      → length (styled_leaves style (steps ++ step_text label place) value) ≤ (size_in lines value).text + length (steps ++ step_text label place) * (size_in lines value).lines
-      → length (styled_branches style limit steps (Mapped label start end all) (suc place) rest) ≤ (members_in lines limit label start end (suc place) rest).text + length steps * (members_in lines limit label start end (suc place) rest).lines
-      → length (styled_leaves style (steps ++ step_text label place) value ++ styled_branches style limit steps (Mapped label start end all) (suc place) rest)
-      ≤ (both (moved (member_before Lines label place) (member_moves Lines label place) (size_in lines value)) (members_in lines limit label start end (suc place) rest)).text
-      + length steps * (both (moved (member_before Lines label place) (member_moves Lines label place) (size_in lines value)) (members_in lines limit label start end (suc place) rest)).lines
+  branch_short : (limit : Option ℕ) (steps : List ℕ) (label : Label) (start end : ℕ) (all : Members) (place : ℕ)
+      (value : Value) (rest : Members)
+      → length (styled_leaves style (steps ++ step_text label place) value)
+      ≤ (size_in lines value).text + length (steps ++ step_text label place) * (size_in lines value).lines
+      → length (styled_branches style limit steps (Mapped label start end all) (suc place) rest)
+      ≤ (members_in lines limit label start end (suc place) rest).text
+      + length steps * (members_in lines limit label start end (suc place) rest).lines
+      → length (styled_leaves style (steps ++ step_text label place) value
+      ++ styled_branches style limit steps (Mapped label start end all) (suc place) rest)
+      ≤ (both (moved (member_before Lines label place) (member_moves Lines label place) (size_in lines value))
+      (members_in lines limit label start end (suc place) rest)).text
+      + length steps
+      * (both (moved (member_before Lines label place) (member_moves Lines label place) (size_in lines value))
+      (members_in lines limit label start end (suc place) rest)).lines
   branch_short limit steps label start end all place value rest first later =
       let one = size_in lines value in
       let more = members_in lines limit label start end (suc place) rest in
@@ -467,27 +574,35 @@ module _ (style : Style) where
         lines_before label place,
         add-mul (length steps) (member_moves Lines label place) one.lines,
         mul-add (length steps) one.lines more.lines,
-        length-append (styled_leaves style (steps ++ step) value) (styled_branches style limit steps (Mapped label start end all) (suc place) rest),
+        length-append (styled_leaves style (steps ++ step) value)
+            (styled_branches style limit steps (Mapped label start end all) (suc place) rest),
       )
 
   longer_steps : (steps : List ℕ) (label : Label) (place : ℕ) → 0 < length (steps ++ step_text label place)
   longer_steps steps label place = omega (arith, length-append steps (step_text label place), step_some label place)
 
   mutual
-    lines_short : (steps : List ℕ) (v : Value) → 0 < length steps → length (styled_leaves style steps v) ≤ (size_in lines v).text + length steps * (size_in lines v).lines
+    lines_short : (steps : List ℕ) (v : Value) → 0 < length steps →
+        length (styled_leaves style steps v) ≤ (size_in lines v).text + length steps * (size_in lines v).lines
     lines_short steps (Mapped label start end members) some =
         let parts = members_in lines (limit_of style label) label start end 0 members in
         let own = with_parts Lines (flat_own style label + line_room Lines start (end - start)) parts in
         let inside = chars_inside lines (length steps) label (member_count members) start end own in
-        let short = chosen (branches_short (limit_of style label) steps label start end members 0 members) (is_parted label members) refl in
+        let short = chosen (branches_short (limit_of style label) steps label start end members 0 members)
+        (is_parted label members) refl in
         omega (arith, inside, short)
       where
         chosen : length (styled_branches style (limit_of style label) steps (Mapped label start end members) 0 members)
-            ≤ (members_in lines (limit_of style label) label start end 0 members).text + length steps * (members_in lines (limit_of style label) label start end 0 members).lines
+            ≤ (members_in lines (limit_of style label) label start end 0 members).text
+            + length steps * (members_in lines (limit_of style label) label start end 0 members).lines
             → (b : Bool) → is_parted label members ≡ b
-            → length (if b then styled_branches style (limit_of style label) steps (Mapped label start end members) 0 members else styled_leaf style steps (Mapped label start end members))
-            ≤ (with_parts Lines (flat_own style label + line_room Lines start (end - start)) (members_in lines (limit_of style label) label start end 0 members)).text
-            + length steps * (with_parts Lines (flat_own style label + line_room Lines start (end - start)) (members_in lines (limit_of style label) label start end 0 members)).lines
+            → length
+            (if b then styled_branches style (limit_of style label) steps (Mapped label start end members) 0 members
+            else styled_leaf style steps (Mapped label start end members))
+            ≤ (with_parts Lines (flat_own style label + line_room Lines start (end - start))
+            (members_in lines (limit_of style label) label start end 0 members)).text
+            + length steps * (with_parts Lines (flat_own style label + line_room Lines start (end - start))
+            (members_in lines (limit_of style label) label start end 0 members)).lines
         chosen few true e =
             let parts = members_in lines (limit_of style label) label start end 0 members in
             omega (arith, few, mul-le-mul_left {m = parts.lines} {n = max 1 parts.lines} (length steps) (omega arith))
@@ -501,27 +616,41 @@ module _ (style : Style) where
               mul-le-mul_left {m = 1} {n = max 1 parts.lines} (length steps) (omega arith),
             )
 
-    branches_short : (limit : Option ℕ) (steps : List ℕ) (label : Label) (start end : ℕ) (all : Members) (place : ℕ) (members : Members)
-        → length (styled_branches style limit steps (Mapped label start end all) place members) ≤ (members_in lines limit label start end place members).text + length steps * (members_in lines limit label start end place members).lines
+    branches_short : (limit : Option ℕ) (steps : List ℕ) (label : Label) (start end : ℕ) (all : Members)
+        (place : ℕ) (members : Members)
+        → length (styled_branches style limit steps (Mapped label start end all) place members)
+        ≤ (members_in lines limit label start end place members).text
+        + length steps * (members_in lines limit label start end place members).lines
     branches_short limit steps label start end all place NoMembers = omega arith
     branches_short limit steps label start end all place (AbsentThen rest) = elim (cases_Bool (is_past limit place)) [
-      | inl past ↦ rw past (omega (arith, more_leaf_length steps (Mapped label start end all) place start (suc (member_count rest))))
+      | inl past ↦ rw past
+          (omega (arith, more_leaf_length steps (Mapped label start end all) place start (suc (member_count rest))))
       | inr before ↦ rw before (branches_short limit steps label start end all (suc place) rest)
     ]
-    branches_short limit steps label start end all place (MemberThen value rest) = elim (cases_Bool (is_past limit place)) [
-      | inl past ↦ rw past (omega (arith, more_leaf_length steps (Mapped label start end all) place (start_of value) (suc (member_count rest))))
-      | inr before ↦ rw before (branch_short limit steps label start end all place value rest (lines_short (steps ++ step_text label place) value (longer_steps steps label place)) (branches_short limit steps label start end all (suc place) rest))
-    ]
+    branches_short limit steps label start end all place (MemberThen value rest) =
+        elim (cases_Bool (is_past limit place)) [
+          | inl past ↦ rw past (omega (
+            arith,
+            more_leaf_length steps (Mapped label start end all) place (start_of value) (suc (member_count rest)),
+          ))
+          | inr before ↦ rw before (branch_short limit steps label start end all place value rest
+              (lines_short (steps ++ step_text label place) value (longer_steps steps label place))
+              (branches_short limit steps label start end all (suc place) rest))
+        ]
 
   -- a value without parts has a dot for its path
   pub all_lines_short : (v : Value) → length (styled_part_lines style v) ≤ (size_in lines v).text + 1
   all_lines_short (Mapped label start end members) =
       let parts = members_in lines (limit_of style label) label start end 0 members in
       let own = with_parts Lines (flat_own style label + line_room Lines start (end - start)) parts in
-      omega (arith, chars_inside lines 0 label (member_count members) start end own, chosen (is_parted label members) refl)
+      omega
+      (arith, chars_inside lines 0 label (member_count members) start end own, chosen (is_parted label members) refl)
     where
       chosen : (b : Bool) → is_parted label members ≡ b
-          → length (if b then styled_branches style (limit_of style label) [] (Mapped label start end members) 0 members else styled_leaf style [] (Mapped label start end members))
-          ≤ (with_parts Lines (flat_own style label + line_room Lines start (end - start)) (members_in lines (limit_of style label) label start end 0 members)).text + 1
+          → length (if b then styled_branches style (limit_of style label) [] (Mapped label start end members) 0 members
+          else styled_leaf style [] (Mapped label start end members))
+          ≤ (with_parts Lines (flat_own style label + line_room Lines start (end - start))
+          (members_in lines (limit_of style label) label start end 0 members)).text + 1
       chosen true e = omega (arith, branches_short (limit_of style label) [] label start end members 0 members)
-      chosen false e = omega (arith, leaf_short label start end members e, leaf_length style [] (Mapped label start end members))
+      chosen false e =
+          omega (arith, leaf_short label start end members e, leaf_length style [] (Mapped label start end members))

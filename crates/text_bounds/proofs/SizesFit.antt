@@ -33,13 +33,15 @@ use Rattle.text_bounds.proofs.Sizes.{own_room, size_in, members_in}
 
 -- ---- scalars
 
-integer_within : (style : Style) (mode : Mode) (type : IntegerType) (n count : ℕ) → n < 2 ^ type.width → own_room style mode (IntegerLabel (with_sign type n) type) count ≤ integer_room style.numbers mode type
+integer_within : (style : Style) (mode : Mode) (type : IntegerType) (n count : ℕ) → n < 2 ^ type.width →
+    own_room style mode (IntegerLabel (with_sign type n) type) count ≤ integer_room style.numbers mode type
 integer_within style Flat type n count lt = integer_longest style.numbers type n lt
 integer_within style Tree type n count lt = integer_longest style.numbers type n lt
 integer_within style Lines type n count lt = integer_longest style.numbers type n lt
 integer_within style Json type n count lt = json_longest style.numbers type n lt
 
-offset_within : (style : Style) (mode : Mode) (type : IntegerType) (unit n count : ℕ) → n < 2 ^ type.width → own_room style mode (OffsetLabel (with_sign type n) type unit) count ≤ offset_room style.numbers mode type unit
+offset_within : (style : Style) (mode : Mode) (type : IntegerType) (unit n count : ℕ) → n < 2 ^ type.width →
+    own_room style mode (OffsetLabel (with_sign type n) type unit) count ≤ offset_room style.numbers mode type unit
 offset_within style Flat type unit n count lt = offset_longest style.numbers type unit n lt
 offset_within style Tree type unit n count lt = offset_longest style.numbers type unit n lt
 offset_within style Lines type unit n count lt = offset_longest style.numbers type unit n lt
@@ -49,10 +51,13 @@ offset_within style Json type unit n count lt = json_offset_longest style.number
 few_bytes : (m s n : ℕ) → s + 8 * (n + 1) ≤ m → n ≤ m / 8 - 1
 few_bytes m s n le = omega (arith, le)
 
-text_within : (style : Style) (mode : Mode) (m s count : ℕ) (bytes : List ℕ) → s + 8 * (length bytes + 1) ≤ m → own_room style mode (TextLabel bytes) count ≤ string_room mode m
-text_within style mode m s count bytes le = text_short style mode bytes count (m / 8 - 1) (few_bytes m s (length bytes) le)
+text_within : (style : Style) (mode : Mode) (m s count : ℕ) (bytes : List ℕ) → s + 8 * (length bytes + 1) ≤ m →
+    own_room style mode (TextLabel bytes) count ≤ string_room mode m
+text_within style mode m s count bytes le =
+    text_short style mode bytes count (m / 8 - 1) (few_bytes m s (length bytes) le)
 
-line_within : (mode : Mode) (start size m widest : ℕ) → start ≤ m → size ≤ widest → line_room mode start size ≤ line_room mode m widest
+line_within : (mode : Mode) (start size m widest : ℕ) → start ≤ m → size ≤ widest →
+    line_room mode start size ≤ line_room mode m widest
 line_within Flat start size m widest le lt = omega arith
 line_within Tree start size m widest le lt = omega arith
 line_within Json start size m widest le lt = omega arith
@@ -70,7 +75,8 @@ pub record Gains (before after : Levels) (P : List (Option Value) → Type 0) : 
   pub is : top_of after ≡ top_of before ++ more
   pub holds : P more
 
-gains_one : {P Q : List (Option Value) → Type 0} (levels inside : Levels) (v : Option Value) → ((more : List (Option Value)) → P more → Q (v ∷ more)) → Gains (pushed levels v) inside P → Gains levels inside Q
+gains_one : {P Q : List (Option Value) → Type 0} (levels inside : Levels) (v : Option Value) →
+    ((more : List (Option Value)) → P more → Q (v ∷ more)) → Gains (pushed levels v) inside P → Gains levels inside Q
 gains_one levels inside v f g = record {
   more = v ∷ g.more;
   is = g.is ∙ ap (λ t. t ++ g.more) (top_pushed levels v) ∙ append_assoc (top_of levels) (v ∷ []) g.more;
@@ -86,14 +92,16 @@ pub record NamesFrom (all : List Naming) (place : ℕ) (names : List Naming) : T
 names_whole : (all : List Naming) → NamesFrom all 0 all
 names_whole all = record { before = []; is = refl; count = refl }
 
-names_next : {all : List Naming} {place : ℕ} (name : Naming) (names : List Naming) → NamesFrom all place (name ∷ names) → NamesFrom all (place + 1) names
+names_next : {all : List Naming} {place : ℕ} (name : Naming) (names : List Naming) →
+    NamesFrom all place (name ∷ names) → NamesFrom all (place + 1) names
 names_next name names h = record {
   before = h.before ++ name ∷ [];
   is = h.is ∙ sym (append_assoc h.before (name ∷ []) names);
   count = omega (arith, h.count, length-append h.before (name ∷ []));
 }
 
-name_there : (title : Naming) {all : List Naming} {place : ℕ} (name : Naming) (names : List Naming) → NamesFrom all place (name ∷ names) → member_name (StructLabel title all) place ≡ name
+name_there : (title : Naming) {all : List Naming} {place : ℕ} (name : Naming) (names : List Naming) →
+    NamesFrom all place (name ∷ names) → member_name (StructLabel title all) place ≡ name
 name_there title {all} {place} name names h =
     unwrap_or-slice_get all place None
     ∙ ap (λ l. get_or l place None) h.is
@@ -104,22 +112,31 @@ suc_place : (place : ℕ) → suc place ≡ place + 1
 suc_place place = omega arith
 
 -- members within a size, whose parts have no more bytes
-record AreBounded (form : Form) (limit : Option ℕ) (label : Label) (start end place : ℕ) (members : Members) (room : Size) : Type 0 where
+record AreBounded (form : Form) (limit : Option ℕ) (label : Label) (start end place : ℕ) (members : Members)
+    (room : Size) : Type 0 where
   size : Within (members_in form limit label start end place members) room
   parts : PartsWithin form room.text members
 
 module _ (form : Form) where
-  field_bounded : (title : Naming) (all : List Naming) (start end place : ℕ) (name : Naming) (names : List Naming) (v : Value) (more : List (Option Value)) {one rest : Size} → NamesFrom all place (name ∷ names) → IsBounded form v one
+  field_bounded : (title : Naming) (all : List Naming) (start end place : ℕ) (name : Naming) (names : List Naming)
+      (v : Value) (more : List (Option Value)) {one rest : Size}
+      → NamesFrom all place (name ∷ names) → IsBounded form v one
       → AreBounded form None (StructLabel title all) start end (place + 1) (gathered more) rest
-      → AreBounded form None (StructLabel title all) start end place (gathered (Some v ∷ more)) (both (moved (field_before form.mode name place) (field_moves form.mode name place) one) rest)
+      → AreBounded form None (StructLabel title all) start end place (gathered (Some v ∷ more))
+      (both (moved (field_before form.mode name place) (field_moves form.mode name place) one) rest)
   field_bounded title all start end place name names v more {one} {rest} h fit later =
       let named = name_there title name names h in
       record {
-        size = rw (named, suc_place place) (both_within (moved_within _ _ _ _ (omega arith) (omega arith) fit.size) later.size);
-        parts = (all_more form one.text _ (omega arith) v (all_of form v fit), parts_more form rest.text _ (omega arith) (gathered more) later.parts);
+        size = rw (named, suc_place place)
+            (both_within (moved_within _ _ _ _ (omega arith) (omega arith) fit.size) later.size);
+        parts = (
+          all_more form one.text _ (omega arith) v (all_of form v fit),
+          parts_more form rest.text _ (omega arith) (gathered more) later.parts,
+        );
       }
 
-  absent_bounded : (title : Naming) (all : List Naming) (start end place : ℕ) (more : List (Option Value)) (one : Size) {rest : Size} → AreBounded form None (StructLabel title all) start end (place + 1) (gathered more) rest
+  absent_bounded : (title : Naming) (all : List Naming) (start end place : ℕ) (more : List (Option Value)) (one : Size)
+      {rest : Size} → AreBounded form None (StructLabel title all) start end (place + 1) (gathered more) rest
       → AreBounded form None (StructLabel title all) start end place (gathered (None ∷ more)) (both one rest)
   absent_bounded title all start end place more one {rest} later = record {
     size = rw (suc_place place) (later_within one later.size);
@@ -132,22 +149,26 @@ parts_inside Tree own parts = omega arith
 parts_inside Json own parts = omega arith
 parts_inside Lines own parts = omega arith
 
-own_struct : (style : Style) (mode : Mode) (name : Naming) (fields : List Naming) (count : ℕ) → own_room style mode (StructLabel name fields) count ≡ titled_room mode (codes "struct") name
+own_struct : (style : Style) (mode : Mode) (name : Naming) (fields : List Naming) (count : ℕ) →
+    own_room style mode (StructLabel name fields) count ≡ titled_room mode (codes "struct") name
 own_struct style Flat name fields count = refl
 own_struct style Tree name fields count = refl
 own_struct style Json name fields count = refl
 own_struct style Lines name fields count = refl
 
-own_union : (style : Style) (mode : Mode) (name : Naming) (index : ℕ) (alternative : Naming) (count : ℕ) → own_room style mode (UnionLabel name index alternative) count ≡ titled_room mode (codes "union") name
+own_union : (style : Style) (mode : Mode) (name : Naming) (index : ℕ) (alternative : Naming) (count : ℕ) →
+    own_room style mode (UnionLabel name index alternative) count ≡ titled_room mode (codes "union") name
 own_union style Flat name index alternative count = refl
 own_union style Tree name index alternative count = refl
 own_union style Json name index alternative count = refl
 own_union style Lines name index alternative count = refl
 
 -- a frame begins empty: what it has gained since then is all that it has
-struct_bounded : (form : Form) (m widest : ℕ) (name : Naming) (names : List Naming) (s end : ℕ) (levels inside : Levels) {size : Size} → s ≤ m → end - s ≤ widest
+struct_bounded : (form : Form) (m widest : ℕ) (name : Naming) (names : List Naming) (s end : ℕ) (levels inside : Levels)
+    {size : Size} → s ≤ m → end - s ≤ widest
     → Gains (opened levels) inside (λ more. AreBounded form None (StructLabel name names) s end 0 (gathered more) size)
-    → IsBounded form (struct_value name names s end inside) (with_parts form.mode (titled_room form.mode (codes "struct") name + line_room form.mode m widest) size)
+    → IsBounded form (struct_value name names s end inside)
+    (with_parts form.mode (titled_room form.mode (codes "struct") name + line_room form.mode m widest) size)
 struct_bounded form m widest name names s end levels inside {size} le wide g =
     let is = g.is in
     let e = own_struct form.style form.mode name names (member_count (gathered g.more)) in
@@ -160,7 +181,8 @@ struct_bounded form m widest name names s end levels inside {size} le wide g =
 -- ---- elements
 
 -- so many members of one size, of which none is absent
-elements_more : (count : ℕ) {a b rest : Size} → Within a b → Within rest (repeated count b) → Within (both a rest) (repeated (suc count) b)
+elements_more : (count : ℕ) {a b rest : Size} → Within a b → Within rest (repeated count b) →
+    Within (both a rest) (repeated (suc count) b)
 elements_more count {a} {b} {rest} h g = record {
   text = omega (arith, h.text, g.text, add-mul 1 count b.text);
   lines = omega (arith, h.lines, g.lines, add-mul 1 count b.lines);
@@ -173,7 +195,8 @@ repeated_within n count a le = record {
 }
 
 brackets_longer : (i count : ℕ) → i ≤ count → length (in_brackets i) ≤ length (in_brackets count)
-brackets_longer i count le = omega (arith, decimal_longer i count le, length-append (decimal i) (codes "]"), length-append (decimal count) (codes "]"))
+brackets_longer i count le = omega
+    (arith, decimal_longer i count le, length-append (decimal i) (codes "]"), length-append (decimal count) (codes "]"))
 
 before_more : (mode : Mode) (i count : ℕ) → i ≤ count → element_before mode i ≤ element_before mode count
 before_more Flat i count le = omega arith
@@ -187,7 +210,8 @@ moves_more Tree i count le = omega arith
 moves_more Json i count le = omega arith
 moves_more Lines i count le = brackets_longer i count le
 
-array_more : (style : Style) (mode : Mode) (i count : ℕ) → i ≤ count → own_room style mode ArrayLabel i ≤ array_room mode count
+array_more : (style : Style) (mode : Mode) (i count : ℕ) → i ≤ count →
+    own_room style mode ArrayLabel i ≤ array_room mode count
 array_more style Flat i count le = omega arith
 array_more style Tree i count le = brackets_longer i count le
 array_more style Json i count le = omega arith
@@ -197,8 +221,10 @@ array_more style Lines i count le = omega arith
 more_longer : (left count : ℕ) → left ≤ count → length (more_text left) ≤ length (more_text count)
 more_longer left count le = omega (arith, decimal_longer left count le)
 
-more_within : (mode : Mode) (left place from bits count m : ℕ) → left ≤ count → place ≤ count → from ≤ m → bits ≤ m → Within (more_size mode left place from bits) (more_size mode count count m m)
-more_within Flat left place from bits count m l p f b = record { text = omega (arith, more_longer left count l); lines = omega arith }
+more_within : (mode : Mode) (left place from bits count m : ℕ) → left ≤ count → place ≤ count → from ≤ m → bits ≤ m →
+    Within (more_size mode left place from bits) (more_size mode count count m m)
+more_within Flat left place from bits count m l p f b =
+    record { text = omega (arith, more_longer left count l); lines = omega arith }
 more_within Tree left place from bits count m l p f b = record {
   text = omega (
     arith,
@@ -211,7 +237,12 @@ more_within Tree left place from bits count m l p f b = record {
   lines = omega arith;
 }
 more_within Json left place from bits count m l p f b = record {
-  text = omega (arith, decimal_longer left count l, length-append (decimal left) (codes "}"), length-append (decimal count) (codes "}"));
+  text = omega (
+    arith,
+    decimal_longer left count l,
+    length-append (decimal left) (codes "}"),
+    length-append (decimal count) (codes "}"),
+  );
   lines = omega arith;
 }
 more_within Lines left place from bits count m l p f b = record {
@@ -235,14 +266,16 @@ none_left : (limit : Option ℕ) (i : ℕ) (each more : Size) → Within no_size
 none_left None i each more = record { text = omega arith; lines = omega arith }
 none_left (Some most) i each more = record { text = omega arith; lines = omega arith }
 
-past_left : (limit : Option ℕ) (i n : ℕ) (each : Size) {a more : Size} → is_past limit i ≡ true → Within a more → Within a (left_size limit i n each more)
+past_left : (limit : Option ℕ) (i n : ℕ) (each : Size) {a more : Size} → is_past limit i ≡ true → Within a more →
+    Within a (left_size limit i n each more)
 past_left None i n each past h = absurd (clash past)
   where
     clash : false ≡ true → ⊥
     clash e = cc
 past_left (Some most) i n each past h = later_within (repeated (min (most - i) n) each) h
 
-one_left : (limit : Option ℕ) (i n : ℕ) (more : Size) {a each rest : Size} → is_past limit i ≡ false → Within a each → Within rest (left_size limit (i + 1) n each more) → Within (both a rest) (left_size limit i (suc n) each more)
+one_left : (limit : Option ℕ) (i n : ℕ) (more : Size) {a each rest : Size} → is_past limit i ≡ false → Within a each →
+    Within rest (left_size limit (i + 1) n each more) → Within (both a rest) (left_size limit i (suc n) each more)
 one_left None i n more before h g = elements_more n h g
 one_left (Some most) i n more {a} {each} {rest} before h g =
     let some : i < most = grind (arith, before) in
@@ -253,18 +286,23 @@ one_left (Some most) i n more {a} {each} {rest} before h g =
       lines = omega (arith, h.lines, g.lines, add-mul 1 k each.lines);
     })
 
-left_within : (mode : Mode) (limit : Option ℕ) (m n count : ℕ) (each : Size) → n ≤ count → Within (left_size limit 0 n each (more_size mode count count m m)) (elements_size mode limit m count each)
+left_within : (mode : Mode) (limit : Option ℕ) (m n count : ℕ) (each : Size) → n ≤ count →
+    Within (left_size limit 0 n each (more_size mode count count m m)) (elements_size mode limit m count each)
 left_within mode None m n count each le = repeated_within n count each le
 left_within mode (Some most) m n count each le =
     let all : most - 0 ≡ most = omega arith in
-    rw all (both_within (repeated_within (min most n) (min (max 1 most) count) each (omega (arith, le))) (same_within {a = more_size mode count count m m}))
+    rw all (both_within (repeated_within (min most n) (min (max 1 most) count) each (omega (arith, le)))
+    (same_within {a = more_size mode count count m m}))
 
 -- elements from a number on of an array: how many there are, the least bits that they take, and their size
-record AreElements (form : Form) (limit : Option ℕ) (m width count from to i place end : ℕ) (element : Size) (more : List (Option Value)) : Type 0 where
+record AreElements (form : Form) (limit : Option ℕ) (m width count from to i place end : ℕ) (element : Size)
+    (more : List (Option Value)) : Type 0 where
   n : ℕ
   counted : member_count (gathered more) ≡ n
   wide : place + n * width ≤ end
-  size : Within (members_in form limit ArrayLabel from to i (gathered more)) (left_size limit i n (moved (element_before form.mode count) (element_moves form.mode count) element) (more_size form.mode count count m m))
+  size : Within (members_in form limit ArrayLabel from to i (gathered more))
+      (left_size limit i n (moved (element_before form.mode count) (element_moves form.mode count) element)
+      (more_size form.mode count count m m))
   parts : PartsWithin form element.text (gathered more)
 
 -- n elements, each of at least so many bits
@@ -281,88 +319,123 @@ abbrev each_size : Form → (count : ℕ) → Size → Size
 each_size form count element = moved (element_before form.mode count) (element_moves form.mode count) element
 
 -- an element at a place and those after it
-element_then : (form : Form) (limit : Option ℕ) (m count from to i n : ℕ) (v : Value) (more : List (Option Value)) {element : Size} → member_count (gathered more) ≡ n → i + suc n ≤ count → start_of v ≤ m → to ≤ m → Within (size_in form v) element
-    → Within (members_in form limit ArrayLabel from to (i + 1) (gathered more)) (left_size limit (i + 1) n (each_size form count element) (more_size form.mode count count m m))
-    → Within (members_in form limit ArrayLabel from to i (gathered (Some v ∷ more))) (left_size limit i (suc n) (each_size form count element) (more_size form.mode count count m m))
-element_then form limit m count from to i n v more {element} counted few starts short size later = elim (cases_Bool (is_past limit i)) [
-  | inl past ↦ rw past (past_left limit i (suc n) (each_size form count element) past
-      (more_within form.mode (suc (member_count (gathered more))) i (start_of v) (to - from - (start_of v - from)) count m
-      (omega (arith, counted, few)) (omega (arith, few)) starts (omega (arith, short))))
-  | inr miss ↦
-      let one = moved_within _ _ _ _ (before_more form.mode i count (omega (arith, few))) (moves_more form.mode i count (omega (arith, few))) size in
-      let same = suc_place i in
-      rw (miss, same) (one_left limit i n (more_size form.mode count count m m) miss one later)
-]
+element_then : (form : Form) (limit : Option ℕ) (m count from to i n : ℕ) (v : Value) (more : List (Option Value))
+    {element : Size}
+    → member_count (gathered more) ≡ n → i + suc n ≤ count → start_of v ≤ m → to ≤ m → Within (size_in form v) element
+    → Within (members_in form limit ArrayLabel from to (i + 1) (gathered more))
+    (left_size limit (i + 1) n (each_size form count element) (more_size form.mode count count m m))
+    → Within (members_in form limit ArrayLabel from to i (gathered (Some v ∷ more)))
+    (left_size limit i (suc n) (each_size form count element) (more_size form.mode count count m m))
+element_then form limit m count from to i n v more {element} counted few starts short size later =
+    elim (cases_Bool (is_past limit i)) [
+      | inl past ↦ rw past (past_left limit i (suc n) (each_size form count element) past
+          (more_within form.mode (suc (member_count (gathered more))) i (start_of v)
+          (to - from - (start_of v - from)) count m
+          (omega (arith, counted, few)) (omega (arith, few)) starts (omega (arith, short))))
+      | inr miss ↦
+          let one = moved_within _ _ _ _ (before_more form.mode i count (omega (arith, few)))
+          (moves_more form.mode i count (omega (arith, few))) size in
+          let same = suc_place i in
+          rw (miss, same) (one_left limit i n (more_size form.mode count count m m) miss one later)
+    ]
 
-elements_within : (form : Form) (limit : Option ℕ) (m least width count from to : ℕ) (element : Size) (Fit : Levels → ℕ → Value → Type 0) → max 1 least ≡ width → m / width < count → to ≤ m
+elements_within : (form : Form) (limit : Option ℕ) (m least width count from to : ℕ) (element : Size)
+    (Fit : Levels → ℕ → Value → Type 0) → max 1 least ≡ width → m / width < count → to ≤ m
     → ((levels : Levels) (at : ℕ) (v : Value) → Fit levels at v → IsElement form least at v element)
-    → {inside : Levels} {end n : ℕ} {levels : Levels} {place i : ℕ} → end ≤ m → i * width ≤ place → ElementsFit Fit inside end n levels place i
+    → {inside : Levels} {end n : ℕ} {levels : Levels} {place i : ℕ} → end ≤ m → i * width ≤ place
+    → ElementsFit Fit inside end n levels place i
     → Gains levels inside (AreElements form limit m width count from to i place end element)
-elements_within form limit m least width count from to element Fit is most short each {levels = levels} {i = i} le before no_more_fit = record {
-  more = [];
-  is = sym (append-nil (top_of levels));
-  holds = record { n = 0; counted = refl; wide = omega arith; size = none_left limit i _ _; parts = tt };
-}
-elements_within form limit m least width count from to element Fit is most short each {inside = inside} {end = end} {levels = levels} {place = place} {i = i} le before (one_more_fits v fit lt rest) =
+elements_within form limit m least width count from to element Fit is most short each {levels = levels} {i = i} le
+    before no_more_fit = record {
+      more = [];
+      is = sym (append-nil (top_of levels));
+      holds = record { n = 0; counted = refl; wide = omega arith; size = none_left limit i _ _; parts = tt };
+    }
+elements_within form limit m least width count from to element Fit is most short each {inside = inside} {end = end}
+    {levels = levels} {place = place} {i = i} le before (one_more_fits v fit lt rest) =
     let own = each levels place v fit in
     let wide : place + width ≤ end_of v = omega (arith, is, own.wide, lt) in
     let next : (i + 1) * width ≤ end_of v = omega (arith, before, wide, add-mul i 1 width) in
     let later = elements_within form limit m least width count from to element Fit is most short each le next rest in
     gains_one levels inside (Some v) (λ more h. one_more more h wide own) later
   where
-    one_more : (more : List (Option Value)) → AreElements form limit m width count from to (i + 1) (end_of v) end element more → place + width ≤ end_of v → IsElement form least place v element
+    one_more : (more : List (Option Value))
+        → AreElements form limit m width count from to (i + 1) (end_of v) end element more → place + width ≤ end_of v
+        → IsElement form least place v element
         → AreElements form limit m width count from to i place end element (Some v ∷ more)
     one_more more h wide own =
-        let all : (i + suc h.n) * width ≤ m = omega (arith, before, wide, h.wide, le, add-mul i (suc h.n) width, add-mul 1 h.n width) in
-        let below : i + suc h.n ≤ m / width = few_elements m width (i + suc h.n) 0 (omega (arith, is)) (omega (arith, all)) in
+        let all : (i + suc h.n) * width ≤ m =
+        omega (arith, before, wide, h.wide, le, add-mul i (suc h.n) width, add-mul 1 h.n width) in
+        let below : i + suc h.n ≤ m / width =
+        few_elements m width (i + suc h.n) 0 (omega (arith, is)) (omega (arith, all)) in
         record {
           n = suc h.n;
           counted = omega (arith, h.counted);
           wide = omega (arith, wide, h.wide, add-mul 1 h.n width);
-          size = element_then form limit m count from to i h.n v more h.counted (omega (arith, below, most)) (omega (arith, own.starts, wide, h.wide, le)) short own.bounded.size h.size;
+          size = element_then form limit m count from to i h.n v more h.counted (omega (arith, below, most))
+              (omega (arith, own.starts, wide, h.wide, le)) short own.bounded.size h.size;
           parts = (all_of form v own.bounded, h.parts);
         }
 
 -- ---- the types
 
-scalar_bounded : (form : Form) (m widest own room : ℕ) {size : Size} → room ≤ own → Within size (with_parts form.mode (room + line_room form.mode m widest) no_size) → Within size (with_parts form.mode (own + line_room form.mode m widest) no_size)
+scalar_bounded : (form : Form) (m widest own room : ℕ) {size : Size} → room ≤ own →
+    Within size (with_parts form.mode (room + line_room form.mode m widest) no_size) →
+    Within size (with_parts form.mode (own + line_room form.mode m widest) no_size)
 scalar_bounded form m widest own room le h = then_within h (parts_within form.mode _ _ (omega (arith, le)) same_within)
 
 scalar_line : (form : Form) (m widest room start end : ℕ) → start ≤ m → end - start ≤ widest
-    → Within (with_parts form.mode (room + line_room form.mode start (end - start)) no_size) (with_parts form.mode (room + line_room form.mode m widest) no_size)
-scalar_line form m widest room start end le wide = parts_within form.mode _ _ (omega (arith, line_within form.mode start (end - start) m widest le wide)) same_within
+    → Within (with_parts form.mode (room + line_room form.mode start (end - start)) no_size)
+    (with_parts form.mode (room + line_room form.mode m widest) no_size)
+scalar_line form m widest room start end le wide =
+    parts_within form.mode _ _ (omega (arith, line_within form.mode start (end - start) m widest le wide)) same_within
 
 -- a union with the alternative that matched
 union_bounded : (form : Form) (m : ℕ) (title : Naming) (s : ℕ) (t : Taken) {size : Size} → s ≤ m → end_of t.value ≤ m
-    → Within (moved (field_before form.mode t.name 0) (field_moves form.mode t.name 0) (size_in form t.value)) size → AllWithin form size.text t.value
-    → IsBounded form (union_value title s t) (with_parts form.mode (titled_room form.mode (codes "union") title + line_room form.mode m m) size)
+    → Within (moved (field_before form.mode t.name 0) (field_moves form.mode t.name 0) (size_in form t.value)) size
+    → AllWithin form size.text t.value
+    → IsBounded form (union_value title s t)
+    (with_parts form.mode (titled_room form.mode (codes "union") title + line_room form.mode m m) size)
 union_bounded form m title s t {size} le lt h all =
     let e = own_union form.style form.mode title t.index t.name 1 in
     let line = line_within form.mode s (end_of t.value - s) m m le (omega (arith, lt)) in
     record {
-      size = parts_within form.mode _ _ (omega (arith, e, line)) (record { text = omega (arith, h.text); lines = omega (arith, h.lines) });
+      size = parts_within form.mode _ _ (omega (arith, e, line))
+          (record { text = omega (arith, h.text); lines = omega (arith, h.lines) });
       parts = (all_more form size.text _ (parts_inside form.mode _ size.text) t.value all, tt);
     }
 
-texts_longer : (form : Form) (n count s bits m : ℕ) → n ≤ count → s ≤ m → bits ≤ m → Within (text_size form.mode n s bits) (text_size form.mode count m m)
+texts_longer : (form : Form) (n count s bits m : ℕ) → n ≤ count → s ≤ m → bits ≤ m →
+    Within (text_size form.mode n s bits) (text_size form.mode count m m)
 texts_longer form n count s bits m le from wide =
-    parts_within form.mode _ _ (omega (arith, mul-le-mul_left {m = n} {n = count} (escape_room form.mode) le, line_within form.mode s bits m m from wide)) same_within
+    parts_within form.mode _ _ (omega
+    (arith, mul-le-mul_left {m = n} {n = count} (escape_room form.mode) le, line_within form.mode s bits m m from wide))
+    same_within
 
 -- an array has at least as many bytes as an element
-some_element : (mode : Mode) (limit : Option ℕ) (m count : ℕ) (each : Size) → 1 ≤ count → each.text ≤ (elements_size mode limit m count each).text
+some_element : (mode : Mode) (limit : Option ℕ) (m count : ℕ) (each : Size) → 1 ≤ count →
+    each.text ≤ (elements_size mode limit m count each).text
 some_element mode None m count each some = omega (arith, (repeated_within 1 count each some).text)
-some_element mode (Some most) m count each some = omega (arith, (repeated_within 1 (min (max 1 most) count) each (omega (arith, some))).text)
+some_element mode (Some most) m count each some =
+    omega (arith, (repeated_within 1 (min (max 1 most) count) each (omega (arith, some))).text)
 
-element_inside : (form : Form) (m count : ℕ) (element : Size) → 1 ≤ count → element.text ≤ (array_size form m count element).text
+element_inside : (form : Form) (m count : ℕ) (element : Size) → 1 ≤ count →
+    element.text ≤ (array_size form m count element).text
 element_inside form m count element some =
     let each = moved (element_before form.mode count) (element_moves form.mode count) element in
     let all = elements_size form.mode form.style.elements m count each in
     let own = array_room form.mode count + line_room form.mode m m in
     let array = array_within form.style.chars (text_size form.mode count m m) (with_parts form.mode own all) in
-    omega (arith, some_element form.mode form.style.elements m count each some, parts_inside form.mode own all.text, array.text)
+    omega (
+      arith,
+      some_element form.mode form.style.elements m count each some,
+      parts_inside form.mode own all.text,
+      array.text,
+    )
 
 array_bounded : (form : Form) (m width s end : ℕ) (element : Size) (levels inside : Levels) → s ≤ m → end ≤ m
-    → Gains (opened levels) inside (AreElements form form.style.elements m (max 1 width) (count_of m width) s end 0 s end element)
+    → Gains (opened levels) inside
+    (AreElements form form.style.elements m (max 1 width) (count_of m width) s end 0 s end element)
     → IsBounded form (array_value s end inside) (array_size form m (count_of m width) element)
 array_bounded form m width s end element levels inside from le g =
     let is = g.is in
@@ -372,34 +445,50 @@ array_bounded form m width s end element levels inside from le g =
     let own = array_more form.style form.mode (member_count (gathered g.more)) (count_of m width) count in
     let line = line_within form.mode s (end - s) m m from (omega (arith, le)) in
     rw is (record {
-      size = or_within form.style.chars (texts_longer form (member_count (gathered g.more)) (count_of m width) s (end - s) m count from (omega (arith, le)))
-          (parts_within form.mode _ _ (omega (arith, own, line)) (then_within h.size (left_within form.mode form.style.elements m h.n (count_of m width) _ (omega (arith, few)))));
-      parts = parts_more form element.text _ (element_inside form m (count_of m width) element (omega arith)) (gathered g.more) h.parts;
+      size = or_within form.style.chars (texts_longer form (member_count (gathered g.more)) (count_of m width) s
+          (end - s) m count from (omega (arith, le)))
+          (parts_within form.mode _ _ (omega (arith, own, line)) (then_within h.size
+          (left_within form.mode form.style.elements m h.n (count_of m width) _ (omega (arith, few)))));
+      parts = parts_more form element.text _ (element_inside form m (count_of m width) element (omega arith))
+          (gathered g.more) h.parts;
     })
 
 mutual
   unfolding FitsNumber size_of
 
-  number_bounded : (form : Form) (m : ℕ) (ty : PokeType) (levels : Levels) (s : ℕ) (v : Value) → s ≤ m → FitsNumber ty levels s v → IsBounded form v (size_of form ty m)
+  number_bounded : (form : Form) (m : ℕ) (ty : PokeType) (levels : Levels) (s : ℕ) (v : Value) → s ≤ m →
+      FitsNumber ty levels s v → IsBounded form v (size_of form ty m)
   number_bounded form m (IntegerOf type) levels s v le h =
       let is = h.2 in
       let own = integer_within form.style form.mode type h.0 0 h.1 in
-      rw is (record { size = scalar_bounded form m type.width (integer_room form.style.numbers form.mode type) _ own (scalar_line form m type.width _ s (s + type.width) le (omega arith)); parts = tt })
+      rw is (record {
+        size = scalar_bounded form m type.width (integer_room form.style.numbers form.mode type) _ own
+            (scalar_line form m type.width _ s (s + type.width) le (omega arith));
+        parts = tt;
+      })
   number_bounded form m (OffsetOf type unit) levels s v le h =
       let is = h.2 in
       let own = offset_within form.style form.mode type unit h.0 0 h.1 in
-      rw is (record { size = scalar_bounded form m type.width (offset_room form.style.numbers form.mode type unit) _ own (scalar_line form m type.width _ s (s + type.width) le (omega arith)); parts = tt })
+      rw is (record {
+        size = scalar_bounded form m type.width (offset_room form.style.numbers form.mode type unit) _ own
+            (scalar_line form m type.width _ s (s + type.width) le (omega arith));
+        parts = tt;
+      })
   number_bounded form m StringOf levels s v le h = absurd h
   number_bounded form m (ArrayOf element bound) levels s v le h = absurd h
   number_bounded form m (StructOf name pinned _) levels s v le h = absurd h
   number_bounded form m (IntegralOf name type fields) levels s v le h =
       let is = h.2 in
       rw is (struct_bounded form m type.width name (part_names fields) s (s + type.width) levels h.0 le (omega arith)
-      (digits_bounded form m name (part_names fields) s (s + type.width) 0 fields (opened levels) s h.0 le (names_whole (part_names fields)) h.1))
+      (digits_bounded form m name (part_names fields) s (s + type.width) 0 fields (opened levels) s h.0 le
+      (names_whole (part_names fields)) h.1))
   number_bounded form m (UnionOf name alternatives) levels s v le h = absurd h
 
-  digits_bounded : (form : Form) (m : ℕ) (title : Naming) (all : List Naming) (start end place : ℕ) (parts : Parts) (levels : Levels) (s : ℕ) (inside : Levels) → s ≤ m → NamesFrom all place (part_names parts) → DigitsFit parts levels s inside
-      → Gains levels inside (λ more. AreBounded form None (StructLabel title all) start end place (gathered more) (parts_size form place parts m))
+  digits_bounded : (form : Form) (m : ℕ) (title : Naming) (all : List Naming) (start end place : ℕ) (parts : Parts)
+      (levels : Levels) (s : ℕ) (inside : Levels)
+      → s ≤ m → NamesFrom all place (part_names parts) → DigitsFit parts levels s inside
+      → Gains levels inside (λ more.
+      AreBounded form None (StructLabel title all) start end place (gathered more) (parts_size form place parts m))
   digits_bounded form m title all start end place NoParts levels s inside le names h = record {
     more = [];
     is = ap top_of h ∙ sym (append-nil (top_of levels));
@@ -407,31 +496,52 @@ mutual
   }
   digits_bounded form m title all start end place (PartThen name order ty c rest) levels s inside le names h =
       let one = number_bounded form m ty levels s h.0 le h.1 in
-      let later = digits_bounded form m title all start end (place + 1) rest (pushed levels (Some h.0)) s inside le (names_next name (part_names rest) names) h.3 in
-      gains_one levels inside (Some h.0) (λ more g. field_bounded form title all start end place name (part_names rest) h.0 more names one g) later
+      let later = digits_bounded form m title all start end (place + 1) rest (pushed levels (Some h.0)) s inside le
+      (names_next name (part_names rest) names) h.3 in
+      gains_one levels inside (Some h.0)
+      (λ more g. field_bounded form title all start end place name (part_names rest) h.0 more names one g) later
 
 mutual
   unfolding Fits size_of
 
-  pub value_bounded : (form : Form) (m : ℕ) (ty : PokeType) (levels : Levels) (s : ℕ) (v : Value) → Fits m ty levels s v → IsBounded form v (size_of form ty m)
-  value_bounded form m (IntegerOf type) levels s v h = number_bounded form m (IntegerOf type) levels s v (omega (arith, h.1)) h.0
-  value_bounded form m (OffsetOf type unit) levels s v h = number_bounded form m (OffsetOf type unit) levels s v (omega (arith, h.1)) h.0
+  pub value_bounded : (form : Form) (m : ℕ) (ty : PokeType) (levels : Levels) (s : ℕ) (v : Value) →
+      Fits m ty levels s v → IsBounded form v (size_of form ty m)
+  value_bounded form m (IntegerOf type) levels s v h =
+      number_bounded form m (IntegerOf type) levels s v (omega (arith, h.1)) h.0
+  value_bounded form m (OffsetOf type unit) levels s v h =
+      number_bounded form m (OffsetOf type unit) levels s v (omega (arith, h.1)) h.0
   value_bounded form m StringOf levels s v h =
       let is = h.2 in
       let own = text_within form.style form.mode m s 0 h.0 h.3 in
-      rw is (record { size = scalar_bounded form m m (string_room form.mode m) _ own (scalar_line form m m _ s (s + 8 * (length h.0 + 1)) (omega (arith, h.3)) (omega (arith, h.3))); parts = tt })
+      rw is (record {
+        size = scalar_bounded form m m (string_room form.mode m) _ own
+            (scalar_line form m m _ s (s + 8 * (length h.0 + 1)) (omega (arith, h.3)) (omega (arith, h.3)));
+        parts = tt;
+      })
   value_bounded form m (ArrayOf element bound) levels s v h =
       let is = h.8 in
-      let from : s ≤ m = omega (arith, fits_wide m (ArrayOf element bound) levels s v h, fits_inside m (ArrayOf element bound) levels s v h) in
+      let from : s ≤ m = omega
+      (arith, fits_wide m (ArrayOf element bound) levels s v h, fits_inside m (ArrayOf element bound) levels s v h) in
       rw is (array_bounded form m (least_width element) s h.3 (size_of form element m) levels h.2 from h.7
-      (elements_within form form.style.elements m (least_width element) (max 1 (least_width element)) (count_of m (least_width element)) s h.3 (size_of form element m) (Fits m element) refl (omega arith) h.7
-      (λ l at u fit. record { starts = fits_start m element l at u fit; wide = fits_wide m element l at u fit; bounded = value_bounded form m element l at u fit }) h.7 (omega arith) h.5))
+      (elements_within form form.style.elements m (least_width element) (max 1 (least_width element))
+      (count_of m (least_width element)) s h.3 (size_of form element m) (Fits m element) refl (omega arith) h.7
+      (λ l at u fit. record {
+        starts = fits_start m element l at u fit;
+        wide = fits_wide m element l at u fit;
+        bounded = value_bounded form m element l at u fit;
+      }) h.7 (omega arith) h.5))
   value_bounded form m (StructOf name pinned fields) levels s v h =
       let is = h.4 in
-      let from : s ≤ m = omega (arith, fits_wide m (StructOf name pinned fields) levels s v h, fits_inside m (StructOf name pinned fields) levels s v h) in
+      let from : s ≤ m = omega (
+        arith,
+        fits_wide m (StructOf name pinned fields) levels s v h,
+        fits_inside m (StructOf name pinned fields) levels s v h,
+      ) in
       rw is (struct_bounded form m m name (field_names fields) s h.1 levels h.0 from (omega (arith, h.3))
-      (fields_bounded form m name (field_names fields) s h.1 0 pinned s fields (opened levels) s s h.0 h.1 (names_whole (field_names fields)) h.2))
-  value_bounded form m (IntegralOf name type fields) levels s v h = number_bounded form m (IntegralOf name type fields) levels s v (omega (arith, h.1)) h.0
+      (fields_bounded form m name (field_names fields) s h.1 0 pinned s fields (opened levels) s s h.0 h.1
+      (names_whole (field_names fields)) h.2))
+  value_bounded form m (IntegralOf name type fields) levels s v h =
+      number_bounded form m (IntegralOf name type fields) levels s v (omega (arith, h.1)) h.0
   value_bounded form m (UnionOf name alternatives) levels s v h =
       let is = h.2 in
       let inside = fits_inside m (UnionOf name alternatives) levels s v h in
@@ -439,31 +549,45 @@ mutual
       let one = alternative_bounded form m alternatives 0 (opened levels) s h.0 h.1 in
       rw is (union_bounded form m name s h.0 from (omega (arith, inside, ap end_of is)) one.0 one.1)
 
-  fields_bounded : (form : Form) (m : ℕ) (title : Naming) (all : List Naming) (start stop place : ℕ) (pinned : Bool) (s : ℕ) (fields : Fields) (levels : Levels) (behind top : ℕ) (inside : Levels) (end : ℕ) → NamesFrom all place (field_names fields)
+  fields_bounded : (form : Form) (m : ℕ) (title : Naming) (all : List Naming) (start stop place : ℕ) (pinned : Bool)
+      (s : ℕ) (fields : Fields) (levels : Levels) (behind top : ℕ) (inside : Levels) (end : ℕ)
+      → NamesFrom all place (field_names fields)
       → FieldsFit m pinned s fields levels behind top inside end
-      → Gains levels inside (λ more. AreBounded form None (StructLabel title all) start stop place (gathered more) (fields_size form place fields m))
+      → Gains levels inside (λ more.
+      AreBounded form None (StructLabel title all) start stop place (gathered more) (fields_size form place fields m))
   fields_bounded form m title all start stop place pinned s NoFields levels behind top inside end names h = record {
     more = [];
     is = ap top_of h.0 ∙ sym (append-nil (top_of levels));
     holds = record { size = same_within; parts = tt };
   }
-  fields_bounded form m title all start stop place pinned s (FieldThen name order ty c label when rest) levels behind top inside end names (inl h) =
-      let later = fields_bounded form m title all start stop (place + 1) pinned s rest (pushed levels None) behind top inside end (names_next name (field_names rest) names) h.1 in
+  fields_bounded form m title all start stop place pinned s (FieldThen name order ty c label when rest) levels behind
+      top inside end names (inl h) =
+      let later = fields_bounded form m title all start stop (place + 1) pinned s rest (pushed levels None) behind top
+      inside end (names_next name (field_names rest) names) h.1 in
       gains_one levels inside None (λ more g. absent_bounded form title all start stop place more _ g) later
-  fields_bounded form m title all start stop place pinned s (FieldThen name order ty c label when rest) levels behind top inside end names (inr h) =
+  fields_bounded form m title all start stop place pinned s (FieldThen name order ty c label when rest) levels behind
+      top inside end names (inr h) =
       let one = value_bounded form m ty levels h.1 h.4 h.5 in
-      let later = fields_bounded form m title all start stop (place + 1) pinned s rest (pushed levels (Some h.4)) (end_of h.4) (max top (end_of h.4)) inside end (names_next name (field_names rest) names) h.7 in
-      gains_one levels inside (Some h.4) (λ more g. field_bounded form title all start stop place name (field_names rest) h.4 more names one g) later
+      let later = fields_bounded form m title all start stop (place + 1) pinned s rest (pushed levels (Some h.4))
+      (end_of h.4) (max top (end_of h.4)) inside end (names_next name (field_names rest) names) h.7 in
+      gains_one levels inside (Some h.4)
+      (λ more g. field_bounded form title all start stop place name (field_names rest) h.4 more names one g) later
 
-  alternative_bounded : (form : Form) (m : ℕ) (parts : Parts) (index : ℕ) (levels : Levels) (s : ℕ) (t : Taken) → AlternativeFits m parts index levels s t
-      → Within (moved (field_before form.mode t.name 0) (field_moves form.mode t.name 0) (size_in form t.value)) (greatest_size form parts m) × AllWithin form (greatest_size form parts m).text t.value
+  alternative_bounded : (form : Form) (m : ℕ) (parts : Parts) (index : ℕ) (levels : Levels) (s : ℕ) (t : Taken)
+      → AlternativeFits m parts index levels s t
+      → Within (moved (field_before form.mode t.name 0) (field_moves form.mode t.name 0) (size_in form t.value))
+      (greatest_size form parts m) × AllWithin form (greatest_size form parts m).text t.value
   alternative_bounded form m NoParts index levels s t h = absurd h
   alternative_bounded form m (PartThen name order ty c rest) index levels s t (inl h) =
       let is = h.1 in
       let one = value_bounded form m ty levels s t.value h.2 in
-      let more : (size_of form ty m).text ≤ (greatest_size form (PartThen name order ty c rest) m).text = omega arith in
-      (first_within _ (rw is (moved_within _ _ _ _ (omega arith) (omega arith) one.size)), all_more form (size_of form ty m).text _ more t.value (all_of form t.value one))
+      let more : (size_of form ty m).text ≤ (greatest_size form (PartThen name order ty c rest) m).text =
+      omega arith in (
+        first_within _ (rw is (moved_within _ _ _ _ (omega arith) (omega arith) one.size)),
+        all_more form (size_of form ty m).text _ more t.value (all_of form t.value one),
+      )
   alternative_bounded form m (PartThen name order ty c rest) index levels s t (inr h) =
       let one = alternative_bounded form m rest (index + 1) levels s t h in
-      let more : (greatest_size form rest m).text ≤ (greatest_size form (PartThen name order ty c rest) m).text = omega arith in
+      let more : (greatest_size form rest m).text ≤ (greatest_size form (PartThen name order ty c rest) m).text =
+      omega arith in
       (rest_within _ one.0, all_more form (greatest_size form rest m).text _ more t.value one.1)

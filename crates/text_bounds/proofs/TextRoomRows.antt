@@ -55,7 +55,8 @@ unfolding most_text size_of least_width integer_text digits
 a_tree_of_elements = refl
 
 abbrev pair : PokeType
-pair = StructOf (Some (codes "Pair")) false (FieldThen (Some (codes "a")) None (unsigned 8) None None None (FieldThen None None (unsigned 32) None None None NoFields))
+pair = StructOf (Some (codes "Pair")) false (FieldThen (Some (codes "a")) None (unsigned 8) None None None
+    (FieldThen None None (unsigned 32) None None None NoFields))
 
 -- Pair {,a=255UB,4294967295U} and a line feed
 a_struct : most_text plain Flat pair 40 ≡ 28
@@ -68,12 +69,15 @@ unfolding most_text size_of integer_text digits
 a_tree = refl
 
 -- `struct`, then the three lines of Pair with two more blanks each, the first with `p=`
-a_deeper_tree : most_text plain Tree (StructOf None false (FieldThen (Some (codes "p")) None pair None None None NoFields)) 40 ≡ 44
+a_deeper_tree : most_text plain Tree
+    (StructOf None false (FieldThen (Some (codes "p")) None pair None None None NoFields)) 40 ≡ 44
 unfolding most_text size_of integer_text digits
 a_deeper_tree = refl
 
 -- union {b=4294967295U}, of which the longer alternative counts
-a_union : most_text plain Flat (UnionOf None (PartThen (Some (codes "a")) None (unsigned 8) None (PartThen (Some (codes "b")) None (unsigned 32) None NoParts))) 40 ≡ 23
+a_union : most_text plain Flat (UnionOf None
+    (PartThen (Some (codes "a")) None (unsigned 8) None (PartThen (Some (codes "b")) None (unsigned 32) None NoParts)))
+    40 ≡ 23
 unfolding most_text size_of integer_text digits
 a_union = refl
 
@@ -92,7 +96,8 @@ a_json_string : most_text plain Json StringOf 80 ≡ 57
 unfolding most_text size_of
 a_json_string = refl
 
--- `.a`, 40 bits at most as a start, 8 bits and 255UB, then the same of `.1` with 32 bits and 4294967295U; and the dot of a path
+-- `.a`, 40 bits at most as a start, 8 bits and 255UB, then the same of `.1` with 32 bits and 4294967295U; and the dot
+-- of a path
 lines_of_a_struct : most_text plain Lines pair 40 ≡ 44
 unfolding most_text size_of integer_text digits
 lines_of_a_struct = refl
@@ -141,7 +146,8 @@ a_cut_list : most_text (cut_style 1) Json (ArrayOf (unsigned 8) Unbounded) 16 �
 unfolding most_text size_of least_width digits
 a_cut_list = refl
 
--- `[3]`, 16 bits at most as a start, 8 bits and 255UB; the same of `[3..]` with 16 bits and `..+3`; and the dot of a path
+-- `[3]`, 16 bits at most as a start, 8 bits and 255UB; the same of `[3..]` with 16 bits and `..+3`; and the dot of a
+-- path
 lines_of_a_cut_array : most_text (cut_style 1) Lines (ArrayOf (unsigned 8) Unbounded) 16 ≡ 41
 unfolding most_text size_of least_width integer_text digits
 lines_of_a_cut_array = refl

@@ -42,20 +42,36 @@ json_escape_short byte =
     (if_short (byte == 9) _ _ 6 (omega arith)
     (if_short (byte == 10) _ _ 6 (omega arith) (omega arith))))
 
-spelled_short : (escape : ℕ → List ℕ) (n : ℕ) → 1 ≤ n → ((byte : ℕ) → length (escape byte) ≤ n) → (bytes : List ℕ) → length (spelled escape bytes) ≤ n * length bytes
+spelled_short : (escape : ℕ → List ℕ) (n : ℕ) → 1 ≤ n → ((byte : ℕ) → length (escape byte) ≤ n) → (bytes : List ℕ) →
+    length (spelled escape bytes) ≤ n * length bytes
 spelled_short escape n some h [] = omega arith
 spelled_short escape n some h (b ∷ bytes) =
-    omega (arith, if_short (is_plain b) (b ∷ []) (escape b) n some (h b), spelled_short escape n some h bytes, mul-add n 1 (length bytes), length-append (spelled_byte escape b) (spelled escape bytes))
+    omega (
+      arith,
+      if_short (is_plain b) (b ∷ []) (escape b) n some (h b),
+      spelled_short escape n some h bytes,
+      mul-add n 1 (length bytes),
+      length-append (spelled_byte escape b) (spelled escape bytes),
+    )
 
 string_short : (bytes : List ℕ) → length (string_text bytes) ≤ 2 + 4 * length bytes
 unfolding string_text
-string_short bytes = omega (arith, spelled_short escape_text 4 (omega arith) escape_short bytes, length-append (spelled escape_text bytes) (codes "\""))
+string_short bytes = omega (
+  arith,
+  spelled_short escape_text 4 (omega arith) escape_short bytes,
+  length-append (spelled escape_text bytes) (codes "\""),
+)
 
 json_string_short : (bytes : List ℕ) → length (json_string bytes) ≤ 2 + 6 * length bytes
 unfolding json_string
-json_string_short bytes = omega (arith, spelled_short json_escape 6 (omega arith) json_escape_short bytes, length-append (spelled json_escape bytes) (codes "\""))
+json_string_short bytes = omega (
+  arith,
+  spelled_short json_escape 6 (omega arith) json_escape_short bytes,
+  length-append (spelled json_escape bytes) (codes "\""),
+)
 
-pub text_short : (style : Style) (mode : Mode) (bytes : List ℕ) (count most : ℕ) → length bytes ≤ most → own_room style mode (TextLabel bytes) count ≤ quoted_room mode most
+pub text_short : (style : Style) (mode : Mode) (bytes : List ℕ) (count most : ℕ) → length bytes ≤ most →
+    own_room style mode (TextLabel bytes) count ≤ quoted_room mode most
 text_short style Flat bytes count most le = omega (arith, le, string_short bytes)
 text_short style Tree bytes count most le = omega (arith, le, string_short bytes)
 text_short style Lines bytes count most le = omega (arith, le, string_short bytes)
@@ -72,7 +88,8 @@ trimmed_short (byte ∷ bytes) = omega (arith, kept_short byte (trimmed bytes), 
 -- ---- values
 
 module _ (form : Form) (nodes : List Node) (chars : Option ℕ) where
-  chars_or : (label : Label) (count start end : ℕ) {a b : Size} → Within a b → Within (or_chars form label count start end a) (or_chars form label count start end b)
+  chars_or : (label : Label) (count start end : ℕ) {a b : Size} → Within a b →
+      Within (or_chars form label count start end a) (or_chars form label count start end b)
   chars_or (IntegerLabel number type) count start end h = h
   chars_or (OffsetLabel magnitude type unit) count start end h = h
   chars_or (TextLabel bytes) count start end h = h
@@ -84,42 +101,59 @@ module _ (form : Form) (nodes : List Node) (chars : Option ℕ) where
   clash e = cc
 
   -- the text of an array of chars
-  text_there : (label : Label) (start end : ℕ) (members : Members) (size : Size) (element : Option ℕ) → form.style.chars ≡ Text → has_chars chars element label ≡ true
-      → Within (size_in form (Mapped (TextLabel (trimmed (chars_in members))) start end NoMembers)) (or_chars form label (member_count members) start end size)
+  text_there : (label : Label) (start end : ℕ) (members : Members) (size : Size) (element : Option ℕ)
+      → form.style.chars ≡ Text → has_chars chars element label ≡ true
+      → Within (size_in form (Mapped (TextLabel (trimmed (chars_in members))) start end NoMembers))
+      (or_chars form label (member_count members) start end size)
   text_there (IntegerLabel number type) start end members size element is hit = absurd (clash hit)
   text_there (OffsetLabel magnitude type unit) start end members size element is hit = absurd (clash hit)
   text_there (TextLabel bytes) start end members size element is hit = absurd (clash hit)
   text_there (StructLabel name fields) start end members size element is hit = absurd (clash hit)
   text_there (UnionLabel name index alternative) start end members size element is hit = absurd (clash hit)
   text_there ArrayLabel start end members size element is hit =
-      let few : length (trimmed (chars_in members)) ≤ member_count members = omega (arith, trimmed_short (chars_in members), chars_count members) in
+      let few : length (trimmed (chars_in members)) ≤ member_count members =
+      omega (arith, trimmed_short (chars_in members), chars_count members) in
       let own = text_short form.style form.mode (trimmed (chars_in members)) 0 (member_count members) few in
       rw is (first_within size (parts_within form.mode _ _ (omega (arith, own)) same_within))
 
   mutual
-    texts_within : (of : Option ℕ) (value : Value) → form.style.chars ≡ Text → Within (size_in form (with_texts nodes chars of value)) (size_in form value)
-    texts_within of (Mapped label start end members) is = elim (cases_Bool (has_chars chars (part_node nodes of label 0) label)) [
-      | inl hit ↦ rw hit (text_there label start end members _ (part_node nodes of label 0) is hit)
-      | inr miss ↦ rw (miss, parts_count nodes chars of label 0 members)
-          (chars_or label (member_count members) start end (parts_within form.mode _ _ (omega arith) (parts_texts_within (limit_of form.style label) of label start end 0 members is)))
-    ]
+    texts_within : (of : Option ℕ) (value : Value) → form.style.chars ≡ Text →
+        Within (size_in form (with_texts nodes chars of value)) (size_in form value)
+    texts_within of (Mapped label start end members) is =
+        elim (cases_Bool (has_chars chars (part_node nodes of label 0) label)) [
+          | inl hit ↦ rw hit (text_there label start end members _ (part_node nodes of label 0) is hit)
+          | inr miss ↦ rw (miss, parts_count nodes chars of label 0 members)
+              (chars_or label (member_count members) start end (parts_within form.mode _ _ (omega arith)
+              (parts_texts_within (limit_of form.style label) of label start end 0 members is)))
+        ]
 
-    parts_texts_within : (limit : Option ℕ) (of : Option ℕ) (label : Label) (start end place : ℕ) (members : Members) → form.style.chars ≡ Text
-        → Within (members_in form limit label start end place (parts_with_texts nodes chars of label place members)) (members_in form limit label start end place members)
+    parts_texts_within : (limit : Option ℕ) (of : Option ℕ) (label : Label) (start end place : ℕ) (members : Members)
+        → form.style.chars ≡ Text
+        → Within (members_in form limit label start end place (parts_with_texts nodes chars of label place members))
+        (members_in form limit label start end place members)
     parts_texts_within limit of label start end place NoMembers is = same_within
     parts_texts_within limit of label start end place (AbsentThen rest) is = elim (cases_Bool (is_past limit place)) [
       | inl past ↦ rw (past, parts_count nodes chars of label (suc place) rest) same_within
       | inr before ↦ rw before (parts_texts_within limit of label start end (suc place) rest is)
     ]
-    parts_texts_within limit of label start end place (MemberThen value rest) is = elim (cases_Bool (is_past limit place)) [
-      | inl past ↦ rw (past, parts_count nodes chars of label (suc place) rest, seen_start nodes chars (part_node nodes of label place) value) same_within
-      | inr before ↦ rw before
-          (both_within (moved_within _ _ _ _ (omega arith) (omega arith) (texts_within (part_node nodes of label place) value is)) (parts_texts_within limit of label start end (suc place) rest is))
-    ]
+    parts_texts_within limit of label start end place (MemberThen value rest) is =
+        elim (cases_Bool (is_past limit place)) [
+          | inl past ↦ rw (
+            past,
+            parts_count nodes chars of label (suc place) rest,
+            seen_start nodes chars (part_node nodes of label place) value,
+          ) same_within
+          | inr before ↦ rw before
+              (both_within (moved_within _ _ _ _ (omega arith) (omega arith)
+              (texts_within (part_node nodes of label place) value is))
+              (parts_texts_within limit of label start end (suc place) rest is))
+        ]
 
-  chars_as : (kind : Chars) (of : Option ℕ) (value : Value) → form.style.chars ≡ kind → Within (size_in form (with_chars kind nodes chars of value)) (size_in form value)
+  chars_as : (kind : Chars) (of : Option ℕ) (value : Value) → form.style.chars ≡ kind →
+      Within (size_in form (with_chars kind nodes chars of value)) (size_in form value)
   chars_as Numbers of value is = same_within
   chars_as Text of value is = texts_within of value is
 
-  pub chars_within : (of : Option ℕ) (value : Value) → Within (size_in form (with_chars form.style.chars nodes chars of value)) (size_in form value)
+  pub chars_within : (of : Option ℕ) (value : Value) →
+      Within (size_in form (with_chars form.style.chars nodes chars of value)) (size_in form value)
   chars_within of value = chars_as form.style.chars of value refl

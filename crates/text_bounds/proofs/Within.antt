@@ -18,13 +18,15 @@ joined_more Tree a b c d h g = omega (arith, h, g)
 joined_more Json a b c d h g = omega (arith, h, g)
 joined_more Lines a b c d h g = omega (arith, h, g)
 
-pub parts_within : (mode : Mode) (own own' : ℕ) {a b : Size} → own ≤ own' → Within a b → Within (with_parts mode own a) (with_parts mode own' b)
+pub parts_within : (mode : Mode) (own own' : ℕ) {a b : Size} → own ≤ own' → Within a b →
+    Within (with_parts mode own a) (with_parts mode own' b)
 parts_within mode own own' {a} {b} le h = record {
   text = joined_more mode own a.text own' b.text le h.text;
   lines = joined_more mode 1 a.lines 1 b.lines (omega arith) h.lines;
 }
 
-pub moved_within : (before before' moves moves' : ℕ) {a b : Size} → before ≤ before' → moves ≤ moves' → Within a b → Within (moved before moves a) (moved before' moves' b)
+pub moved_within : (before before' moves moves' : ℕ) {a b : Size} → before ≤ before' → moves ≤ moves' → Within a b →
+    Within (moved before moves a) (moved before' moves' b)
 moved_within before before' moves moves' {a} {b} le lt h = record {
   text = omega (arith, le, mul-le moves a.lines moves' b.lines lt h.lines, h.text);
   lines = h.lines;
@@ -56,6 +58,8 @@ pub array_within : (chars : Chars) (text array : Size) → Within array (or_text
 array_within Numbers text array = same_within
 array_within Text text array = rest_within text same_within
 
-pub or_within : (chars : Chars) {a b c d : Size} → Within a b → Within c d → Within (or_text chars a c) (or_text chars b d)
+pub or_within : (chars : Chars) {a b c d : Size} → Within a b → Within c d →
+    Within (or_text chars a c) (or_text chars b d)
 or_within Numbers h g = g
-or_within Text {a} {b} {c} {d} h g = record { text = omega (arith, h.text, g.text); lines = omega (arith, h.lines, g.lines) }
+or_within Text {a} {b} {c} {d} h g =
+    record { text = omega (arith, h.text, g.text); lines = omega (arith, h.lines, g.lines) }

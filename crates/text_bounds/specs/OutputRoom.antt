@@ -13,8 +13,9 @@ pub record GrowsWithin (old new : Option (List ℕ)) (most : ℕ) : Type 0 where
   pub appends : Appends old new taken
   pub few : length taken ≤ most
 
--- nothing is written, or at most as many bytes as a printed value of the requested type can have in a style over so many
--- bytes
+-- nothing is written, or at most as many bytes as a printed value of the requested type can have in a style over so
+-- many bytes
 abbrev pub OutputIsBounded : (pickle : List ℕ) → Ask → Style → (len : ℕ) → (out out' : Option (List ℕ)) → Type 0
 OutputIsBounded pickle ask style len out out' =
-    Keeps out out' ⊎ ((type : PokeType) × IsAsked pickle ask.name.now type × GrowsWithin out out' (most_text style ask.mode type (8 * len)))
+    Keeps out out' ⊎ ((type : PokeType) × IsAsked pickle ask.name.now type
+    × GrowsWithin out out' (most_text style ask.mode type (8 * len)))

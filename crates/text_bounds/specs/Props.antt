@@ -31,7 +31,8 @@ AreSizes-prop b form type m x y = λ i. record {
   size = HoldsSize-prop b.size _ x.size y.size i;
 }
 
-pub AreKnownSizes-prop : {nodes : List Node} {roots : List ℕ} {known : List NodeSize} {form : Form} {m : ℕ} → IsProp (AreKnownSizes nodes roots known form m)
+pub AreKnownSizes-prop : {nodes : List Node} {roots : List ℕ} {known : List NodeSize} {form : Form} {m : ℕ} →
+    IsProp (AreKnownSizes nodes roots known form m)
 AreKnownSizes-prop {form = form} {m = m} x y = λ i. record {
   each = λ k root b at here. AreSizes-prop b form _ m (x.each k root b at here) (y.each k root b at here) i;
 }

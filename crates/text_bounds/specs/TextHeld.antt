@@ -38,8 +38,10 @@ pub record ArePartSizes (b : PartSizes) (form : Form) (place : ℕ) (parts : Par
 -- the sizes of a field's own type and of the fields after it give those of all of them
 abbrev pub JoinsField : Form → (place : ℕ) → Field → (own : NodeSize) → (rest all : FieldSizes) → Type 0
 JoinsField form place field own rest all =
-    (type : PokeType) (fields : Fields) (m : ℕ) → AreSizes own form type m → AreFieldSizes rest form (place + 1) fields m →
-    AreFieldSizes all form place (FieldThen (name_of field.name) field.order type (optional_term field.constraint) (optional_term field.label) (optional_term field.condition) fields) m
+    (type : PokeType) (fields : Fields) (m : ℕ) → AreSizes own form type m →
+    AreFieldSizes rest form (place + 1) fields m →
+    AreFieldSizes all form place (FieldThen (name_of field.name) field.order type (optional_term field.constraint)
+    (optional_term field.label) (optional_term field.condition) fields) m
 
 abbrev pub JoinsPart : Form → (place : ℕ) → Part → (own : NodeSize) → (rest all : PartSizes) → Type 0
 JoinsPart form place part own rest all =
@@ -49,8 +51,11 @@ JoinsPart form place part own rest all =
 -- the least width of a struct whose fields have these sizes, whatever its name is
 abbrev pub HoldsLeast : (pinned : Bool) → FieldSizes → (least : Option ℕ) → Type 0
 HoldsLeast pinned sizes least =
-    (name : Option (List ℕ)) (form : Form) (place m : ℕ) (fields : Fields) → AreFieldSizes sizes form place fields m → HoldsWidth least (least_width (StructOf name pinned fields))
+    (name : Option (List ℕ)) (form : Form) (place m : ℕ) (fields : Fields) → AreFieldSizes sizes form place fields m →
+    HoldsWidth least (least_width (StructOf name pinned fields))
 
 -- the sizes of the first declared types are known
-pub record AreKnownSizes (nodes : List Node) (roots : List ℕ) (known : List NodeSize) (form : Form) (m : ℕ) : Type 0 where
-  pub each : (k root : ℕ) (b : NodeSize) → slice_get roots k ≡ Some root → slice_get known k ≡ Some b → AreSizes b form (type_of nodes root) m
+pub record AreKnownSizes (nodes : List Node) (roots : List ℕ) (known : List NodeSize) (form : Form)
+    (m : ℕ) : Type 0 where
+  pub each : (k root : ℕ) (b : NodeSize) → slice_get roots k ≡ Some root → slice_get known k ≡ Some b →
+      AreSizes b form (type_of nodes root) m

@@ -26,33 +26,45 @@ use Rattle.run_parts.specs.Told.{Says}
 
 -- a printed value that fits a type on m bits has at most so many bytes
 abbrev pub TextsAreBounded : Type 0
-TextsAreBounded = (mode : Mode) (m : ℕ) (ty : PokeType) (levels : Levels) (s : ℕ) (v : Value) → Fits m ty levels s v → length (printed mode v) ≤ most_text plain mode ty m
+TextsAreBounded = (mode : Mode) (m : ℕ) (ty : PokeType) (levels : Levels) (s : ℕ) (v : Value) → Fits m ty levels s v →
+    length (printed mode v) ≤ most_text plain mode ty m
 
 -- and so has each part of it
 abbrev pub PartTextsAreBounded : Type 0
-PartTextsAreBounded = (mode : Mode) (m : ℕ) (ty : PokeType) (levels : Levels) (s : ℕ) (value : Value) (path : Option Path) (part : Value)
+PartTextsAreBounded =
+    (mode : Mode) (m : ℕ) (ty : PokeType) (levels : Levels) (s : ℕ) (value : Value) (path : Option Path) (part : Value)
     → Fits m ty levels s value → part_at path value ≡ Some part → length (printed mode part) ≤ most_text plain mode ty m
 
 -- and so has a value that a type means on a file's bits
 abbrev pub MeantTextsAreBounded : Type 0
-MeantTextsAreBounded = (mode : Mode) (bytes : List ℕ) (ty : PokeType) (order : Order) (levels : Levels) (s : ℕ) (v : Value) (k j : ℕ)
-    → Means (bits_of bytes) ty order levels s (Ok v) k j → length (printed mode v) ≤ most_text plain mode ty (length (bits_of bytes))
+MeantTextsAreBounded =
+    (mode : Mode) (bytes : List ℕ) (ty : PokeType) (order : Order) (levels : Levels) (s : ℕ) (v : Value) (k j : ℕ)
+    → Means (bits_of bytes) ty order levels s (Ok v) k j
+    → length (printed mode v) ≤ most_text plain mode ty (length (bits_of bytes))
 
 -- so has a part in every style, by the types of any table
 abbrev pub StyledTextsAreBounded : Type 0
-StyledTextsAreBounded = (nodes : List Node) (chars of : Option ℕ) (style : Style) (mode : Mode) (m : ℕ) (ty : PokeType) (levels : Levels) (s : ℕ) (value : Value) (path : Option Path) (part : Value)
-    → Fits m ty levels s value → part_at path value ≡ Some part → length (styled_printed nodes chars of style mode part) ≤ most_text style mode ty m
+StyledTextsAreBounded = (nodes : List Node) (chars of : Option ℕ) (style : Style) (mode : Mode) (m : ℕ) (ty : PokeType)
+    (levels : Levels) (s : ℕ) (value : Value) (path : Option Path) (part : Value)
+    → Fits m ty levels s value → part_at path value ≡ Some part
+    → length (styled_printed nodes chars of style mode part) ≤ most_text style mode ty m
 
 -- the bound for any mode is one for each
 abbrev pub AnyModeIsBounded : Type 0
-AnyModeIsBounded = (style : Style) (mode : Mode) (ty : PokeType) (m : ℕ) → most_text style mode ty m ≤ most_text_in_any style ty m
+AnyModeIsBounded =
+    (style : Style) (mode : Mode) (ty : PokeType) (m : ℕ) → most_text style mode ty m ≤ most_text_in_any style ty m
 
 -- a mapping that prints what it must print writes no more than that
 abbrev pub OutputsAreBounded : Type 0
-OutputsAreBounded = (pickle : List ℕ) (ask : Ask) (before after : SpaceView) (status : Status) (out out' err err' : Option (List ℕ))
-    → Says (MapsAs pickle ask before after) status out out' err err' → OutputIsBounded pickle ask plain before.len out out'
+OutputsAreBounded =
+    (pickle : List ℕ) (ask : Ask) (before after : SpaceView) (status : Status) (out out' err err' : Option (List ℕ))
+    → Says (MapsAs pickle ask before after) status out out' err err'
+    → OutputIsBounded pickle ask plain before.len out out'
 
 -- nor does one under terms without a look and a selection, in any style, which may print a part
 abbrev pub OutputsUnderTermsAreBounded : Type 0
-OutputsUnderTermsAreBounded = (pickle : List ℕ) (ask : Ask) (terms : Terms) (before after : SpaceView) (status : Status) (out out' err err' : Option (List ℕ))
-    → terms.look ≡ None → terms.selection ≡ None → Says (MapsUnder pickle ask terms before after) status out out' err err' → OutputIsBounded pickle ask terms.style before.len out out'
+OutputsUnderTermsAreBounded = (pickle : List ℕ) (ask : Ask) (terms : Terms) (before after : SpaceView) (status : Status)
+    (out out' err err' : Option (List ℕ))
+    → terms.look ≡ None → terms.selection ≡ None
+    → Says (MapsUnder pickle ask terms before after) status out out' err err'
+    → OutputIsBounded pickle ask terms.style before.len out out'

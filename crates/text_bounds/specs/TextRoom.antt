@@ -141,7 +141,8 @@ more_size mode left place from bits = record { text = more_room mode left place 
 -- at most so many elements on m bits, of which a limit may leave some out; one always counts, since it may be requested
 abbrev pub elements_size : Mode → (limit : Option ℕ) → (m count : ℕ) → Size → Size
 elements_size mode None m count each = repeated count each
-elements_size mode (Some most) m count each = both (repeated (min (max 1 most) count) each) (more_size mode count count m m)
+elements_size mode (Some most) m count each =
+    both (repeated (min (max 1 most) count) each) (more_size mode count count m m)
 
 -- an array that may be a text
 abbrev pub or_text : Chars → (text array : Size) → Size
@@ -157,35 +158,44 @@ abbrev pub array_size : Form → (m count : ℕ) → Size → Size
 array_size form m count element =
     or_text form.style.chars (text_size form.mode count m m)
     (with_parts form.mode (array_room form.mode count + line_room form.mode m m)
-    (elements_size form.mode form.style.elements m count (moved (element_before form.mode count) (element_moves form.mode count) element)))
+    (elements_size form.mode form.style.elements m count
+    (moved (element_before form.mode count) (element_moves form.mode count) element)))
 
 unfoldable mutual
   -- a bound on a printed value of the type on m bits
   pub size_of : Form → PokeType → (m : ℕ) → Size
-  size_of form (IntegerOf type) m = with_parts form.mode (integer_room form.style.numbers form.mode type + line_room form.mode m type.width) no_size
-  size_of form (OffsetOf type unit) m = with_parts form.mode (offset_room form.style.numbers form.mode type unit + line_room form.mode m type.width) no_size
+  size_of form (IntegerOf type) m =
+      with_parts form.mode (integer_room form.style.numbers form.mode type + line_room form.mode m type.width) no_size
+  size_of form (OffsetOf type unit) m = with_parts form.mode
+      (offset_room form.style.numbers form.mode type unit + line_room form.mode m type.width) no_size
   size_of form StringOf m = with_parts form.mode (string_room form.mode m + line_room form.mode m m) no_size
   size_of form (ArrayOf element bound) m = array_size form m (count_of m (least_width element)) (size_of form element m)
-  size_of form (StructOf name pinned fields) m = with_parts form.mode (titled_room form.mode (codes "struct") name + line_room form.mode m m) (fields_size form 0 fields m)
-  size_of form (IntegralOf name type fields) m = with_parts form.mode (titled_room form.mode (codes "struct") name + line_room form.mode m type.width) (parts_size form 0 fields m)
-  size_of form (UnionOf name alternatives) m = with_parts form.mode (titled_room form.mode (codes "union") name + line_room form.mode m m) (greatest_size form alternatives m)
+  size_of form (StructOf name pinned fields) m = with_parts form.mode
+      (titled_room form.mode (codes "struct") name + line_room form.mode m m) (fields_size form 0 fields m)
+  size_of form (IntegralOf name type fields) m = with_parts form.mode
+      (titled_room form.mode (codes "struct") name + line_room form.mode m type.width) (parts_size form 0 fields m)
+  size_of form (UnionOf name alternatives) m = with_parts form.mode
+      (titled_room form.mode (codes "union") name + line_room form.mode m m) (greatest_size form alternatives m)
 
   -- of fields from a place on
   pub fields_size : Form → (place : ℕ) → Fields → (m : ℕ) → Size
   fields_size form place NoFields m = no_size
   fields_size form place (FieldThen name order type constraint label condition rest) m =
-      both (moved (field_before form.mode name place) (field_moves form.mode name place) (size_of form type m)) (fields_size form (place + 1) rest m)
+      both (moved (field_before form.mode name place) (field_moves form.mode name place) (size_of form type m))
+      (fields_size form (place + 1) rest m)
 
   pub parts_size : Form → (place : ℕ) → Parts → (m : ℕ) → Size
   parts_size form place NoParts m = no_size
   parts_size form place (PartThen name order type constraint rest) m =
-      both (moved (field_before form.mode name place) (field_moves form.mode name place) (size_of form type m)) (parts_size form (place + 1) rest m)
+      both (moved (field_before form.mode name place) (field_moves form.mode name place) (size_of form type m))
+      (parts_size form (place + 1) rest m)
 
   -- of one alternative, which is the only member of its union
   pub greatest_size : Form → Parts → (m : ℕ) → Size
   greatest_size form NoParts m = no_size
   greatest_size form (PartThen name order type constraint rest) m =
-      greater (moved (field_before form.mode name 0) (field_moves form.mode name 0) (size_of form type m)) (greatest_size form rest m)
+      greater (moved (field_before form.mode name 0) (field_moves form.mode name 0) (size_of form type m))
+      (greatest_size form rest m)
 
 -- the line feed after a text of one line, and the dot that is the path of a value without parts
 abbrev pub end_room : Mode → ℕ
@@ -200,7 +210,8 @@ most_text style mode type m = (size_of (record { mode = mode; style = style }) t
 
 -- the same, the most in any mode
 unfoldable pub most_text_in_any : Style → PokeType → (m : ℕ) → ℕ
-most_text_in_any style type m = max (most_text style Flat type m) (max (most_text style Tree type m) (max (most_text style Json type m) (most_text style Lines type m)))
+most_text_in_any style type m = max (most_text style Flat type m)
+    (max (most_text style Tree type m) (max (most_text style Json type m) (most_text style Lines type m)))
 
 -- in a mode if one is given, else the most in any mode
 abbrev pub most_text_for : Style → Option Mode → PokeType → (m : ℕ) → ℕ

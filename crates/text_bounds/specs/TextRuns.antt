@@ -18,11 +18,16 @@ use Rattle.run_parts.specs.Told.{Saying, Text, Line}
 
 -- what is printed for the bounds of a type of a pickle, over so many bits, in a style, and in a mode if one is given
 pub data TextBoundsAs (pickle name : List ℕ) (bits : ℕ) (style : Style) (mode : Option Mode) : Saying → Type 0 where
-  text_bounds : {declarations : List DeclarationTree} {types : Names} {type : PokeType} (steps slots text : Option ℕ) → IsAccepted pickle declarations types → find_type name types ≡ Some type
-      → IsBound steps (cost type bits) → IsBound slots (room type bits) → IsBound text (most_text_for style mode type bits) → TextBoundsAs pickle name bits style mode (Text (bound_text_and steps slots text))
-  no_type_to_bound : {declarations : List DeclarationTree} {types : Names} → IsAccepted pickle declarations types → find_type name types ≡ None
+  text_bounds : {declarations : List DeclarationTree} {types : Names} {type : PokeType} (steps slots text : Option ℕ)
+      → IsAccepted pickle declarations types → find_type name types ≡ Some type
+      → IsBound steps (cost type bits) → IsBound slots (room type bits)
+      → IsBound text (most_text_for style mode type bits)
+      → TextBoundsAs pickle name bits style mode (Text (bound_text_and steps slots text))
+  no_type_to_bound : {declarations : List DeclarationTree} {types : Names} → IsAccepted pickle declarations types
+      → find_type name types ≡ None
       → TextBoundsAs pickle name bits style mode (Line Refused (refused_line (codes "NoSuchType")))
-  refused_text_bounds : {refusal : Refusal} → Refuses pickle refusal → TextBoundsAs pickle name bits style mode (refusal_saying refusal)
+  refused_text_bounds : {refusal : Refusal} → Refuses pickle refusal →
+      TextBoundsAs pickle name bits style mode (refusal_saying refusal)
 
 -- these are the bounds of a type for its texts
 pub record AreAllBounds (all : AllBounds) (type : PokeType) (texts : Texts) : Type 0 where

@@ -13,7 +13,8 @@ Appends-keeps (Some a) (Some b) None x h g = absurd g
 Appends-keeps (Some a) (Some b) (Some c) x h g = g ∙ h
 
 -- the first bytes of a text that has more
-pub part_from_take : (a b : Option (List ℕ)) (k : ℕ) (text : List ℕ) → k < length text → Appends a b (take k text) → AppendsPart a b text
+pub part_from_take : (a b : Option (List ℕ)) (k : ℕ) (text : List ℕ) → k < length text → Appends a b (take k text) →
+    AppendsPart a b text
 part_from_take a b k text lt h = record {
   taken = take k text;
   rest = drop k text;
@@ -23,12 +24,17 @@ part_from_take a b k text lt h = record {
 }
 
 -- one turn of writing what is left
-pub part_step : (a b c : Option (List ℕ)) (k n : ℕ) (text : List ℕ) → k ≤ length text → Appends a b (take k text) → n ≤ length (take (length text - k) (drop k text)) → Appends b c (take n (take (length text - k) (drop k text))) → (k + n ≤ length text) × Appends a c (take (k + n) text)
+pub part_step : (a b c : Option (List ℕ)) (k n : ℕ) (text : List ℕ) → k ≤ length text → Appends a b (take k text) →
+    n ≤ length (take (length text - k) (drop k text)) → Appends b c (take n (take (length text - k) (drop k text))) →
+    (k + n ≤ length text) × Appends a c (take (k + n) text)
 part_step a b c k n text le h low g =
     let e : take (length text - k) (drop k text) ≡ drop k text = take_rest text k in
     let low' : n ≤ length (drop k text) = subst (λ s. n ≤ length s) e low in
-    let g' : Appends b c (take n (drop k text)) = subst (λ s. Appends b c (take n s)) e g in
-    (omega (arith, length-drop k text), subst (λ s. Appends a c s) (sym (take-add k n text)) (Appends-trans a b c (take k text) (take n (drop k text)) h g'))
+    let g' : Appends b c (take n (drop k text)) = subst (λ s. Appends b c (take n s)) e g in (
+      omega (arith, length-drop k text),
+      subst (λ s. Appends a c s) (sym (take-add k n text))
+          (Appends-trans a b c (take k text) (take n (drop k text)) h g'),
+    )
 
 -- a part of the first of two texts
 pub part_first : (a b : Option (List ℕ)) (x y : List ℕ) → AppendsPart a b x → AppendsPart a b (x ++ y)

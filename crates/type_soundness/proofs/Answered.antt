@@ -20,7 +20,8 @@ use Rattle.type_soundness.proofs.Trees.{IsWell}
 use Rattle.type_soundness.proofs.WellTyped.{all_well}
 use Rattle.type_soundness.proofs.Faults.{YieldedOr, fault_yields}
 
-told_fault : (Among : Evaluated → Type 0) (kind : MapFaultKind) (place : ℕ) → IsYielded Among (kind, place) → IsToldFault Among kind place
+told_fault : (Among : Evaluated → Type 0) (kind : MapFaultKind) (place : ℕ) → IsYielded Among (kind, place) →
+    IsToldFault Among kind place
 told_fault Among fault.Limit place h = tt
 told_fault Among fault.Device place h = tt
 told_fault Among fault.Memory place h = tt
@@ -34,18 +35,24 @@ outcome_told : (Among : Evaluated → Type 0) (r : Result Value FaultAt) → Yie
 outcome_told Among (Ok v) h = tt
 outcome_told Among (Err f) h = told_fault Among f.0 f.1 h
 
-module _ (declarations : List DeclarationTree) (bits : List ℕ) (form : FormTree) (ty : PokeType) (order : Order) (s limit : ℕ) (w : IsWell declarations ty form [] 0) where
-  answer_told : {r : Result Value FaultAt} {k j : ℕ} → Answer bits ty order s limit r k j → ToldOr (Evaluates declarations bits form ty order [] no_values s) r
-  answer_told (in_time {r} m le) = outcome_told (Evaluates declarations bits form ty order [] no_values s) r (fault_yields declarations m form [] [] 0 w (unseen_scope [] no_values))
+module _ (declarations : List DeclarationTree) (bits : List ℕ) (form : FormTree) (ty : PokeType) (order : Order)
+    (s limit : ℕ) (w : IsWell declarations ty form [] 0) where
+  answer_told : {r : Result Value FaultAt} {k j : ℕ} → Answer bits ty order s limit r k j →
+      ToldOr (Evaluates declarations bits form ty order [] no_values s) r
+  answer_told (in_time {r} m le) = outcome_told (Evaluates declarations bits form ty order [] no_values s) r
+      (fault_yields declarations m form [] [] 0 w (unseen_scope [] no_values))
   answer_told (too_long m gt le) = tt
 
-  fault_told : (kind : MapFaultKind) (at k j : ℕ) → FaultMeans bits ty order s limit kind at k j → IsToldFault (Evaluates declarations bits form ty order [] no_values s) kind at
+  fault_told : (kind : MapFaultKind) (at k j : ℕ) → FaultMeans bits ty order s limit kind at k j →
+      IsToldFault (Evaluates declarations bits form ty order [] no_values s) kind at
   fault_told fault.Device at k j h = tt
   fault_told fault.Memory at k j h = tt
   fault_told kind at k j h = answer_told h
 
-found_type : (table : Table) (id : TypeId) (h : IsFound table id) → IsWell h.declarations (type_named table id) (Plain (Called h.word)) [] 0
+found_type : (table : Table) (id : TypeId) (h : IsFound table id) →
+    IsWell h.declarations (type_named table id) (Plain (Called h.word)) [] 0
 found_type table id h = all_well h.declarations (types_of table) h.declared h.word (type_named table id) h.found
 
 pub faults_of_map : FaultsOfMapAreYielded
-faults_of_map table id bits order s limit kind at k j h = fault_told h.declarations bits (Plain (Called h.word)) (type_named table id) order s limit (found_type table id h) kind at k j
+faults_of_map table id bits order s limit kind at k j h = fault_told h.declarations bits (Plain (Called h.word))
+    (type_named table id) order s limit (found_type table id h) kind at k j

@@ -17,13 +17,17 @@ use Rattle.type_soundness.proofs.Capacity.{capacity_enough}
 use Rattle.type_soundness.proofs.InSlots.{unpacked_slots}
 
 -- as a member of a frame
-member_bound : (bits : List ℕ) (ty : PokeType) (order : Order) (levels : Levels) (s : ℕ) (v : Value) {k j : ℕ} → Means bits ty order levels s (Ok v) k j → (vector : Vector) → member_takes false vector (Some v) ≤ capacity_bound false vector ty (length bits)
+member_bound : (bits : List ℕ) (ty : PokeType) (order : Order) (levels : Levels) (s : ℕ) (v : Value) {k j : ℕ} →
+    Means bits ty order levels s (Ok v) k j → (vector : Vector) →
+    member_takes false vector (Some v) ≤ capacity_bound false vector ty (length bits)
 member_bound bits ty order levels s v h vector =
     let one = means_one h (plan_means bits ty order levels s) in
-    subst (OfValue (λ u. member_takes false vector (Some u) ≤ capacity_bound false vector ty (length bits))) (sym one.0) (yields_on bits (plan (length bits) ty order levels s) (capacity_enough vector (length bits) ty order levels s))
+    subst (OfValue (λ u. member_takes false vector (Some u) ≤ capacity_bound false vector ty (length bits))) (sym one.0)
+    (yields_on bits (plan (length bits) ty order levels s) (capacity_enough vector (length bits) ty order levels s))
 
 pub values_take : ValuesTakeBound
-values_take bits ty order levels s v k j h vector = let m = member_bound bits ty order levels s v h vector in omega arith
+values_take bits ty order levels s v k j h vector =
+    let m = member_bound bits ty order levels s v h vector in omega arith
 
 pub values_fill : ValuesFillRoom
 values_fill bits ty order levels s v k j h kind =

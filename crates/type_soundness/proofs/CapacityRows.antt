@@ -21,7 +21,8 @@ numbers = ArrayOf (IntegerOf (whole 16 false)) Unbounded
 
 -- struct { uint<8> n; string s; uint<16>[] a; }
 record_type : PokeType
-record_type = StructOf None false (FieldThen None None (IntegerOf (whole 8 false)) None None None (FieldThen None None StringOf None None None (FieldThen None None numbers None None None NoFields)))
+record_type = StructOf None false (FieldThen None None (IntegerOf (whole 8 false)) None None None
+    (FieldThen None None StringOf None None None (FieldThen None None numbers None None None NoFields)))
 
 -- union { uint<16>[] a; string s; }
 choice : PokeType
@@ -29,28 +30,34 @@ choice = UnionOf None (PartThen None None numbers None (PartThen None None Strin
 
 -- struct { uint<8> x; uint<16> y; }[]
 pairs : PokeType
-pairs = ArrayOf (StructOf None false (FieldThen None None (IntegerOf (whole 8 false)) None None None (FieldThen None None (IntegerOf (whole 16 false)) None None None NoFields))) Unbounded
+pairs = ArrayOf (StructOf None false (FieldThen None None (IntegerOf (whole 8 false)) None None None
+    (FieldThen None None (IntegerOf (whole 16 false)) None None None NoFields))) Unbounded
 
 -- struct { uint<8> x : ..; }[], where the constraint names the first member of the frame at a level
 constrained : (level : ℕ) → PokeType
-constrained level = ArrayOf (StructOf None false (FieldThen None None (IntegerOf (whole 8 false)) (Some (Name level 0)) None None NoFields)) Unbounded
+constrained level = ArrayOf (StructOf None false
+    (FieldThen None None (IntegerOf (whole 8 false)) (Some (Name level 0)) None None NoFields)) Unbounded
 
 -- ten bytes: at most five numbers of 16 bits, and one more is tried
 packed_numbers : AreBounds true numbers 80 1 1 0 1 1 12
 unfolding capacity_bound least_width numbers
-packed_numbers = record { of_nodes = refl; of_families = refl; of_links = refl; of_pending = refl; of_texts = refl; of_bytes = refl }
+packed_numbers =
+    record { of_nodes = refl; of_families = refl; of_links = refl; of_pending = refl; of_texts = refl; of_bytes = refl }
 
 single_numbers : AreBounds false numbers 80 7 1 6 7 0 0
 unfolding capacity_bound least_width numbers
-single_numbers = record { of_nodes = refl; of_families = refl; of_links = refl; of_pending = refl; of_texts = refl; of_bytes = refl }
+single_numbers =
+    record { of_nodes = refl; of_families = refl; of_links = refl; of_pending = refl; of_texts = refl; of_bytes = refl }
 
 packed_record : AreBounds true record_type 80 4 2 3 4 2 22
 unfolding capacity_bound least_width numbers record_type
-packed_record = record { of_nodes = refl; of_families = refl; of_links = refl; of_pending = refl; of_texts = refl; of_bytes = refl }
+packed_record =
+    record { of_nodes = refl; of_families = refl; of_links = refl; of_pending = refl; of_texts = refl; of_bytes = refl }
 
 packed_choice : AreBounds true choice 80 2 2 1 2 1 12
 unfolding capacity_bound least_width numbers choice
-packed_choice = record { of_nodes = refl; of_families = refl; of_links = refl; of_pending = refl; of_texts = refl; of_bytes = refl }
+packed_choice =
+    record { of_nodes = refl; of_families = refl; of_links = refl; of_pending = refl; of_texts = refl; of_bytes = refl }
 
 numbers_room : room numbers 80 ≡ 13
 unfolding room least_width numbers
@@ -59,11 +66,13 @@ numbers_room = refl
 -- at most three structs of three bytes, and one more is tried
 packed_pairs : AreBounds true pairs 80 6 1 2 3 1 12
 unfolding capacity_bound least_width pairs
-packed_pairs = record { of_nodes = refl; of_families = refl; of_links = refl; of_pending = refl; of_texts = refl; of_bytes = refl }
+packed_pairs =
+    record { of_nodes = refl; of_families = refl; of_links = refl; of_pending = refl; of_texts = refl; of_bytes = refl }
 
 single_pairs : AreBounds false pairs 80 13 5 12 13 0 0
 unfolding capacity_bound least_width pairs
-single_pairs = record { of_nodes = refl; of_families = refl; of_links = refl; of_pending = refl; of_texts = refl; of_bytes = refl }
+single_pairs =
+    record { of_nodes = refl; of_families = refl; of_links = refl; of_pending = refl; of_texts = refl; of_bytes = refl }
 
 pairs_room : room pairs 80 ≡ 25
 unfolding room least_width pairs
@@ -72,14 +81,17 @@ pairs_room = refl
 -- a constraint that names its own number
 own_constrained : AreBounds true (constrained 0) 80 4 1 1 2 1 11
 unfolding capacity_bound least_width constrained
-own_constrained = record { of_nodes = refl; of_families = refl; of_links = refl; of_pending = refl; of_texts = refl; of_bytes = refl }
+own_constrained =
+    record { of_nodes = refl; of_families = refl; of_links = refl; of_pending = refl; of_texts = refl; of_bytes = refl }
 
 -- one that names a member of the frame around the struct, which is the array's: these aren't packed
 next_constrained : AreBounds true (constrained 1) 80 23 12 22 23 0 0
 unfolding capacity_bound least_width constrained
-next_constrained = record { of_nodes = refl; of_families = refl; of_links = refl; of_pending = refl; of_texts = refl; of_bytes = refl }
+next_constrained =
+    record { of_nodes = refl; of_families = refl; of_links = refl; of_pending = refl; of_texts = refl; of_bytes = refl }
 
 -- one that names a field of the struct around the array
 outer_constrained : AreBounds true (constrained 2) 80 4 1 1 2 1 11
 unfolding capacity_bound least_width constrained
-outer_constrained = record { of_nodes = refl; of_families = refl; of_links = refl; of_pending = refl; of_texts = refl; of_bytes = refl }
+outer_constrained =
+    record { of_nodes = refl; of_families = refl; of_links = refl; of_pending = refl; of_texts = refl; of_bytes = refl }

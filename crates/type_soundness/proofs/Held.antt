@@ -15,12 +15,16 @@ use Rattle.type_soundness.proofs.Stored.{Stores, Leaves, walk_stores, past_end}
 use Rattle.type_soundness.proofs.Moving.{Added, moves_within}
 use Rattle.type_soundness.proofs.Lacking.{nothing}
 
-module _ {world : World} {limit : ℕ} (m : ℕ) (ty : PokeType) (order : Order) (levels : Levels) (s : ℕ) {v : Value} {k j k' j' : ℕ} {state state' : State} where
-  run_holds : Follows world limit (plan m ty order levels s) k j state k' j' state' (Done (Ok v)) → (vector : Vector) → of_vector vector state'.now ≤ of_vector vector state.now + capacity_bound (packs world.room) vector ty m
+module _ {world : World} {limit : ℕ} (m : ℕ) (ty : PokeType) (order : Order) (levels : Levels) (s : ℕ) {v : Value}
+    {k j k' j' : ℕ} {state state' : State} where
+  run_holds : Follows world limit (plan m ty order levels s) k j state k' j' state' (Done (Ok v)) → (vector : Vector) →
+      of_vector vector state'.now ≤ of_vector vector state.now + capacity_bound (packs world.room) vector ty m
   run_holds h vector =
       let most = capacity_bound (packs world.room) vector ty m in
       let at_end = walk_stores h.walk (moves_within (packs world.room) vector m ty order levels s state) in
-      let a = past_end (subst (λ p. Stores (moved (packs world.room)) (λ now. of_vector vector now.now ≤ of_vector vector state.now + most) (Leaves (λ v. Added (packs world.room) vector most state) (λ last. last ≡ state)) p h.at) h.ends.0 at_end) in
+      let a = past_end (subst (λ p.
+      Stores (moved (packs world.room)) (λ now. of_vector vector now.now ≤ of_vector vector state.now + most)
+      (Leaves (λ v. Added (packs world.room) vector most state) (λ last. last ≡ state)) p h.at) h.ends.0 at_end) in
       let few = a.few in
       subst (λ now. of_vector vector now.now ≤ of_vector vector state.now + most) h.ends.1 few
 

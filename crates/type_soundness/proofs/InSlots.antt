@@ -45,9 +45,11 @@ pub record IsSlot (packs : Bool) (vector : Vector) (k m : ℕ) : Type 0 where
   pub family : family_bound vector ≤ k
   pub link : link_bound vector ≤ k
   pub row : packs ≡ true → (width count : ℕ) → width ≤ 64 → row_bound vector width count ≤ k * (1 + count * (1 + 1))
-  pub records : packs ≡ true → (widths : List ℕ) (count : ℕ) → 1 ≤ count → stride_of widths ≤ 8 * length widths → records_bound vector widths count ≤ k * (1 + count * (2 + 2 * length widths))
+  pub records : packs ≡ true → (widths : List ℕ) (count : ℕ) → 1 ≤ count → stride_of widths ≤ 8 * length widths →
+      records_bound vector widths count ≤ k * (1 + count * (2 + 2 * length widths))
 
-members_few : (k count family link each r : ℕ) → family ≤ k → link ≤ k → each ≤ k * r → family + count * (link + each) ≤ k * (1 + count * (1 + r))
+members_few : (k count family link each r : ℕ) → family ≤ k → link ≤ k → each ≤ k * r →
+    family + count * (link + each) ≤ k * (1 + count * (1 + r))
 members_few k count family link each r f l e =
     let one : link + each ≤ k * (1 + r) = omega arith in
     let all = mul-le-mul_left count one in
@@ -62,7 +64,8 @@ greatest_few k a b c d le ge =
     omega arith
 
 -- a packed number
-scalar_narrow : (m : ℕ) (type : PokeType) (width : ℕ) → scalar_width type ≡ Some width → IsNarrow type → (width ≤ 64) × (room type m ≡ 1)
+scalar_narrow : (m : ℕ) (type : PokeType) (width : ℕ) → scalar_width type ≡ Some width → IsNarrow type →
+    (width ≤ 64) × (room type m ≡ 1)
 unfolding IsNarrow room
 scalar_narrow m (IntegerOf type) width e h = (let same : type.width ≡ width = cc in omega arith, refl)
 scalar_narrow m (OffsetOf type unit) width e h = (let same : type.width ≡ width = cc in omega arith, refl)
@@ -73,7 +76,8 @@ scalar_narrow m (IntegralOf name type _) width e h = absurd cc
 scalar_narrow m (UnionOf name alternatives) width e h = absurd cc
 
 -- the fields of a packed struct
-columns_narrow : (m : ℕ) (fields : Fields) (widths : List ℕ) → column_widths fields ≡ Some widths → AreNarrowFields fields → (stride_of widths ≤ 8 * length widths) × (fields_room fields m ≡ 2 * length widths)
+columns_narrow : (m : ℕ) (fields : Fields) (widths : List ℕ) → column_widths fields ≡ Some widths →
+    AreNarrowFields fields → (stride_of widths ≤ 8 * length widths) × (fields_room fields m ≡ 2 * length widths)
 unfolding IsNarrow room
 columns_narrow m NoFields widths e h =
     let is : [] ≡ widths = cc in
@@ -87,9 +91,11 @@ columns_narrow m (FieldThen name order type constraint label condition rest) wid
     let low = more.0 in
     let here = one.1 in
     let others = more.1 in
-    subst (λ (ws : List ℕ). (stride_of ws ≤ 8 * length ws) × ((1 + room type m) + fields_room rest m ≡ 2 * length ws)) (sym both.are) (omega (arith, few, low), omega (arith, here, others))
+    subst (λ (ws : List ℕ). (stride_of ws ≤ 8 * length ws) × ((1 + room type m) + fields_room rest m ≡ 2 * length ws))
+    (sym both.are) (omega (arith, few, low), omega (arith, here, others))
 
-struct_narrow : (m : ℕ) (type : PokeType) (widths : List ℕ) → row_of type ≡ Records widths → IsNarrow type → (stride_of widths ≤ 8 * length widths) × (room type m ≡ 1 + 2 * length widths)
+struct_narrow : (m : ℕ) (type : PokeType) (widths : List ℕ) → row_of type ≡ Records widths → IsNarrow type →
+    (stride_of widths ≤ 8 * length widths) × (room type m ≡ 1 + 2 * length widths)
 unfolding IsNarrow room
 struct_narrow m type widths e h =
     let r = packed_struct_is type widths e in
@@ -97,19 +103,25 @@ struct_narrow m type widths e h =
     (fields.0, ap (λ (t : PokeType). room t m) r.is ∙ ap (λ n. 1 + n) fields.1)
 
 module _ (packs : Bool) (vector : Vector) (k m : ℕ) (slot : IsSlot packs vector k m) where
-  array_slots : (element : PokeType) → (packs ≡ true → IsNarrow element) → (row : Row) → where_rows packs (row_of element) ≡ row → capacity_bound packs vector element m ≤ k * room element m →
-      array_bound row vector (count_of m (least_width element)) (capacity_bound packs vector element m) ≤ k * (1 + count_of m (least_width element) * (1 + room element m))
-  array_slots element narrow Apart e le = members_few k (count_of m (least_width element)) (family_bound vector) (link_bound vector) (capacity_bound packs vector element m) (room element m) slot.family slot.link le
+  array_slots : (element : PokeType) → (packs ≡ true → IsNarrow element) → (row : Row) →
+      where_rows packs (row_of element) ≡ row → capacity_bound packs vector element m ≤ k * room element m →
+      array_bound row vector (count_of m (least_width element)) (capacity_bound packs vector element m)
+      ≤ k * (1 + count_of m (least_width element) * (1 + room element m))
+  array_slots element narrow Apart e le = members_few k (count_of m (least_width element)) (family_bound vector)
+      (link_bound vector) (capacity_bound packs vector element m) (room element m) slot.family slot.link le
   array_slots element narrow (Numbers width) e le =
       let is = is_packed packs (row_of element) (Numbers width) e (λ same. cc) in
       let h = scalar_narrow m element width (packed_number_is element width is.1) (narrow is.0) in
-      subst (λ r. row_bound vector width (count_of m (least_width element)) ≤ k * (1 + count_of m (least_width element) * (1 + r))) (sym h.1) (slot.row is.0 width (count_of m (least_width element)) h.0)
+      subst (λ r. row_bound vector width (count_of m (least_width element))
+      ≤ k * (1 + count_of m (least_width element) * (1 + r))) (sym h.1)
+      (slot.row is.0 width (count_of m (least_width element)) h.0)
   array_slots element narrow (Records widths) e le =
       let is = is_packed packs (row_of element) (Records widths) e (λ same. cc) in
       let h = struct_narrow m element widths is.1 (narrow is.0) in
       let count = count_of m (least_width element) in
       let all : 1 + (1 + 2 * length widths) ≡ 2 + 2 * length widths = omega arith in
-      subst (λ r. records_bound vector widths count ≤ k * (1 + count * (1 + r))) (sym h.1) (rw all (slot.records is.0 widths count (omega arith) h.0))
+      subst (λ r. records_bound vector widths count ≤ k * (1 + count * (1 + r))) (sym h.1)
+      (rw all (slot.records is.0 widths count (omega arith) h.0))
 
   mutual
     unfolding capacity_bound room IsNarrow
@@ -118,12 +130,14 @@ module _ (packs : Bool) (vector : Vector) (k m : ℕ) (slot : IsSlot packs vecto
     in_slots (IntegerOf type) h = let f = slot.number in omega arith
     in_slots (OffsetOf type unit) h = let f = slot.number in omega arith
     in_slots StringOf h = slot.string
-    in_slots (ArrayOf element bound) h = array_slots element h (where_rows packs (row_of element)) refl (in_slots element h)
+    in_slots (ArrayOf element bound) h =
+        array_slots element h (where_rows packs (row_of element)) refl (in_slots element h)
     in_slots (StructOf name pinned fields) h = let f = slot.family in let i = fields_slots fields h in omega arith
     in_slots (IntegralOf name type fields) h = let f = slot.family in let i = parts_slots fields h in omega arith
     in_slots (UnionOf name alternatives) h = let f = slot.family in let i = greatest_slots alternatives h in omega arith
 
-    fields_slots : (fields : Fields) → (packs ≡ true → AreNarrowFields fields) → fields_bound packs vector fields m ≤ k * fields_room fields m
+    fields_slots : (fields : Fields) → (packs ≡ true → AreNarrowFields fields) →
+        fields_bound packs vector fields m ≤ k * fields_room fields m
     fields_slots NoFields h = omega arith
     fields_slots (FieldThen name order type constraint label condition rest) h =
         let l = slot.link in
@@ -131,7 +145,8 @@ module _ (packs : Bool) (vector : Vector) (k m : ℕ) (slot : IsSlot packs vecto
         let j = fields_slots rest (λ e. (h e).1) in
         omega arith
 
-    parts_slots : (parts : Parts) → (packs ≡ true → AreNarrowParts parts) → parts_bound packs vector parts m ≤ k * parts_room parts m
+    parts_slots : (parts : Parts) → (packs ≡ true → AreNarrowParts parts) →
+        parts_bound packs vector parts m ≤ k * parts_room parts m
     parts_slots NoParts h = omega arith
     parts_slots (PartThen name order type constraint rest) h =
         let l = slot.link in
@@ -139,16 +154,19 @@ module _ (packs : Bool) (vector : Vector) (k m : ℕ) (slot : IsSlot packs vecto
         let j = parts_slots rest (λ e. (h e).1) in
         omega arith
 
-    greatest_slots : (parts : Parts) → (packs ≡ true → AreNarrowParts parts) → greatest_bound packs vector parts m ≤ k * greatest_room parts m
+    greatest_slots : (parts : Parts) → (packs ≡ true → AreNarrowParts parts) →
+        greatest_bound packs vector parts m ≤ k * greatest_room parts m
     greatest_slots NoParts h = omega arith
     greatest_slots (PartThen name order type constraint rest) h =
         let l = slot.link in
         let i = in_slots type (λ e. (h e).0) in
-        greatest_few k (link_bound vector + capacity_bound packs vector type m) (greatest_bound packs vector rest m) (1 + room type m) (greatest_room rest m) (omega arith) (greatest_slots rest (λ e. (h e).1))
+        greatest_few k (link_bound vector + capacity_bound packs vector type m) (greatest_bound packs vector rest m)
+        (1 + room type m) (greatest_room rest m) (omega arith) (greatest_slots rest (λ e. (h e).1))
 
 -- ---- the slots of each vector
 
-row_slots : (vector : Vector) (width count : ℕ) → width ≤ 64 → row_bound vector width count ≤ slot_takes vector * (1 + count * (1 + 1))
+row_slots : (vector : Vector) (width count : ℕ) → width ≤ 64 →
+    row_bound vector width count ≤ slot_takes vector * (1 + count * (1 + 1))
 row_slots NodesOf width count le = omega arith
 row_slots FamiliesOf width count le = omega arith
 row_slots LinksOf width count le = omega arith
@@ -159,26 +177,111 @@ row_slots BytesOf width count le =
     let all = mul-le-mul_right count few in
     omega arith
 
-records_slots : (vector : Vector) (widths : List ℕ) (count : ℕ) → 1 ≤ count → stride_of widths ≤ 8 * length widths → records_bound vector widths count ≤ slot_takes vector * (1 + count * (2 + 2 * length widths))
+records_slots : (vector : Vector) (widths : List ℕ) (count : ℕ) → 1 ≤ count → stride_of widths ≤ 8 * length widths →
+    records_bound vector widths count ≤ slot_takes vector * (1 + count * (2 + 2 * length widths))
 records_slots BytesOf widths count some le = let all = mul-le-mul_right count le in omega arith
 records_slots vector widths count some le = let all = mul-le-mul_left (2 + 2 * length widths) some in omega arith
 
 vector_slot : (packs : Bool) (vector : Vector) (m : ℕ) → IsSlot packs vector (slot_takes vector) m
-vector_slot packs NodesOf m = record { number = omega arith; string = omega arith; family = omega arith; link = omega arith; row = λ e. row_slots NodesOf; records = λ e. records_slots NodesOf }
-vector_slot packs FamiliesOf m = record { number = omega arith; string = omega arith; family = omega arith; link = omega arith; row = λ e. row_slots FamiliesOf; records = λ e. records_slots FamiliesOf }
-vector_slot packs LinksOf m = record { number = omega arith; string = omega arith; family = omega arith; link = omega arith; row = λ e. row_slots LinksOf; records = λ e. records_slots LinksOf }
-vector_slot packs PendingOf m = record { number = omega arith; string = omega arith; family = omega arith; link = omega arith; row = λ e. row_slots PendingOf; records = λ e. records_slots PendingOf }
-vector_slot packs TextsOf m = record { number = omega arith; string = omega arith; family = omega arith; link = omega arith; row = λ e. row_slots TextsOf; records = λ e. records_slots TextsOf }
-vector_slot packs BytesOf m = record { number = omega arith; string = omega arith; family = omega arith; link = omega arith; row = λ e. row_slots BytesOf; records = λ e. records_slots BytesOf }
+vector_slot packs NodesOf m = record {
+  number = omega arith;
+  string = omega arith;
+  family = omega arith;
+  link = omega arith;
+  row = λ e. row_slots NodesOf;
+  records = λ e. records_slots NodesOf;
+}
+vector_slot packs FamiliesOf m = record {
+  number = omega arith;
+  string = omega arith;
+  family = omega arith;
+  link = omega arith;
+  row = λ e. row_slots FamiliesOf;
+  records = λ e. records_slots FamiliesOf;
+}
+vector_slot packs LinksOf m = record {
+  number = omega arith;
+  string = omega arith;
+  family = omega arith;
+  link = omega arith;
+  row = λ e. row_slots LinksOf;
+  records = λ e. records_slots LinksOf;
+}
+vector_slot packs PendingOf m = record {
+  number = omega arith;
+  string = omega arith;
+  family = omega arith;
+  link = omega arith;
+  row = λ e. row_slots PendingOf;
+  records = λ e. records_slots PendingOf;
+}
+vector_slot packs TextsOf m = record {
+  number = omega arith;
+  string = omega arith;
+  family = omega arith;
+  link = omega arith;
+  row = λ e. row_slots TextsOf;
+  records = λ e. records_slots TextsOf;
+}
+vector_slot packs BytesOf m = record {
+  number = omega arith;
+  string = omega arith;
+  family = omega arith;
+  link = omega arith;
+  row = λ e. row_slots BytesOf;
+  records = λ e. records_slots BytesOf;
+}
 
 -- where nothing is packed, a slot of any kind takes one entry
 one_slot : (vector : Vector) (m : ℕ) → IsSlot false vector 1 m
-one_slot NodesOf m = record { number = omega arith; string = omega arith; family = omega arith; link = omega arith; row = λ e width count le. absurd cc; records = λ e widths count some le. absurd cc }
-one_slot FamiliesOf m = record { number = omega arith; string = omega arith; family = omega arith; link = omega arith; row = λ e width count le. absurd cc; records = λ e widths count some le. absurd cc }
-one_slot LinksOf m = record { number = omega arith; string = omega arith; family = omega arith; link = omega arith; row = λ e width count le. absurd cc; records = λ e widths count some le. absurd cc }
-one_slot PendingOf m = record { number = omega arith; string = omega arith; family = omega arith; link = omega arith; row = λ e width count le. absurd cc; records = λ e widths count some le. absurd cc }
-one_slot TextsOf m = record { number = omega arith; string = omega arith; family = omega arith; link = omega arith; row = λ e width count le. absurd cc; records = λ e widths count some le. absurd cc }
-one_slot BytesOf m = record { number = omega arith; string = omega arith; family = omega arith; link = omega arith; row = λ e width count le. absurd cc; records = λ e widths count some le. absurd cc }
+one_slot NodesOf m = record {
+  number = omega arith;
+  string = omega arith;
+  family = omega arith;
+  link = omega arith;
+  row = λ e width count le. absurd cc;
+  records = λ e widths count some le. absurd cc;
+}
+one_slot FamiliesOf m = record {
+  number = omega arith;
+  string = omega arith;
+  family = omega arith;
+  link = omega arith;
+  row = λ e width count le. absurd cc;
+  records = λ e widths count some le. absurd cc;
+}
+one_slot LinksOf m = record {
+  number = omega arith;
+  string = omega arith;
+  family = omega arith;
+  link = omega arith;
+  row = λ e width count le. absurd cc;
+  records = λ e widths count some le. absurd cc;
+}
+one_slot PendingOf m = record {
+  number = omega arith;
+  string = omega arith;
+  family = omega arith;
+  link = omega arith;
+  row = λ e width count le. absurd cc;
+  records = λ e widths count some le. absurd cc;
+}
+one_slot TextsOf m = record {
+  number = omega arith;
+  string = omega arith;
+  family = omega arith;
+  link = omega arith;
+  row = λ e width count le. absurd cc;
+  records = λ e widths count some le. absurd cc;
+}
+one_slot BytesOf m = record {
+  number = omega arith;
+  string = omega arith;
+  family = omega arith;
+  link = omega arith;
+  row = λ e width count le. absurd cc;
+  records = λ e widths count some le. absurd cc;
+}
 
 pub unpacked_slots : (vector : Vector) (ty : PokeType) (m : ℕ) → capacity_bound false vector ty m ≤ room ty m
 unpacked_slots vector ty m = let h = in_slots false vector 1 m (one_slot vector m) ty (λ e. absurd cc) in omega arith
@@ -206,20 +309,24 @@ module _ (at : ℕ → PokeType) (narrow : (i : ℕ) → IsNarrow (at i)) where
   narrow_shape i (shape.Integral name number fields) h = narrow_parts fields.items
   narrow_shape i (shape.Union name alternatives) h = narrow_parts alternatives.items
 
-  narrow_found : (i : ℕ) (o : Option Node) → ((node : Node) → o ≡ Some node → NamesBelow i node.shape) → IsNarrow (open_found at o)
+  narrow_found : (i : ℕ) (o : Option Node) → ((node : Node) → o ≡ Some node → NamesBelow i node.shape) →
+      IsNarrow (open_found at o)
   unfolding IsNarrow
   narrow_found i None h = tt
   narrow_found i (Some node) h = narrow_shape i node.shape (h node refl)
 
-narrow_at : (nodes : List Node) → ((i : ℕ) (node : Node) → slice_get nodes i ≡ Some node → NamesBelow i node.shape) → (d i : ℕ) → IsNarrow (type_at nodes d i)
+narrow_at : (nodes : List Node) → ((i : ℕ) (node : Node) → slice_get nodes i ≡ Some node → NamesBelow i node.shape) →
+    (d i : ℕ) → IsNarrow (type_at nodes d i)
 unfolding type_at IsNarrow
 narrow_at nodes h zero i = tt
 narrow_at nodes h (suc d) i = narrow_found (type_at nodes d) (narrow_at nodes h d) i (slice_get nodes i) (h i)
 
-narrow_type : (nodes : List Node) → ((i : ℕ) (node : Node) → slice_get nodes i ≡ Some node → NamesBelow i node.shape) → (i : ℕ) → IsNarrow (type_of nodes i)
+narrow_type : (nodes : List Node) → ((i : ℕ) (node : Node) → slice_get nodes i ≡ Some node → NamesBelow i node.shape) →
+    (i : ℕ) → IsNarrow (type_of nodes i)
 unfolding type_of
 narrow_type nodes h i = narrow_at nodes h (suc i) i
 
 pub bounds_in_slots : BoundsAreSlots
 bounds_in_slots table id packs vector m =
-    in_slots packs vector (slot_takes vector) m (vector_slot packs vector m) (type_of table.nodes.items id.node) (λ e. narrow_type table.nodes.items table.sound.below id.node)
+    in_slots packs vector (slot_takes vector) m (vector_slot packs vector m) (type_of table.nodes.items id.node)
+    (λ e. narrow_type table.nodes.items table.sound.below id.node)

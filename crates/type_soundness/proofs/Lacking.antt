@@ -21,7 +21,11 @@ abbrev Lacks : World → (Vector → ℕ) → Type 0
 Lacks world most = (vector : Vector) × (of_vector vector world.before < most vector)
 
 -- something that was to be stored didn't fit, though it takes at most so much
-lacking : {A : Type 0} {Q : Vector → A → State → Type 0} (world : World) (most : Vector → ℕ) (q : Plan A) (state : State) → NeedsRoom world state q → ((vector : Vector) → Stores (moved (packs world.room)) (λ now. of_vector vector now.now ≤ most vector) (Q vector) q state) → Lacks world most
+lacking : {A : Type 0} {Q : Vector → A → State → Type 0} (world : World) (most : Vector → ℕ) (q : Plan A)
+    (state : State) → NeedsRoom world state q →
+    ((vector : Vector) →
+    Stores (moved (packs world.room)) (λ now. of_vector vector now.now ≤ most vector) (Q vector) q state) →
+    Lacks world most
 lacking world most (Ended a) state h l = absurd h
 lacking world most (Tick p) state h l = absurd h
 lacking world most (Made count move levels p) state h l =
@@ -30,10 +34,15 @@ lacking world most (Made count move levels p) state h l =
     (h.before.0, omega (arith, few, lt))
 lacking world most (Read place width order rest) state h l = absurd h
 
-module _ {world : World} {limit : ℕ} (m : ℕ) (ty : PokeType) (order : Order) (levels : Levels) (s : ℕ) {k j k' j' : ℕ} {state state' : State} where
-  run_lacks : Follows world limit (plan m ty order levels s) k j state k' j' state' NoRoom → Lacks world (λ vector. of_vector vector state.now + capacity_bound (packs world.room) vector ty m)
+module _ {world : World} {limit : ℕ} (m : ℕ) (ty : PokeType) (order : Order) (levels : Levels) (s : ℕ) {k j k' j' : ℕ}
+    {state state' : State} where
+  run_lacks : Follows world limit (plan m ty order levels s) k j state k' j' state' NoRoom →
+      Lacks world (λ vector. of_vector vector state.now + capacity_bound (packs world.room) vector ty m)
   run_lacks h =
-      lacking {Q = λ vector. Leaves (λ v. Added (packs world.room) vector (capacity_bound (packs world.room) vector ty m) state) (λ last. last ≡ state)} world (λ vector. of_vector vector state.now + capacity_bound (packs world.room) vector ty m) h.rest h.at h.ends
+      lacking {Q = λ vector.
+      Leaves (λ v. Added (packs world.room) vector (capacity_bound (packs world.room) vector ty m) state)
+      (λ last. last ≡ state)} world
+      (λ vector. of_vector vector state.now + capacity_bound (packs world.room) vector ty m) h.rest h.at h.ends
       (λ vector. walk_stores h.walk (moves_within (packs world.room) vector m ty order levels s state))
 
 pub nothing : (vector : Vector) → of_vector vector root_marks ≡ 0
@@ -47,7 +56,8 @@ nothing BytesOf = refl
 pub memory_lacks : MemoryLacksCapacity
 memory_lacks table id order start space meter meter' store store' (Ok u) h = tt
 memory_lacks table id order start space meter meter' store store' (Err f) h = λ e.
-    let run = subst (λ kind. RunsTo space meter meter' store store' (plan (8 * space.len) (type_named table id) order no_values start) (fault_finish kind f.at)) e h in
+    let run = subst (λ kind. RunsTo space meter meter' store store'
+    (plan (8 * space.len) (type_named table id) order no_values start) (fault_finish kind f.at)) e h in
     let l = run_lacks (8 * space.len) (type_named table id) order no_values start run.follows in
     let none = nothing l.0 in
     let lt = l.1 in

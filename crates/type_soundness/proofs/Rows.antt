@@ -52,10 +52,16 @@ by_expression bits_end h = absurd h
 by_expression unmet h = absurd h
 by_expression out_of_bounds h = absurd h
 by_expression element_of_no_bits h = absurd h
-by_expression (of_expression {kind} {steps} a among y) h = record { a = a; steps = steps; among = among; yields = subst (λ k. Yields a.levels a.expression (Err k) steps) (is_absent kind h) y }
+by_expression (of_expression {kind} {steps} a among y) h = record {
+  a = a;
+  steps = steps;
+  among = among;
+  yields = subst (λ k. Yields a.levels a.expression (Err k) steps) (is_absent kind h) y;
+}
 
 -- only the text is evaluated
-only_text : {a : Evaluated} → Evaluates [] [] counted_by_its_text counted_by_text Big [] no_values 0 a → a.expression ≡ Text []
+only_text : {a : Evaluated} → Evaluates [] [] counted_by_its_text counted_by_text Big [] no_values 0 a →
+    a.expression ≡ Text []
 unfolding extent_of evaluation
 only_text (in_number_read {type} le e inside d) = absurd (none-some type e)
 only_text (array_count le) = refl
@@ -65,7 +71,9 @@ text_is_ok : (levels : Levels) (k : ℕ) → Yields levels (Text []) (Err fault.
 unfolding evaluation
 text_is_ok levels k y = let e = (exact levels y).0 in cc
 
-falls_back_unyielded : IsYielded (Evaluates [] [] counted_by_its_text counted_by_text Big [] no_values 0) (fault.Absent, 0) → ⊥
+falls_back_unyielded : IsYielded (Evaluates [] [] counted_by_its_text counted_by_text Big [] no_values 0)
+    (fault.Absent, 0) → ⊥
 falls_back_unyielded h =
     let x = by_expression h tt in
-    text_is_ok x.a.levels x.steps (subst (λ e. Yields x.a.levels e (Err fault.Absent) x.steps) (only_text x.among) x.yields)
+    text_is_ok x.a.levels x.steps
+    (subst (λ e. Yields x.a.levels e (Err fault.Absent) x.steps) (only_text x.among) x.yields)

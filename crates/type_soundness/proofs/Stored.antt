@@ -17,11 +17,14 @@ abbrev pub Change : Type 0
 Change = Move → State → State
 
 -- whatever the plan reads, M holds of what is stored after each move, and Q of each result with what is stored then
-pub data Stores {A : Type 0} (change : Change) (M : State → Type 0) (Q : A → State → Type 0) : Plan A → State → Type 0 where
+pub data Stores {A : Type 0} (change : Change) (M : State → Type 0) (Q : A → State → Type 0) : Plan A →
+    State → Type 0 where
   at_end : {a : A} {state : State} → Q a state → Stores change M Q (Ended a) state
   at_tick : {p : Plan A} {state : State} → Stores change M Q p state → Stores change M Q (Tick p) state
-  at_made : {count : ℕ} {move : Move} {levels : Levels} {p : Plan A} {state : State} → M (change move state) → Stores change M Q p (change move state) → Stores change M Q (Made count move levels p) state
-  at_read : {place width : ℕ} {order : Order} {ps : ℕ → Plan A} {state : State} → ((n : ℕ) → Stores change M Q (ps n) state) → Stores change M Q (Read place width order ps) state
+  at_made : {count : ℕ} {move : Move} {levels : Levels} {p : Plan A} {state : State} → M (change move state) →
+      Stores change M Q p (change move state) → Stores change M Q (Made count move levels p) state
+  at_read : {place width : ℕ} {order : Order} {ps : ℕ → Plan A} {state : State} →
+      ((n : ℕ) → Stores change M Q (ps n) state) → Stores change M Q (Read place width order ps) state
 
 -- a fact about a value, and one about what a fault leaves
 abbrev pub Leaves : {A F : Type 0} → (Q : A → State → Type 0) → (E : State → Type 0) → Result A F → State → Type 0
@@ -35,17 +38,21 @@ module _ {A : Type 0} {change : Change} {M : State → Type 0} {Q : A → State 
   pub past_tick : {p : Plan A} {state : State} → Stores change M Q (Tick p) state → Stores change M Q p state
   past_tick (at_tick h) = h
 
-  pub past_made : {count : ℕ} {move : Move} {levels : Levels} {p : Plan A} {state : State} → Stores change M Q (Made count move levels p) state → Stores change M Q p (change move state)
+  pub past_made : {count : ℕ} {move : Move} {levels : Levels} {p : Plan A} {state : State} →
+      Stores change M Q (Made count move levels p) state → Stores change M Q p (change move state)
   past_made (at_made l h) = h
 
-  pub now_made : {count : ℕ} {move : Move} {levels : Levels} {p : Plan A} {state : State} → Stores change M Q (Made count move levels p) state → M (change move state)
+  pub now_made : {count : ℕ} {move : Move} {levels : Levels} {p : Plan A} {state : State} →
+      Stores change M Q (Made count move levels p) state → M (change move state)
   now_made (at_made l h) = l
 
-  pub past_read : {place width : ℕ} {order : Order} {ps : ℕ → Plan A} {state : State} → Stores change M Q (Read place width order ps) state → (n : ℕ) → Stores change M Q (ps n) state
+  pub past_read : {place width : ℕ} {order : Order} {ps : ℕ → Plan A} {state : State} →
+      Stores change M Q (Read place width order ps) state → (n : ℕ) → Stores change M Q (ps n) state
   past_read (at_read h) = h
 
 -- it holds along a walk
-pub walk_stores : {world : World} {A : Type 0} {M : State → Type 0} {Q : A → State → Type 0} {q : Plan A} {k' j' : ℕ} {last : State} {p : Plan A} {k j : ℕ} {state : State} → Walk world q k' j' last p k j state →
+pub walk_stores : {world : World} {A : Type 0} {M : State → Type 0} {Q : A → State → Type 0} {q : Plan A} {k' j' : ℕ}
+    {last : State} {p : Plan A} {k j : ℕ} {state : State} → Walk world q k' j' last p k j state →
     Stores (moved (packs world.room)) M Q p state → Stores (moved (packs world.room)) M Q q last
 walk_stores arrived h = h
 walk_stores (stepped w) h = walk_stores w (past_tick h)
@@ -53,77 +60,108 @@ walk_stores (kept has w) h = walk_stores w (past_made h)
 walk_stores (read n m w) h = walk_stores w (past_read h n)
 
 module _ {change : Change} {M : State → Type 0} where
-  pub weaker_stores : {A : Type 0} {P Q : A → State → Type 0} → ((a : A) (last : State) → P a last → Q a last) → {p : Plan A} {state : State} → Stores change M P p state → Stores change M Q p state
+  pub weaker_stores : {A : Type 0} {P Q : A → State → Type 0} → ((a : A) (last : State) → P a last → Q a last) →
+      {p : Plan A} {state : State} → Stores change M P p state → Stores change M Q p state
   weaker_stores g (at_end {a} {state} h) = at_end (g a state h)
   weaker_stores g (at_tick h) = at_tick (weaker_stores g h)
   weaker_stores g (at_made l h) = at_made l (weaker_stores g h)
   weaker_stores g (at_read h) = at_read (λ n. weaker_stores g (h n))
 
-  pub then_stores : {A B : Type 0} {P : A → State → Type 0} {Q : B → State → Type 0} (f : A → Plan B) → ((a : A) (last : State) → P a last → Stores change M Q (f a) last) → {p : Plan A} {state : State} → Stores change M P p state → Stores change M Q (and_then p f) state
+  pub then_stores : {A B : Type 0} {P : A → State → Type 0} {Q : B → State → Type 0} (f : A → Plan B) →
+      ((a : A) (last : State) → P a last → Stores change M Q (f a) last) → {p : Plan A} {state : State} →
+      Stores change M P p state → Stores change M Q (and_then p f) state
   then_stores f g (at_end {a} {state} h) = g a state h
   then_stores f g (at_tick h) = at_tick (then_stores f g h)
   then_stores f g (at_made l h) = at_made l (then_stores f g h)
   then_stores f g (at_read h) = at_read (λ n. then_stores f g (h n))
 
-  value_stores : {A B F : Type 0} {P : A → State → Type 0} {Q : B → State → Type 0} {E : State → Type 0} (f : A → Plan (Result B F)) → ((a : A) (last : State) → P a last → Stores change M (Leaves Q E) (f a) last) → (r : Result A F) (last : State) → Leaves P E r last → Stores change M (Leaves Q E) (on_value f r) last
+  value_stores : {A B F : Type 0} {P : A → State → Type 0} {Q : B → State → Type 0} {E : State → Type 0}
+      (f : A → Plan (Result B F)) → ((a : A) (last : State) → P a last → Stores change M (Leaves Q E) (f a) last) →
+      (r : Result A F) (last : State) → Leaves P E r last → Stores change M (Leaves Q E) (on_value f r) last
   value_stores f g (Ok a) last h = g a last h
   value_stores f g (Err e) last h = at_end h
 
-  pub ok_stores : {A B F : Type 0} {P : A → State → Type 0} {Q : B → State → Type 0} {E : State → Type 0} (f : A → Plan (Result B F)) → ((a : A) (last : State) → P a last → Stores change M (Leaves Q E) (f a) last) → {p : Plan (Result A F)} {state : State} →
+  pub ok_stores : {A B F : Type 0} {P : A → State → Type 0} {Q : B → State → Type 0} {E : State → Type 0}
+      (f : A → Plan (Result B F)) → ((a : A) (last : State) → P a last → Stores change M (Leaves Q E) (f a) last) →
+      {p : Plan (Result A F)} {state : State} →
       Stores change M (Leaves P E) p state → Stores change M (Leaves Q E) (then_ok p f) state
   unfolding then_ok
-  ok_stores {F} {P} {Q} {E} f g h = then_stores {P = Leaves {F = F} P E} {Q = Leaves {F = F} Q E} (on_value f) (value_stores {P = P} {Q = Q} {E = E} f g) h
+  ok_stores {F} {P} {Q} {E} f g h = then_stores {P = Leaves {F = F} P E} {Q = Leaves {F = F} Q E} (on_value f)
+      (value_stores {P = P} {Q = Q} {E = E} f g) h
 
-  after_stores : {A : Type 0} {Q : A → State → Type 0} (n : ℕ) (a : A) {state : State} → Q a state → Stores change M Q (after n a) state
+  after_stores : {A : Type 0} {Q : A → State → Type 0} (n : ℕ) (a : A) {state : State} → Q a state →
+      Stores change M Q (after n a) state
   after_stores zero a h = at_end h
   after_stores (suc n) a h = at_tick (after_stores n a h)
 
   -- a value that a function gives, after so many steps
-  pub told_stores : {A B F : Type 0} {Q : B → State → Type 0} {E : State → Type 0} (n : ℕ) (r : Result A F) (f : A → Plan (Result B F)) {state : State} → E state → ((a : A) → Stores change M (Leaves Q E) (f a) state) → Stores change M (Leaves Q E) (then_ok (after n r) f) state
-  told_stores {A} {B} {F} {Q} {E} n r f {state} e g = ok_stores {P = λ a last. last ≡ state} {Q = Q} {E = E} f (λ a last same. subst (λ now. Stores change M (Leaves Q E) (f a) now) (sym same) (g a)) (after_stores n r (told r))
+  pub told_stores : {A B F : Type 0} {Q : B → State → Type 0} {E : State → Type 0} (n : ℕ) (r : Result A F)
+      (f : A → Plan (Result B F)) {state : State} → E state → ((a : A) → Stores change M (Leaves Q E) (f a) state) →
+      Stores change M (Leaves Q E) (then_ok (after n r) f) state
+  told_stores {A} {B} {F} {Q} {E} n r f {state} e g = ok_stores {P = λ a last. last ≡ state} {Q = Q} {E = E} f
+      (λ a last same. subst (λ now. Stores change M (Leaves Q E) (f a) now) (sym same) (g a))
+      (after_stores n r (told r))
     where
       told : (t : Result A F) → Leaves (λ a last. last ≡ state) E t state
       told (Ok a) = refl
       told (Err f) = e
 
   -- a value that is known
-  pub known_stores : {A B F : Type 0} {Q : B → State → Type 0} {E : State → Type 0} (n : ℕ) (a : A) (f : A → Plan (Result B F)) {state : State} → Stores change M (Leaves Q E) (f a) state → Stores change M (Leaves Q E) (then_ok (after n (Ok a)) f) state
+  pub known_stores : {A B F : Type 0} {Q : B → State → Type 0} {E : State → Type 0} (n : ℕ) (a : A)
+      (f : A → Plan (Result B F)) {state : State} →
+      Stores change M (Leaves Q E) (f a) state → Stores change M (Leaves Q E) (then_ok (after n (Ok a)) f) state
   unfolding then_ok
   known_stores zero a f h = h
   known_stores {Q} {E} (suc n) a f h = at_tick (known_stores {Q = Q} {E = E} n a f h)
 
-  pub one_stores : {A : Type 0} {Q : A → State → Type 0} {p q : Plan A} {state : State} (t : Bool) → Stores change M Q p state → Stores change M Q q state → Stores change M Q (if t then p else q) state
+  pub one_stores : {A : Type 0} {Q : A → State → Type 0} {p q : Plan A} {state : State} (t : Bool) →
+      Stores change M Q p state → Stores change M Q q state → Stores change M Q (if t then p else q) state
   one_stores true h g = h
   one_stores false h g = g
 
-  pub inside_stores : {A : Type 0} {Q : A → State → Type 0} {E : State → Type 0} (m s : ℕ) {p : Plan (Result A FaultAt)} {state : State} → E state → Stores change M (Leaves Q E) p state → Stores change M (Leaves Q E) (from_inside m s p) state
+  pub inside_stores : {A : Type 0} {Q : A → State → Type 0} {E : State → Type 0} (m s : ℕ) {p : Plan (Result A FaultAt)}
+      {state : State} →
+      E state → Stores change M (Leaves Q E) p state → Stores change M (Leaves Q E) (from_inside m s p) state
   unfolding from_inside
   inside_stores m s e h = one_stores (nat_le s m) h (at_end e)
 
   -- a value and its constraint
-  constrained_stores : {Q E : State → Type 0} → ((last : State) → Q last → E last) → (c : Option Term) (levels : Levels) (at : ℕ) (v : Value) {state : State} → Q state → Stores change M (Leaves (λ v. Q) E) (constrained c levels at v) state
+  constrained_stores : {Q E : State → Type 0} → ((last : State) → Q last → E last) →
+      (c : Option Term) (levels : Levels) (at : ℕ) (v : Value) {state : State} → Q state →
+      Stores change M (Leaves (λ v. Q) E) (constrained c levels at v) state
   unfolding constrained
-  constrained_stores {Q} {E} weaker c levels at v {state} h = told_stores {Q = λ v. Q} {E = E} _ _ _ (weaker state h) (λ u. at_end h)
+  constrained_stores {Q} {E} weaker c levels at v {state} h =
+      told_stores {Q = λ v. Q} {E = E} _ _ _ (weaker state h) (λ u. at_end h)
 
-  pub checked_stores : {Q E : State → Type 0} → ((last : State) → Q last → E last) → (c : Option Term) (levels : Levels) (at : ℕ) {state : State} → E state → {p : Plan (Result Value FaultAt)} →
-      Stores change M (Leaves (λ v. Q) (λ last. last ≡ state)) p state → Stores change M (Leaves (λ v. Q) E) (then_ok p (constrained c levels at)) state
+  pub checked_stores : {Q E : State → Type 0} → ((last : State) → Q last → E last) →
+      (c : Option Term) (levels : Levels) (at : ℕ) {state : State} → E state → {p : Plan (Result Value FaultAt)} →
+      Stores change M (Leaves (λ v. Q) (λ last. last ≡ state)) p state →
+      Stores change M (Leaves (λ v. Q) E) (then_ok p (constrained c levels at)) state
   checked_stores {Q} {E} weaker c levels at {state} e h =
-      ok_stores {P = λ v. Q} {Q = λ v. Q} {E = E} _ (λ v last q. constrained_stores weaker c levels at v q) (weaker_stores left h)
+      ok_stores {P = λ v. Q} {Q = λ v. Q} {E = E} _ (λ v last q. constrained_stores weaker c levels at v q)
+      (weaker_stores left h)
     where
-      left : (r : Result Value FaultAt) (last : State) → Leaves (λ v. Q) (λ last. last ≡ state) r last → Leaves (λ v. Q) E r last
+      left : (r : Result Value FaultAt) (last : State) → Leaves (λ v. Q) (λ last. last ≡ state) r last →
+          Leaves (λ v. Q) E r last
       left (Ok v) last q = q
       left (Err f) last same = subst E (sym same) e
 
   -- what is built in a frame of its own: after a fault all is as before
-  pub framed_stores : {A F : Type 0} {Q : A → State → Type 0} → ((last : State) → change Drops last ≡ record { now = innermost last.frames; frames = around last.frames }) → (outer : Levels) {p : Plan (Result A F)} {state : State} → M state → M (change Opens state) →
-      Stores change M (Leaves Q (λ last. last.frames ≡ state.now ∷ state.frames)) p (change Opens state) → Stores change M (Leaves Q (λ last. last ≡ state)) (framed outer p) state
+  pub framed_stores : {A F : Type 0} {Q : A → State → Type 0} →
+      ((last : State) → change Drops last ≡ record { now = innermost last.frames; frames = around last.frames }) →
+      (outer : Levels) {p : Plan (Result A F)} {state : State} → M state → M (change Opens state) →
+      Stores change M (Leaves Q (λ last. last.frames ≡ state.now ∷ state.frames)) p (change Opens state) →
+      Stores change M (Leaves Q (λ last. last ≡ state)) (framed outer p) state
   unfolding framed
-  framed_stores {A} {F} {Q} drops outer {p} {state} before opened h = at_made opened (then_stores {P = Leaves {F = F} Q (λ last. last.frames ≡ state.now ∷ state.frames)} (leave_frame outer) left h)
+  framed_stores {A} {F} {Q} drops outer {p} {state} before opened h = at_made opened
+      (then_stores {P = Leaves {F = F} Q (λ last. last.frames ≡ state.now ∷ state.frames)} (leave_frame outer) left h)
     where
-      left : (r : Result A F) (last : State) → Leaves Q (λ last. last.frames ≡ state.now ∷ state.frames) r last → Stores change M (Leaves Q (λ last. last ≡ state)) (leave_frame outer r) last
+      left : (r : Result A F) (last : State) → Leaves Q (λ last. last.frames ≡ state.now ∷ state.frames) r last →
+          Stores change M (Leaves Q (λ last. last ≡ state)) (leave_frame outer r) last
       left (Ok a) last h = at_end h
       left (Err e) last h =
-          let same : change Drops last ≡ state = drops last ∙ ap (λ frames. record { now = innermost frames; frames = around frames }) h in
+          let same : change Drops last ≡ state =
+          drops last ∙ ap (λ frames. record { now = innermost frames; frames = around frames }) h in
           at_made (subst M (sym same) before) (at_end same)
 
 -- ---- elements of an array
@@ -141,23 +179,27 @@ unpacked (Records widths) Closes state = refl
 unpacked (Records widths) move state = refl
 
 module _ {A : Type 0} {M : State → Type 0} {Q : A → State → Type 0} where
-  as_row_stores : (packing : Bool) (row : Row) {p : Plan A} {state : State} → Stores (element_moved packing row) M Q p state → Stores (moved packing) M Q (as_row row p) state
+  as_row_stores : (packing : Bool) (row : Row) {p : Plan A} {state : State} →
+      Stores (element_moved packing row) M Q p state → Stores (moved packing) M Q (as_row row p) state
   as_row_stores packing row (at_end h) = at_end h
   as_row_stores packing row (at_tick h) = at_tick (as_row_stores packing row h)
   as_row_stores packing row (at_made l h) = at_made l (as_row_stores packing row h)
   as_row_stores packing row (at_read h) = at_read (λ n. as_row_stores packing row (h n))
 
   -- the plan of an element
-  pub row_stores : (packing : Bool) (row : Row) {p : Plan A} {state : State} → Stores (element_moved packing row) M Q p state → Stores (moved packing) M Q (in_row row p) state
+  pub row_stores : (packing : Bool) (row : Row) {p : Plan A} {state : State} →
+      Stores (element_moved packing row) M Q p state → Stores (moved packing) M Q (in_row row p) state
   row_stores packing Apart h = h
   row_stores packing (Numbers width) h = as_row_stores packing (Numbers width) h
   row_stores packing (Records widths) h = as_row_stores packing (Records widths) h
 
   -- where nothing is packed, an element is stored as any value is
-  pub apart_stores : (row : Row) {p : Plan A} {state : State} → Stores (moved false) M Q p state → Stores (element_moved false row) M Q p state
+  pub apart_stores : (row : Row) {p : Plan A} {state : State} → Stores (moved false) M Q p state →
+      Stores (element_moved false row) M Q p state
   apart_stores row (at_end h) = at_end h
   apart_stores row (at_tick h) = at_tick (apart_stores row h)
   apart_stores row (at_made {move} {p} {state} l h) =
       let same = unpacked row move state in
-      at_made (subst M (sym same) l) (subst (λ now. Stores (element_moved false row) M Q p now) (sym same) (apart_stores row h))
+      at_made (subst M (sym same) l)
+      (subst (λ now. Stores (element_moved false row) M Q p now) (sym same) (apart_stores row h))
   apart_stores row (at_read h) = at_read (λ n. apart_stores row (h n))

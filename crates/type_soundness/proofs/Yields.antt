@@ -16,13 +16,15 @@ pub data Yields {A : Type 0} (Q : A → Type 0) : Plan A → Type 0 where
   yields : {a : A} → Q a → Yields Q (Ended a)
   on_tick : {p : Plan A} → Yields Q p → Yields Q (Tick p)
   on_made : {count : ℕ} {move : Move} {levels : Levels} {p : Plan A} → Yields Q p → Yields Q (Made count move levels p)
-  on_read : {place width : ℕ} {order : Order} {ps : ℕ → Plan A} → ((n : ℕ) → Yields Q (ps n)) → Yields Q (Read place width order ps)
+  on_read : {place width : ℕ} {order : Order} {ps : ℕ → Plan A} → ((n : ℕ) → Yields Q (ps n)) →
+      Yields Q (Read place width order ps)
 
 pub yields_on : {A : Type 0} {Q : A → Type 0} (bits : List ℕ) (p : Plan A) → Yields Q p → Q (result_of bits p)
 yields_on bits (Ended a) (yields h) = h
 yields_on bits (Tick p) (on_tick h) = yields_on bits p h
 yields_on bits (Made count move levels p) (on_made h) = yields_on bits p h
-yields_on bits (Read place width order rest) (on_read h) = let n = number_at bits order place width in yields_on bits (rest n) (h n)
+yields_on bits (Read place width order rest) (on_read h) =
+    let n = number_at bits order place width in yields_on bits (rest n) (h n)
 
 pub weaker : {A : Type 0} {P Q : A → Type 0} → ((a : A) → P a → Q a) → {p : Plan A} → Yields P p → Yields Q p
 weaker g (yields {a} h) = yields (g a h)
@@ -42,44 +44,54 @@ row_yields Apart h = h
 row_yields (Numbers width) h = as_row_yields (Numbers width) h
 row_yields (Records widths) h = as_row_yields (Records widths) h
 
-pub then_yields : {A B : Type 0} {P : A → Type 0} {Q : B → Type 0} (f : A → Plan B) → ((a : A) → P a → Yields Q (f a)) → {p : Plan A} → Yields P p → Yields Q (and_then p f)
+pub then_yields : {A B : Type 0} {P : A → Type 0} {Q : B → Type 0} (f : A → Plan B) → ((a : A) → P a → Yields Q (f a)) →
+    {p : Plan A} → Yields P p → Yields Q (and_then p f)
 then_yields f g (yields {a} h) = g a h
 then_yields f g (on_tick h) = on_tick (then_yields f g h)
 then_yields f g (on_made h) = on_made (then_yields f g h)
 then_yields f g (on_read h) = on_read (λ n. then_yields f g (h n))
 
-value_yields : {A B F : Type 0} {P : A → Type 0} {Q : B → Type 0} (f : A → Plan (Result B F)) → ((a : A) → P a → Yields (OfValue Q) (f a)) → (r : Result A F) → OfValue P r → Yields (OfValue Q) (on_value f r)
+value_yields : {A B F : Type 0} {P : A → Type 0} {Q : B → Type 0} (f : A → Plan (Result B F)) →
+    ((a : A) → P a → Yields (OfValue Q) (f a)) → (r : Result A F) → OfValue P r → Yields (OfValue Q) (on_value f r)
 value_yields f g (Ok a) h = g a h
 value_yields f g (Err e) h = yields tt
 
-pub ok_yields : {A B F : Type 0} {P : A → Type 0} {Q : B → Type 0} (f : A → Plan (Result B F)) → ((a : A) → P a → Yields (OfValue Q) (f a)) → {p : Plan (Result A F)} → Yields (OfValue P) p → Yields (OfValue Q) (then_ok p f)
+pub ok_yields : {A B F : Type 0} {P : A → Type 0} {Q : B → Type 0} (f : A → Plan (Result B F)) →
+    ((a : A) → P a → Yields (OfValue Q) (f a)) → {p : Plan (Result A F)} → Yields (OfValue P) p →
+    Yields (OfValue Q) (then_ok p f)
 unfolding then_ok
-ok_yields {F} {P} {Q} f g h = then_yields {P = OfValue {F = F} P} {Q = OfValue {F = F} Q} (on_value f) (value_yields {P = P} {Q = Q} f g) h
+ok_yields {F} {P} {Q} f g h =
+    then_yields {P = OfValue {F = F} P} {Q = OfValue {F = F} Q} (on_value f) (value_yields {P = P} {Q = Q} f g) h
 
 after_yields : {A : Type 0} {Q : A → Type 0} (n : ℕ) (a : A) → Q a → Yields Q (after n a)
 after_yields zero a h = yields h
 after_yields (suc n) a h = on_tick (after_yields n a h)
 
 -- a value that a function gives, after so many steps
-pub told_yields : {A B F : Type 0} {Q : B → Type 0} (n : ℕ) (r : Result A F) (f : A → Plan (Result B F)) → ((a : A) → Yields (OfValue Q) (f a)) → Yields (OfValue Q) (then_ok (after n r) f)
+pub told_yields : {A B F : Type 0} {Q : B → Type 0} (n : ℕ) (r : Result A F) (f : A → Plan (Result B F)) →
+    ((a : A) → Yields (OfValue Q) (f a)) → Yields (OfValue Q) (then_ok (after n r) f)
 told_yields {A} {B} {F} {Q} n r f g = ok_yields {P = λ a. Unit {0}} {Q = Q} f (λ a u. g a) (after_yields n r (any r))
   where
     any : (t : Result A F) → OfValue (λ a. Unit {0}) t
     any (Ok a) = tt
     any (Err e) = tt
 
-pub either : {A : Type 0} {Q : A → Type 0} {p q : Plan A} (t : Bool) → Yields Q p → Yields Q q → Yields Q (if t then p else q)
+pub either : {A : Type 0} {Q : A → Type 0} {p q : Plan A} (t : Bool) → Yields Q p → Yields Q q →
+    Yields Q (if t then p else q)
 either true h g = h
 either false h g = g
 
-pub inside_yields : {A : Type 0} {Q : A → Type 0} (m s : ℕ) {p : Plan (Result A FaultAt)} → Yields (OfValue Q) p → Yields (OfValue Q) (from_inside m s p)
+pub inside_yields : {A : Type 0} {Q : A → Type 0} (m s : ℕ) {p : Plan (Result A FaultAt)} → Yields (OfValue Q) p →
+    Yields (OfValue Q) (from_inside m s p)
 unfolding from_inside
 inside_yields m s h = either (nat_le s m) h (yields tt)
 
 -- what is built in a frame of its own
-pub framed_yields : {A F : Type 0} {Q : A → Type 0} (outer : Levels) {p : Plan (Result A F)} → Yields (OfValue Q) p → Yields (OfValue Q) (framed outer p)
+pub framed_yields : {A F : Type 0} {Q : A → Type 0} (outer : Levels) {p : Plan (Result A F)} → Yields (OfValue Q) p →
+    Yields (OfValue Q) (framed outer p)
 unfolding framed
-framed_yields {A} {F} {Q} outer h = on_made (then_yields {P = OfValue {F = F} Q} {Q = OfValue {F = F} Q} (leave_frame outer) left h)
+framed_yields {A} {F} {Q} outer h =
+    on_made (then_yields {P = OfValue {F = F} Q} {Q = OfValue {F = F} Q} (leave_frame outer) left h)
   where
     left : (r : Result A F) → OfValue Q r → Yields (OfValue Q) (leave_frame outer r)
     left (Ok a) h = yields h

@@ -52,8 +52,8 @@ row_bound TextsOf width count = 1
 row_bound BytesOf width count = bytes_for width * count
 
 -- Packed structs take one text, with the bytes of all, and the nodes and links of one struct, their template. While a
--- struct is mapped, each of its numbers takes a node and a place in a frame of its own. An array without elements takes a
--- family.
+-- struct is mapped, each of its numbers takes a node and a place in a frame of its own. An array without elements takes
+-- a family.
 abbrev pub records_bound : Vector → (widths : List ℕ) → (count : ℕ) → ℕ
 records_bound NodesOf widths count = 2 * length widths + 2
 records_bound FamiliesOf widths count = 1
@@ -62,8 +62,8 @@ records_bound PendingOf widths count = length widths + 1
 records_bound TextsOf widths count = 1
 records_bound BytesOf widths count = stride_of widths * count
 
--- an array of at most `count` elements: values that take `each`, packed numbers of a width, or packed structs of numbers
--- of such widths
+-- an array of at most `count` elements: values that take `each`, packed numbers of a width, or packed structs of
+-- numbers of such widths
 abbrev pub array_bound : Row → Vector → (count each : ℕ) → ℕ
 array_bound Apart vector count each = family_bound vector + count * (link_bound vector + each)
 array_bound (Numbers width) vector count each = row_bound vector width count
@@ -75,17 +75,19 @@ where_rows true row = row
 where_rows false row = Apart
 
 unfoldable mutual
-  -- what a mapping of a type on m bits takes of a vector at most, in a store that packs arrays of numbers and of structs
-  -- of numbers, or in one that doesn't
+  -- what a mapping of a type on m bits takes of a vector at most, in a store that packs arrays of numbers and of
+  -- structs of numbers, or in one that doesn't
   pub capacity_bound : (packs : Bool) → Vector → PokeType → (m : ℕ) → ℕ
   capacity_bound packs vector (IntegerOf type) m = number_bound vector
   capacity_bound packs vector (OffsetOf type unit) m = number_bound vector
   capacity_bound packs vector StringOf m = string_bound vector m
   capacity_bound packs vector (ArrayOf element bound) m =
-      array_bound (where_rows packs (row_of element)) vector (count_of m (least_width element)) (capacity_bound packs vector element m)
+      array_bound (where_rows packs (row_of element)) vector (count_of m (least_width element))
+      (capacity_bound packs vector element m)
   capacity_bound packs vector (StructOf name pinned fields) m = family_bound vector + fields_bound packs vector fields m
   capacity_bound packs vector (IntegralOf name type fields) m = family_bound vector + parts_bound packs vector fields m
-  capacity_bound packs vector (UnionOf name alternatives) m = family_bound vector + greatest_bound packs vector alternatives m
+  capacity_bound packs vector (UnionOf name alternatives) m =
+      family_bound vector + greatest_bound packs vector alternatives m
 
   pub fields_bound : (packs : Bool) → Vector → Fields → (m : ℕ) → ℕ
   fields_bound packs vector NoFields m = 0
@@ -102,8 +104,8 @@ unfoldable mutual
   greatest_bound packs vector (PartThen name order type constraint rest) m =
       max (link_bound vector + capacity_bound packs vector type m) (greatest_bound packs vector rest m)
 
--- how much of a vector a slot takes at most: up to 4 bytes, since a packed number of up to 64 bits has two slots, its own
--- and that of its link
+-- how much of a vector a slot takes at most: up to 4 bytes, since a packed number of up to 64 bits has two slots, its
+-- own and that of its link
 abbrev pub slot_takes : Vector → ℕ
 slot_takes NodesOf = 1
 slot_takes FamiliesOf = 1

@@ -20,9 +20,11 @@ use Rattle.type_soundness.specs.Capacity.{capacity_bound, slot_takes}
 
 -- where `map` returned `Memory`, some vector of the store had less capacity before than the type's bound
 abbrev pub MemoryLacksCapacity : Type 0
-MemoryLacksCapacity = (table : Table) (id : TypeId) (order : Order) (start : ℕ) (space : SpaceView) (meter meter' : Meter) (store store' : Held) (result : Result (Unit {0}) MapFault) →
+MemoryLacksCapacity = (table : Table) (id : TypeId) (order : Order) (start : ℕ) (space : SpaceView)
+    (meter meter' : Meter) (store store' : Held) (result : Result (Unit {0}) MapFault) →
     RunsNamed table id order start space meter meter' store store' result →
-    IfErr result (λ f. f.kind ≡ faults.Memory → (vector : Vector) × (of_vector vector store.capacity < capacity_bound (packs store.room) vector (type_named table id) (8 * space.len)))
+    IfErr result (λ f. f.kind ≡ faults.Memory → (vector : Vector) × (of_vector vector store.capacity
+    < capacity_bound (packs store.room) vector (type_named table id) (8 * space.len)))
 
 -- where `map` returned without a fault, each vector of the store has at most the type's bound
 abbrev pub StoresTakeBound : Type 0
@@ -30,18 +32,22 @@ StoresTakeBound = (table : Table) (id : TypeId) (order : Order) (start : ℕ) (s
     (store store' : Held) (result : Result (Unit {0}) MapFault) →
     RunsNamed table id order start space meter meter' store store' result →
     OnOk result ((vector : Vector) →
-    of_vector vector (marks_of store'.slots) ≤ capacity_bound (packs store.room) vector (type_named table id) (8 * space.len))
+    of_vector vector (marks_of store'.slots)
+    ≤ capacity_bound (packs store.room) vector (type_named table id) (8 * space.len))
 
 -- the bound of a type of a table is at most what `room` slots take
 abbrev pub BoundsAreSlots : Type 0
-BoundsAreSlots = (table : Table) (id : TypeId) (packs : Bool) (vector : Vector) (m : ℕ) → capacity_bound packs vector (type_named table id) m ≤ slot_takes vector * room (type_named table id) m
+BoundsAreSlots = (table : Table) (id : TypeId) (packs : Bool) (vector : Vector) (m : ℕ) →
+    capacity_bound packs vector (type_named table id) m ≤ slot_takes vector * room (type_named table id) m
 
 -- a value that a type means takes of each vector at most the type's bound, where nothing is packed
 abbrev pub ValuesTakeBound : Type 0
-ValuesTakeBound = (bits : List ℕ) (type : PokeType) (order : Order) (levels : Levels) (s : ℕ) (v : Value) (k j : ℕ) → Means bits type order levels s (Ok v) k j →
+ValuesTakeBound = (bits : List ℕ) (type : PokeType) (order : Order) (levels : Levels) (s : ℕ) (v : Value) (k j : ℕ) →
+    Means bits type order levels s (Ok v) k j →
     (vector : Vector) → value_takes false vector v ≤ capacity_bound false vector type (length bits)
 
 -- a value that a type means fills at most `room` slots of each kind
 abbrev pub ValuesFillRoom : Type 0
-ValuesFillRoom = (bits : List ℕ) (type : PokeType) (order : Order) (levels : Levels) (s : ℕ) (v : Value) (k j : ℕ) → Means bits type order levels s (Ok v) k j →
+ValuesFillRoom = (bits : List ℕ) (type : PokeType) (order : Order) (levels : Levels) (s : ℕ) (v : Value) (k j : ℕ) →
+    Means bits type order levels s (Ok v) k j →
     (kind : Slot) → value_slots kind v ≤ room type (length bits)

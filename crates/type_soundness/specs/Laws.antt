@@ -14,7 +14,8 @@ use Rattle.type_soundness.specs.Derivations.{Yields}
 
 -- the outcome that a derivation yields is the expression's, in the same steps
 abbrev pub DerivationsAreExact : Type 0
-DerivationsAreExact = (levels : Levels) (e : Term) (r : Result Operand MapFaultKind) (k : ℕ) → Yields levels e r k → ((evaluation e levels).outcome ≡ r) × ((evaluation e levels).steps ≡ k)
+DerivationsAreExact = (levels : Levels) (e : Term) (r : Result Operand MapFaultKind) (k : ℕ) → Yields levels e r k →
+    ((evaluation e levels).outcome ≡ r) × ((evaluation e levels).steps ≡ k)
 
 -- an evaluation that has a derivation, and has a value of a sort or a fault that an expression may have
 pub record IsSafe (levels : Levels) (e : Term) (s : Sort) (a : Evaluation) : Type 0 where
@@ -23,4 +24,6 @@ pub record IsSafe (levels : Levels) (e : Term) (s : Sort) (a : Evaluation) : Typ
 
 -- a well typed expression is safe over frames that hold what it sees
 abbrev pub ExpressionsAreSafe : Type 0
-ExpressionsAreSafe = (names : Names) (seen : List Visible) (count : ℕ) (tree : Tree) (e : Term) (s : Sort) (levels : Levels) → HasSort names seen count tree e s → LevelsFit seen count levels → IsSafe levels e s (evaluation e levels)
+ExpressionsAreSafe =
+    (names : Names) (seen : List Visible) (count : ℕ) (tree : Tree) (e : Term) (s : Sort) (levels : Levels) →
+    HasSort names seen count tree e s → LevelsFit seen count levels → IsSafe levels e s (evaluation e levels)

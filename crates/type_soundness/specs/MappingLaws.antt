@@ -26,11 +26,13 @@ use Rattle.type_soundness.specs.Yielded.{IsYielded, IsToldFault}
 
 -- a value that any type means is of the type
 abbrev pub ValuesAreOfTheirTypes : Type 0
-ValuesAreOfTheirTypes = (t : PokeType) (bits : List ℕ) (order : Order) (levels : Levels) (s : ℕ) (v : Value) (k j : ℕ) → Means bits t order levels s (Ok v) k j → IsOfType t v
+ValuesAreOfTheirTypes = (t : PokeType) (bits : List ℕ) (order : Order) (levels : Levels) (s : ℕ) (v : Value) (k j : ℕ) →
+    Means bits t order levels s (Ok v) k j → IsOfType t v
 
 -- a value that fits a type is of the type, whatever was read
 abbrev pub FittingValuesAreOfTheirTypes : Type 0
-FittingValuesAreOfTheirTypes = (t : PokeType) (m : ℕ) (levels : Levels) (s : ℕ) (v : Value) → Fits m t levels s v → IsOfType t v
+FittingValuesAreOfTheirTypes =
+    (t : PokeType) (m : ℕ) (levels : Levels) (s : ℕ) (v : Value) → Fits m t levels s v → IsOfType t v
 
 -- a type that a form of a well typed pickle means, where these fields are visible and so many frames are open
 pub record Stands (seen : List Visible) (count : ℕ) (t : PokeType) : Type 0 where
@@ -45,7 +47,8 @@ pub record Stands (seen : List Visible) (count : ℕ) (t : PokeType) : Type 0 wh
 -- the place that the rules give the name is that field's.
 pub record ScopeFits (scope : Scope) (seen : List Visible) (count : ℕ) (levels : Levels) : Type 0 where
   pub fit : LevelsFit seen count levels
-  pub named : (word : List ℕ) (v : Visible) → resolve word seen ≡ Some v → slice_get (level_at levels (count - 1 - v.level)) v.place ≡ field_named word scope
+  pub named : (word : List ℕ) (v : Visible) → resolve word seen ≡ Some v →
+      slice_get (level_at levels (count - 1 - v.level)) v.place ≡ field_named word scope
 
 -- the sorts that serve a purpose
 pub data Serves : Purpose → Sort → Type 0 where
@@ -70,13 +73,17 @@ pub record IsSafelyEvaluated (a : Evaluated) : Type 0 where
 
 -- each expression that a mapping of a type evaluates is safely evaluated
 abbrev pub MappingsAreSafe : Type 0
-MappingsAreSafe = (seen : List Visible) (count : ℕ) (t : PokeType) (bits : List ℕ) (order : Order) (scope : Scope) (levels : Levels) (s : ℕ) (a : Evaluated) →
-    (h : Stands seen count t) → ScopeFits scope seen count levels → Evaluates h.declarations bits h.form t order scope levels s a → IsSafelyEvaluated a
+MappingsAreSafe = (seen : List Visible) (count : ℕ) (t : PokeType) (bits : List ℕ) (order : Order) (scope : Scope)
+    (levels : Levels) (s : ℕ) (a : Evaluated) →
+    (h : Stands seen count t) → ScopeFits scope seen count levels →
+    Evaluates h.declarations bits h.form t order scope levels s a → IsSafelyEvaluated a
 
 -- the fault that a type means is given by no fallback
 abbrev pub FaultsAreYielded : Type 0
-FaultsAreYielded = (seen : List Visible) (count : ℕ) (t : PokeType) (bits : List ℕ) (order : Order) (scope : Scope) (levels : Levels) (s : ℕ) (f : FaultAt) (k j : ℕ) →
-    (h : Stands seen count t) → ScopeFits scope seen count levels → Means bits t order levels s (Err f) k j → IsYielded (Evaluates h.declarations bits h.form t order scope levels s) f
+FaultsAreYielded = (seen : List Visible) (count : ℕ) (t : PokeType) (bits : List ℕ) (order : Order) (scope : Scope)
+    (levels : Levels) (s : ℕ) (f : FaultAt) (k j : ℕ) →
+    (h : Stands seen count t) → ScopeFits scope seen count levels → Means bits t order levels s (Err f) k j →
+    IsYielded (Evaluates h.declarations bits h.form t order scope levels s) f
 
 -- a type that was found by its name in a table, which holds the types that the declarations of a pickle declare
 pub record IsFound (table : Table) (id : TypeId) : Type 0 where
@@ -87,6 +94,8 @@ pub record IsFound (table : Table) (id : TypeId) : Type 0 where
 
 -- the fault that `map` returns is given by no fallback
 abbrev pub FaultsOfMapAreYielded : Type 0
-FaultsOfMapAreYielded = (table : Table) (id : TypeId) (bits : List ℕ) (order : Order) (s limit : ℕ) (kind : MapFaultKind) (at k j : ℕ) →
+FaultsOfMapAreYielded =
+    (table : Table) (id : TypeId) (bits : List ℕ) (order : Order) (s limit : ℕ) (kind : MapFaultKind) (at k j : ℕ) →
     (h : IsFound table id) → FaultMeans bits (type_named table id) order s limit kind at k j →
-    IsToldFault (Evaluates h.declarations bits (Plain (Called h.word)) (type_named table id) order [] no_values s) kind at
+    IsToldFault (Evaluates h.declarations bits (Plain (Called h.word)) (type_named table id) order [] no_values s) kind
+    at

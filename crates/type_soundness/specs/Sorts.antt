@@ -22,10 +22,13 @@ unfoldable mutual
   IsOfType (OffsetOf type unit) v = (magnitude : ℤ) × (label_of v ≡ OffsetLabel magnitude type unit)
   IsOfType StringOf v = (bytes : List ℕ) × (label_of v ≡ TextLabel bytes)
   IsOfType (ArrayOf element bound) v = (label_of v ≡ ArrayLabel) × AllThere (IsOfType element) (members_of v)
-  IsOfType (StructOf name pinned fields) v = (label_of v ≡ StructLabel name (field_names fields)) × AreFields fields (members_of v)
-  IsOfType (IntegralOf name type fields) v = (label_of v ≡ StructLabel name (part_names fields)) × AreParts fields (members_of v)
+  IsOfType (StructOf name pinned fields) v =
+      (label_of v ≡ StructLabel name (field_names fields)) × AreFields fields (members_of v)
+  IsOfType (IntegralOf name type fields) v =
+      (label_of v ≡ StructLabel name (part_names fields)) × AreParts fields (members_of v)
   IsOfType (UnionOf name alternatives) v =
-      (index : ℕ) × (taken : Naming) × (label_of v ≡ UnionLabel name index taken) × IsAlternative alternatives 0 index taken (members_of v)
+      (index : ℕ) × (taken : Naming) × (label_of v ≡ UnionLabel name index taken)
+      × IsAlternative alternatives 0 index taken (members_of v)
 
   -- a member for each field of a struct, of the field's type or absent
   pub AreFields : Fields → Members → Type 0
@@ -49,7 +52,8 @@ unfoldable mutual
   pub IsAlternative : Parts → (at index : ℕ) → Naming → Members → Type 0
   IsAlternative NoParts at index taken ms = ⊥
   IsAlternative (PartThen name order type c rest) at index taken ms =
-      ((index ≡ at) × (taken ≡ name) × (v : Value) × (ms ≡ MemberThen v NoMembers) × IsOfType type v) ⊎ IsAlternative rest (at + 1) index taken ms
+      ((index ≡ at) × (taken ≡ name) × (v : Value) × (ms ≡ MemberThen v NoMembers) × IsOfType type v)
+      ⊎ IsAlternative rest (at + 1) index taken ms
 
 -- a computed integer or offset of a type
 abbrev pub IsNumberOf : PokeType → Label → Type 0

@@ -14,7 +14,8 @@ pub data IsYielded (Among : Evaluated → Type 0) : FaultAt → Type 0 where
   unmet : {place : ℕ} → IsYielded Among (fault.Constraint, place)
   out_of_bounds : {place : ℕ} → IsYielded Among (fault.Bounds, place)
   element_of_no_bits : {place : ℕ} → IsYielded Among (fault.NoBits, place)
-  of_expression : {kind : MapFaultKind} {steps : ℕ} (a : Evaluated) → Among a → Yields a.levels a.expression (Err kind) steps → IsYielded Among (kind, a.place)
+  of_expression : {kind : MapFaultKind} {steps : ℕ} (a : Evaluated) → Among a →
+      Yields a.levels a.expression (Err kind) steps → IsYielded Among (kind, a.place)
 
 -- a fault that ends a run isn't a fault of the type
 abbrev pub IsToldFault : (Evaluated → Type 0) → MapFaultKind → (place : ℕ) → Type 0

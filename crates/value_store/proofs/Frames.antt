@@ -17,4 +17,5 @@ reverse-pop-of (k ∷ ks) =
     ∙ reverse-reverse ks
 
 pub reverse-pop : (ks : List Marks) → reverse (take (length ks - 1) ks) ≡ around (reverse ks)
-reverse-pop ks = subst (λ xs. reverse (take (length xs - 1) xs) ≡ around (reverse ks)) (reverse-reverse ks) (reverse-pop-of (reverse ks))
+reverse-pop ks = subst (λ xs. reverse (take (length xs - 1) xs) ≡ around (reverse ks)) (reverse-reverse ks)
+    (reverse-pop-of (reverse ks))

@@ -15,8 +15,10 @@ elements_integers w g start (n ∷ ns) zero = refl
 elements_integers w g start (n ∷ ns) (suc i) = elements_integers w g (start + w) ns i
 
 -- those of a byte each
-pub elements_bytes : (w : ℕ) (g : Bool) (start : ℕ) (bs : List ℕ) → gathered (elements (Integers w g) start bs) ≡ byte_members (record { width = w; signed = g }) start bs
+pub elements_bytes : (w : ℕ) (g : Bool) (start : ℕ) (bs : List ℕ) →
+    gathered (elements (Integers w g) start bs) ≡ byte_members (record { width = w; signed = g }) start bs
 elements_bytes w g start [] = refl
 elements_bytes w g start (b ∷ bs) =
     let type : IntegerType = record { width = w; signed = g } in
-    ap (MemberThen (Mapped (IntegerLabel (with_sign type b) type) start (start + w) NoMembers)) (elements_bytes w g (start + w) bs)
+    ap (MemberThen (Mapped (IntegerLabel (with_sign type b) type) start (start + w) NoMembers))
+    (elements_bytes w g (start + w) bs)

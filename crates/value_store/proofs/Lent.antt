@@ -20,25 +20,29 @@ length-unpacked k zero bs = refl
 length-unpacked k (suc n) bs = ap suc (length-unpacked k n (drop k bs))
 
 -- a packed number is that of its bytes
-pub unpacked-at : (k n : ℕ) (bs : List ℕ) (i : ℕ) → i < n → slice_index (unpacked k n bs) i ≡ bytes_number (take k (drop (k * i) bs))
+pub unpacked-at : (k n : ℕ) (bs : List ℕ) (i : ℕ) → i < n →
+    slice_index (unpacked k n bs) i ≡ bytes_number (take k (drop (k * i) bs))
 unpacked-at k zero bs i p = omega arith
 unpacked-at k (suc n) bs zero p = let e : k * 0 ≡ 0 = omega arith in rw e refl
 unpacked-at k (suc n) bs (suc i) p =
     let e : k * suc i ≡ k + k * i = omega arith in
-    unpacked-at k n (drop k bs) i (omega arith) ∙ ap (λ xs. bytes_number (take k xs)) (drop-drop (k * i) k bs) ∙ ap (λ m. bytes_number (take k (drop m bs))) (sym e)
+    unpacked-at k n (drop k bs) i (omega arith) ∙ ap (λ xs. bytes_number (take k xs)) (drop-drop (k * i) k bs)
+    ∙ ap (λ m. bytes_number (take k (drop m bs))) (sym e)
 
 pub length-elements : (shape : Shape) (start : ℕ) (ns : List ℕ) → length (elements shape start ns) ≡ length ns
 length-elements shape start [] = refl
 length-elements shape start (n ∷ ns) = ap suc (length-elements shape (start + element_width shape) ns)
 
 pub elements-at : (shape : Shape) (start : ℕ) (ns : List ℕ) (i : ℕ) → i < length ns →
-    slice_get (elements shape start ns) i ≡ Some (Some (element_value shape (start + element_width shape * i) (slice_index ns i)))
+    slice_get (elements shape start ns) i
+    ≡ Some (Some (element_value shape (start + element_width shape * i) (slice_index ns i)))
 elements-at shape start [] i p = search rules
 elements-at shape start (n ∷ ns) zero p = let e : start + element_width shape * 0 ≡ start = omega arith in rw e refl
 elements-at shape start (n ∷ ns) (suc i) p =
     let w = element_width shape in
     let e : (start + w) + w * i ≡ start + w * suc i = omega arith in
-    elements-at shape (start + w) ns i (omega arith) ∙ ap (λ at. Some (Some (element_value shape at (slice_index ns i)))) e
+    elements-at shape (start + w) ns i (omega arith)
+    ∙ ap (λ at. Some (Some (element_value shape at (slice_index ns i)))) e
 
 -- n bytes make a number below 256 ^ n
 pub bytes_number-below : (bs : List ℕ) → ((i : ℕ) → slice_index_or bs i 0 < 256) → bytes_number bs < 2 ^ (8 * length bs)
@@ -57,9 +61,11 @@ last_bytes-below bs i p most h =
     let at = length bs - 1 - i in
     let next : at + 1 ≡ length bs - i = omega (arith, p) in
     let own : drop at bs ≡ slice_index_or bs at 0 ∷ drop (at + 1) bs = drop_more bs at 0 (omega (arith, p)) in
-    let below : bytes_number (drop at bs) < 2 ^ (8 * length (drop at bs)) = bytes_number-below (drop at bs) (λ k. subst (λ x. x < 256) (sym (get_or-drop at bs k 0)) (h (at + k))) in
+    let below : bytes_number (drop at bs) < 2 ^ (8 * length (drop at bs)) =
+    bytes_number-below (drop at bs) (λ k. subst (λ x. x < 256) (sym (get_or-drop at bs k 0)) (h (at + k))) in
     let wide : 2 ^ (8 * length (drop at bs)) ≤ 2 ^ 64 = pow_mono {j = 64} (omega (arith, length-drop at bs, most)) in
-    let is : bytes_number (drop at bs) ≡ slice_index_or bs at 0 + 256 * bytes_number (drop (length bs - i) bs) = ap bytes_number own ∙ ap (λ m. slice_index_or bs at 0 + 256 * bytes_number (drop m bs)) next in
+    let is : bytes_number (drop at bs) ≡ slice_index_or bs at 0 + 256 * bytes_number (drop (length bs - i) bs) =
+    ap bytes_number own ∙ ap (λ m. slice_index_or bs at 0 + 256 * bytes_number (drop m bs)) next in
     omega (arith, below, wide, is)
 
 pub length-numbers : (w : ℕ) (bs : List ℕ) → length (numbers_in w bs) ≡ length bs / bytes_for w
@@ -74,7 +80,9 @@ byte_numbers w bs some most =
   where
     unpacked-bytes : (bs : List ℕ) → unpacked 1 (length bs) bs ≡ bs
     unpacked-bytes [] = refl
-    unpacked-bytes (b ∷ bs) = let last : b + 256 * 0 ≡ b = omega arith in ap (λ n. n ∷ unpacked 1 (length bs) bs) last ∙ ap (λ ns. b ∷ ns) (unpacked-bytes bs)
+    unpacked-bytes (b ∷ bs) =
+        let last : b + 256 * 0 ≡ b = omega arith in
+        ap (λ n. n ∷ unpacked 1 (length bs) bs) last ∙ ap (λ ns. b ∷ ns) (unpacked-bytes bs)
 
 -- a whole row of k is less than n
 row_within : (n k i : ℕ) → i < n / k → i * k + k ≤ n
@@ -84,7 +92,8 @@ row_within n k i p =
     omega (arith, whole, less)
 
 -- the bytes of a number are there
-pub number_within : (w : ℕ) (bs : List ℕ) (i : ℕ) → i < length (numbers_in w bs) → i * bytes_for w + bytes_for w ≤ length bs
+pub number_within : (w : ℕ) (bs : List ℕ) (i : ℕ) → i < length (numbers_in w bs) →
+    i * bytes_for w + bytes_for w ≤ length bs
 number_within w bs i p = row_within (length bs) (bytes_for w) i (omega (arith, p, length-numbers w bs))
 
 pub number-at : (w : ℕ) (bs : List ℕ) (i : ℕ) → i < length (numbers_in w bs) →
@@ -94,9 +103,11 @@ number-at w bs i p =
     let below : i < length bs / k = omega (arith, p, length-numbers w bs) in
     let at : k * i ≡ i * k = omega arith in
     let size : k ≡ (i * k + k) - i * k = omega arith in
-    unpacked-at k (length bs / k) bs i below ∙ ap (λ m. bytes_number (take k (drop m bs))) at ∙ ap (λ m. bytes_number (take m (drop (i * k) bs))) size
+    unpacked-at k (length bs / k) bs i below
+    ∙ ap (λ m. bytes_number (take k (drop m bs))) at ∙ ap (λ m. bytes_number (take m (drop (i * k) bs))) size
 
-label_shape : (names : Names) (s : Slots) (shape : Shape) (c : ℕ) → label_in names s shape c ≡ shape_label names shape (number_of (label_in [] s shape c)) (bytes_of (label_in [] s shape c))
+label_shape : (names : Names) (s : Slots) (shape : Shape) (c : ℕ) → label_in names s shape c
+    ≡ shape_label names shape (number_of (label_in [] s shape c)) (bytes_of (label_in [] s shape c))
 label_shape names s (Integer w g) c = refl
 label_shape names s (Offset w g u) c = refl
 label_shape names s Text c = refl
@@ -128,20 +139,38 @@ shape_read s at n r = record {
 }
 
 -- an element is an integer or an offset of its row's type
-pub integer_shape : (s : Slots) (o : Option Node) (n : Node) (i w : ℕ) (g : Bool) → o ≡ Some n → n.shape ≡ Integers w g → IsContent s n.shape n.start n.content →
+pub integer_shape : (s : Slots) (o : Option Node) (n : Node) (i w : ℕ) (g : Bool) → o ≡ Some n →
+    n.shape ≡ Integers w g → IsContent s n.shape n.start n.content →
     IsShapeOf (Integer w g) (λ names. element_in s o i)
 integer_shape s o n i w g got is h =
     let type : IntegerType = record { width = w; signed = g } in
     let own : IsContent s (Integers w g) n.start n.content = subst (λ x. IsContent s x n.start n.content) is h in
-    let found : element_in s o i ≡ element_value (Integers w g) (n.start + w * i) (slice_index (row_numbers s w n.content) i) =
-    ap (λ x. element_in s x i) got ∙ ap (λ x. element_value x (n.start + element_width x * i) (slice_index (row_numbers s (element_width x) n.content) i)) is in
-    record { number = with_sign type (slice_index (row_numbers s w n.content) i); bytes = []; label = λ names. ap label_of found; width = (own.1.some, own.1.most) }
+    let found : element_in s o i
+    ≡ element_value (Integers w g) (n.start + w * i) (slice_index (row_numbers s w n.content) i) =
+    ap (λ x. element_in s x i) got
+    ∙ ap (λ x.
+    element_value x (n.start + element_width x * i) (slice_index (row_numbers s (element_width x) n.content) i)) is in
+    record {
+      number = with_sign type (slice_index (row_numbers s w n.content) i);
+      bytes = [];
+      label = λ names. ap label_of found;
+      width = (own.1.some, own.1.most);
+    }
 
-pub offset_shape : (s : Slots) (o : Option Node) (n : Node) (i w : ℕ) (g : Bool) (u : ℕ) → o ≡ Some n → n.shape ≡ Offsets w g u → IsContent s n.shape n.start n.content →
+pub offset_shape : (s : Slots) (o : Option Node) (n : Node) (i w : ℕ) (g : Bool) (u : ℕ) → o ≡ Some n →
+    n.shape ≡ Offsets w g u → IsContent s n.shape n.start n.content →
     IsShapeOf (Offset w g u) (λ names. element_in s o i)
 offset_shape s o n i w g u got is h =
     let type : IntegerType = record { width = w; signed = g } in
     let own : IsContent s (Offsets w g u) n.start n.content = subst (λ x. IsContent s x n.start n.content) is h in
-    let found : element_in s o i ≡ element_value (Offsets w g u) (n.start + w * i) (slice_index (row_numbers s w n.content) i) =
-    ap (λ x. element_in s x i) got ∙ ap (λ x. element_value x (n.start + element_width x * i) (slice_index (row_numbers s (element_width x) n.content) i)) is in
-    record { number = with_sign type (slice_index (row_numbers s w n.content) i); bytes = []; label = λ names. ap label_of found; width = (own.1.0.some, own.1.0.most, own.1.1) }
+    let found : element_in s o i
+    ≡ element_value (Offsets w g u) (n.start + w * i) (slice_index (row_numbers s w n.content) i) =
+    ap (λ x. element_in s x i) got
+    ∙ ap (λ x.
+    element_value x (n.start + element_width x * i) (slice_index (row_numbers s (element_width x) n.content) i)) is in
+    record {
+      number = with_sign type (slice_index (row_numbers s w n.content) i);
+      bytes = [];
+      label = λ names. ap label_of found;
+      width = (own.1.0.some, own.1.0.most, own.1.1);
+    }

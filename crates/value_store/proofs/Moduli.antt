@@ -22,16 +22,19 @@ modulo_negative width (negsuc n) h = let e : suc n - 1 ≡ n = omega arith in rw
 pub low_mask : (n k w : ℕ) → k < w → bit_and n (1 * 2 ^ k % 2 ^ w - 1) ≡ n % 2 ^ k
 low_mask n k w h = rw (one_shl k w h) (and_mask n k)
 
-no_sign : (b : Bool) (type : IntegerType) (n : ℕ) → type.signed ≡ b → n < 2 ^ (type.width - 1) → with_sign type n ≡ pos n
+no_sign : (b : Bool) (type : IntegerType) (n : ℕ) → type.signed ≡ b → n < 2 ^ (type.width - 1) →
+    with_sign type n ≡ pos n
 unfolding with_sign
 no_sign true type n e h = rw (e, lt-leb _ _ h) refl
 no_sign false type n e h = rw e refl
 
 -- a number in the lower half of a type's range stays itself
-pub lower_half : (type : IntegerType) (z : ℤ) → 1 ≤ type.width → pos 0 ≤ℤ z → z <ℤ pos (2 ^ (type.width - 1)) → converted type z ≡ z
+pub lower_half : (type : IntegerType) (z : ℤ) → 1 ≤ type.width → pos 0 ≤ℤ z → z <ℤ pos (2 ^ (type.width - 1)) →
+    converted type z ≡ z
 unfolding converted modulo
 lower_half type (pos n) some from below =
     let lt : n < 2 ^ (type.width - 1) = omega (arith, ints, below) in
-    let whole : n < 2 ^ type.width = let p : 2 ^ (type.width - 1) ≤ 2 ^ type.width = pow_mono {j = type.width} (omega arith) in omega (arith, lt, p) in
+    let whole : n < 2 ^ type.width =
+    let p : 2 ^ (type.width - 1) ≤ 2 ^ type.width = pow_mono {j = type.width} (omega arith) in omega (arith, lt, p) in
     rw (mod-eq_of_lt whole) (no_sign type.signed type n refl lt)
 lower_half type (negsuc n) some from below = absurd (omega (arith, ints, from))

@@ -6,7 +6,8 @@ use Rattle.value_store.specs.Columns.{AddsNumber, with_numbers}
 use Rattle.value_store.specs.Slots.{Slots, Held, with_leaf}
 
 -- a placed number is one more node
-pub adds-number : {A E : Type 0} (r : Result A E) (before after : Held) (shape : Shape) (start c : ℕ) → OnOk r (after.slots ≡ with_leaf shape start c before.slots) → OnOk r (AddsNumber before after shape start)
+pub adds-number : {A E : Type 0} (r : Result A E) (before after : Held) (shape : Shape) (start c : ℕ) →
+    OnOk r (after.slots ≡ with_leaf shape start c before.slots) → OnOk r (AddsNumber before after shape start)
 adds-number (Ok a) before after shape start c h = record { content = c; slots = h }
 adds-number (Err f) before after shape start c h = h
 

@@ -45,7 +45,8 @@ bytes_number-bytes (suc k) n h =
 
 pow-bytes : (k : ℕ) → 2 ^ (8 * k) ≡ 256 ^ k
 pow-bytes zero = refl
-pow-bytes (suc k) = ap (λ m. 2 ^ m) (mul-suc 8 k) ∙ pow-add 2 (8 * k) 8 ∙ ap (λ m. m * 256) (pow-bytes k) ∙ sym (pow-suc 256 k)
+pow-bytes (suc k) =
+    ap (λ m. 2 ^ m) (mul-suc 8 k) ∙ pow-add 2 (8 * k) 8 ∙ ap (λ m. m * 256) (pow-bytes k) ∙ sym (pow-suc 256 k)
 
 -- enough bytes for the bits
 pub bits-below : (width k n : ℕ) → width ≤ 8 * k → n < 2 ^ width → n < 256 ^ k
@@ -57,13 +58,21 @@ bits-below width k n h lt =
 
 pub length-packed : (k : ℕ) (ns : List ℕ) → length (packed k ns) ≡ k * length ns
 length-packed k [] = sym (mul-zero k)
-length-packed k (n ∷ ns) = omega (arith, length-append (number_bytes k n) (packed k ns), length-number_bytes k n, length-packed k ns, mul-suc k (length ns))
+length-packed k (n ∷ ns) = omega (
+  arith,
+  length-append (number_bytes k n) (packed k ns),
+  length-number_bytes k n,
+  length-packed k ns,
+  mul-suc k (length ns),
+)
 
 pub packed-push : (k n : ℕ) (ns : List ℕ) → packed k (ns ++ n ∷ []) ≡ packed k ns ++ number_bytes k n
 packed-push k n [] = append-nil (number_bytes k n)
-packed-push k n (m ∷ ns) = ap (λ bs. number_bytes k m ++ bs) (packed-push k n ns) ∙ sym (append_assoc (number_bytes k m) (packed k ns) (number_bytes k n))
+packed-push k n (m ∷ ns) = ap (λ bs. number_bytes k m ++ bs) (packed-push k n ns)
+    ∙ sym (append_assoc (number_bytes k m) (packed k ns) (number_bytes k n))
 
-unpacked-packed : (k width : ℕ) (ns : List ℕ) → width ≤ 8 * k → All (λ n. n < 2 ^ width) ns → unpacked k (length ns) (packed k ns) ≡ ns
+unpacked-packed : (k width : ℕ) (ns : List ℕ) → width ≤ 8 * k → All (λ n. n < 2 ^ width) ns →
+    unpacked k (length ns) (packed k ns) ≡ ns
 unpacked-packed k width [] h all = refl
 unpacked-packed k width (n ∷ ns) h all =
     let t = take_at (number_bytes k n) (packed k ns) k (length-number_bytes k n) in
@@ -83,14 +92,22 @@ pub bytes_for-most : (width : ℕ) → width ≤ 64 → bytes_for width ≤ 8
 bytes_for-most width h = omega arith
 
 -- packed numbers are read back
-pub numbers_in-packed : (width : ℕ) (ns : List ℕ) → 1 ≤ width → All (λ n. n < 2 ^ width) ns → numbers_in width (packed (bytes_for width) ns) ≡ ns
+pub numbers_in-packed : (width : ℕ) (ns : List ℕ) → 1 ≤ width → All (λ n. n < 2 ^ width) ns →
+    numbers_in width (packed (bytes_for width) ns) ≡ ns
 numbers_in-packed width ns some all =
     let k = bytes_for width in
-    let count : length (packed k ns) / k ≡ length ns = ap (λ (m : ℕ). m / k) (length-packed k ns) ∙ mul-div_cancel_left (length ns) (bytes_for-some width some) in
+    let count : length (packed k ns) / k ≡ length ns =
+    ap (λ (m : ℕ). m / k) (length-packed k ns) ∙ mul-div_cancel_left (length ns) (bytes_for-some width some) in
     ap (λ m. unpacked k m (packed k ns)) count ∙ unpacked-packed k width ns (bytes_for-enough width) all
 
 -- bytes of at least one number are at least one
 pub packed-none : (width : ℕ) (ns : List ℕ) → 1 ≤ width → packed (bytes_for width) ns ≡ [] → ns ≡ []
 packed-none width [] some e = refl
 packed-none width (n ∷ ns) some e =
-    absurd (omega (arith, ap length e, length-append (number_bytes (bytes_for width) n) (packed (bytes_for width) ns), length-number_bytes (bytes_for width) n, bytes_for-some width some))
+    absurd (omega (
+      arith,
+      ap length e,
+      length-append (number_bytes (bytes_for width) n) (packed (bytes_for width) ns),
+      length-number_bytes (bytes_for width) n,
+      bytes_for-some width some,
+    ))

@@ -42,7 +42,8 @@ number-links s Array c i h = absurd h
 number-links s (Struct t) c i h = absurd h
 number-links s (Union j t) c i h = absurd h
 
-number-tree : (names : Names) (s : Slots) (ts : List Value) (shape : Shape) (start c : ℕ) → IsNumber shape → tree_of names s ts (record { start = start; content = c; shape = shape }) ≡ number_value shape start c
+number-tree : (names : Names) (s : Slots) (ts : List Value) (shape : Shape) (start c : ℕ) → IsNumber shape →
+    tree_of names s ts (record { start = start; content = c; shape = shape }) ≡ number_value shape start c
 number-tree names s ts (Integer w g) start c h = refl
 number-tree names s ts (Offset w g u) start c h = refl
 number-tree names s ts Text start c h = absurd h
@@ -73,7 +74,8 @@ leaf_takes PendingOf = 0
 leaf_takes TextsOf = 0
 leaf_takes BytesOf = 0
 
-leaf-own : (vector : Vector) (label : Label) → families_taken label ≡ 0 → texts_taken label ≡ 0 → text_length label ≡ 0 → own_takes vector label NoMembers + 0 ≡ leaf_takes vector
+leaf-own : (vector : Vector) (label : Label) → families_taken label ≡ 0 → texts_taken label ≡ 0 →
+    text_length label ≡ 0 → own_takes vector label NoMembers + 0 ≡ leaf_takes vector
 leaf-own NodesOf label families texts bytes = refl
 leaf-own FamiliesOf label families texts bytes = omega (arith, families)
 leaf-own LinksOf label families texts bytes = refl
@@ -81,9 +83,12 @@ leaf-own PendingOf label families texts bytes = refl
 leaf-own TextsOf label families texts bytes = omega (arith, texts)
 leaf-own BytesOf label families texts bytes = omega (arith, bytes)
 
-number-takes : (vector : Vector) (shape : Shape) (start c : ℕ) → IsNumber shape → value_takes false vector (number_value shape start c) ≡ leaf_takes vector
-number-takes vector (Integer w g) start c h = leaf-own vector (IntegerLabel (number_in g c) (record { width = w; signed = g })) refl refl refl
-number-takes vector (Offset w g u) start c h = leaf-own vector (OffsetLabel (number_in g c) (record { width = w; signed = g }) u) refl refl refl
+number-takes : (vector : Vector) (shape : Shape) (start c : ℕ) → IsNumber shape →
+    value_takes false vector (number_value shape start c) ≡ leaf_takes vector
+number-takes vector (Integer w g) start c h =
+    leaf-own vector (IntegerLabel (number_in g c) (record { width = w; signed = g })) refl refl refl
+number-takes vector (Offset w g u) start c h =
+    leaf-own vector (OffsetLabel (number_in g c) (record { width = w; signed = g }) u) refl refl refl
 number-takes vector Text start c h = absurd h
 number-takes vector (Integers w g) start c h = absurd h
 number-takes vector (Offsets w g u) start c h = absurd h
@@ -92,8 +97,11 @@ number-takes vector Array start c h = absurd h
 number-takes vector (Struct t) start c h = absurd h
 number-takes vector (Union i t) start c h = absurd h
 
-leaf-marks : (vector : Vector) (shape : Shape) (start c : ℕ) (s : Slots) → of_vector vector (marks_of (with_leaf shape start c s)) ≡ of_vector vector (marks_of s) + (place_takes vector + leaf_takes vector)
-leaf-marks NodesOf shape start c s = let n : Node = record { start = start; content = c; shape = shape } in length_push s.nodes n
+leaf-marks : (vector : Vector) (shape : Shape) (start c : ℕ) (s : Slots) →
+    of_vector vector (marks_of (with_leaf shape start c s))
+    ≡ of_vector vector (marks_of s) + (place_takes vector + leaf_takes vector)
+leaf-marks NodesOf shape start c s =
+    let n : Node = record { start = start; content = c; shape = shape } in length_push s.nodes n
 leaf-marks FamiliesOf shape start c s = omega arith
 leaf-marks LinksOf shape start c s = omega arith
 leaf-marks PendingOf shape start c s = length_push s.pending (Some (length s.nodes))
@@ -101,15 +109,20 @@ leaf-marks TextsOf shape start c s = omega arith
 leaf-marks BytesOf shape start c s = omega arith
 
 -- a node after all pending ones
-pub pending-last : (s : Slots) → s.pending ++ Some (length s.nodes) ∷ [] ≡ take (length s.pending) s.pending ++ Some (length s.nodes) ∷ []
+pub pending-last : (s : Slots) →
+    s.pending ++ Some (length s.nodes) ∷ [] ≡ take (length s.pending) s.pending ++ Some (length s.nodes) ∷ []
 pending-last s = ap (λ ps. ps ++ Some (length s.nodes) ∷ []) (sym (take_all (length s.pending) s.pending (omega arith)))
 
-pub stack-last : (names : Names) (s u : Slots) (n : Node) → IsSound s → NewNode s u n → u.pending ≡ s.pending ++ Some (length s.nodes) ∷ [] → stack names u ≡ stack names s ++ Some (tree_of names u (trees names s) n) ∷ []
+pub stack-last : (names : Names) (s u : Slots) (n : Node) → IsSound s → NewNode s u n →
+    u.pending ≡ s.pending ++ Some (length s.nodes) ∷ [] →
+    stack names u ≡ stack names s ++ Some (tree_of names u (trees names s) n) ∷ []
 stack-last names s u n h g e =
     stack-new names s u n (length s.pending) h g (e ∙ pending-last s)
-    ∙ ap (λ os. os ++ Some (tree_of names u (trees names s) n) ∷ []) (take_all (length s.pending) (stack names s) (omega (arith, length-stack names s)))
+    ∙ ap (λ os. os ++ Some (tree_of names u (trees names s) n) ∷ [])
+    (take_all (length s.pending) (stack names s) (omega (arith, length-stack names s)))
 
-pub leaf-new : (shape : Shape) (start c : ℕ) (s : Slots) → IsNumber shape → NewNode s (with_leaf shape start c s) (record { start = start; content = c; shape = shape })
+pub leaf-new : (shape : Shape) (start c : ℕ) (s : Slots) → IsNumber shape →
+    NewNode s (with_leaf shape start c s) (record { start = start; content = c; shape = shape })
 leaf-new shape start c s number = record {
   grows = record {
     more_nodes = record { start = start; content = c; shape = shape } ∷ [];
@@ -140,11 +153,19 @@ leaf-rest shape start c s =
     let pending = take_at s.pending (Some (length s.nodes) ∷ []) (length s.pending) refl in
     let texts = take_all (length s.texts) s.texts (omega arith) in
     let bytes = take_all (length s.bytes) s.bytes (omega arith) in
-    let eta : record { nodes = s.nodes; families = s.families; links = s.links; pending = s.pending; texts = s.texts; bytes = s.bytes } ≡ s = refl in
+    let eta : record {
+      nodes = s.nodes;
+      families = s.families;
+      links = s.links;
+      pending = s.pending;
+      texts = s.texts;
+      bytes = s.bytes;
+    } ≡ s = refl in
     cc
 
 -- a number adds its value
-pub number-adds : (room : Room) (shape : Shape) (start c : ℕ) (s : Slots) → IsNumber shape → IsSound s → Adds room s (with_leaf shape start c s) (λ names. Some (number_value shape start c) ∷ [])
+pub number-adds : (room : Room) (shape : Shape) (start c : ℕ) (s : Slots) → IsNumber shape → IsSound s →
+    Adds room s (with_leaf shape start c s) (λ names. Some (number_value shape start c) ∷ [])
 number-adds room shape start c s number sound =
     let u = with_leaf shape start c s in
     let n : Node = record { start = start; content = c; shape = shape } in
@@ -157,14 +178,17 @@ number-adds room shape start c s number sound =
         bytes = sound.bytes;
       };
       rest = leaf-rest shape start c s;
-      stack = λ names. stack-last names s u n sound new refl ∙ ap (λ t. stack names s ++ Some t ∷ []) (number-tree names u (trees names s) shape start c number);
-      takes = λ none names vector. omega (arith, leaf-marks vector shape start c s, number-takes vector shape start c number);
+      stack = λ names. stack-last names s u n sound new refl
+          ∙ ap (λ t. stack names s ++ Some t ∷ []) (number-tree names u (trees names s) shape start c number);
+      takes = λ none names vector.
+          omega (arith, leaf-marks vector shape start c s, number-takes vector shape start c number);
       bare = λ e. absurd (omega (arith, e, length_push s.nodes n));
     }
 
 -- arrays, structs and unions
 
-family-content : (s : Slots) (shape : Shape) (start c : ℕ) → IsComposite shape → IsFamily s c → IsContent s shape start c
+family-content : (s : Slots) (shape : Shape) (start c : ℕ) → IsComposite shape → IsFamily s c →
+    IsContent s shape start c
 family-content s (Integer w g) start c h f = absurd h
 family-content s (Offset w g u) start c h f = absurd h
 family-content s Text start c h f = absurd h
@@ -175,7 +199,8 @@ family-content s Array start c h f = f
 family-content s (Struct t) start c h f = f
 family-content s (Union i t) start c h f = f
 
-pub family-links : (s : Slots) (shape : Shape) (c : ℕ) → IsComposite shape → links_of s shape c ≡ family_links s.families s.links c
+pub family-links : (s : Slots) (shape : Shape) (c : ℕ) → IsComposite shape →
+    links_of s shape c ≡ family_links s.families s.links c
 family-links s (Integer w g) c h = absurd h
 family-links s (Offset w g u) c h = absurd h
 family-links s Text c h = absurd h
@@ -197,7 +222,9 @@ family-template s i Array start c h = tt
 family-template s i (Struct t) start c h = tt
 family-template s i (Union j t) start c h = tt
 
-family-tree : (names : Names) (s : Slots) (ts : List Value) (shape : Shape) (start c : ℕ) → IsComposite shape → tree_of names s ts (record { start = start; content = c; shape = shape }) ≡ Mapped (composite_label names shape) start (start + (family_at s.families c).size) (gathered (map (opened ts) (family_links s.families s.links c)))
+family-tree : (names : Names) (s : Slots) (ts : List Value) (shape : Shape) (start c : ℕ) → IsComposite shape →
+    tree_of names s ts (record { start = start; content = c; shape = shape }) ≡ Mapped (composite_label names shape)
+    start (start + (family_at s.families c).size) (gathered (map (opened ts) (family_links s.families s.links c)))
 family-tree names s ts (Integer w g) start c h = absurd h
 family-tree names s ts (Offset w g u) start c h = absurd h
 family-tree names s ts Text start c h = absurd h
@@ -209,7 +236,8 @@ family-tree names s ts (Struct t) start c h = refl
 family-tree names s ts (Union i t) start c h = refl
 
 -- the label of an array, a struct or a union is one of a family
-family-label : (names : Names) (shape : Shape) → (families_taken (composite_label names shape) ≡ 1) × ((texts_taken (composite_label names shape) ≡ 0) × (text_length (composite_label names shape) ≡ 0))
+family-label : (names : Names) (shape : Shape) → (families_taken (composite_label names shape) ≡ 1)
+    × ((texts_taken (composite_label names shape) ≡ 0) × (text_length (composite_label names shape) ≡ 0))
 family-label names (Integer w g) = (refl, (refl, refl))
 family-label names (Offset w g u) = (refl, (refl, refl))
 family-label names Text = (refl, (refl, refl))
@@ -221,10 +249,13 @@ family-label names (Struct t) = (refl, (refl, refl))
 family-label names (Union i t) = (refl, (refl, refl))
 
 -- a family takes what its members did, and also a node, the family and a link for each member
-family-marks : (vector : Vector) (names : Names) (shape : Shape) (start size : ℕ) (k : Marks) (s : Slots) (os : List (Option Value)) → k.pending ≤ length s.pending →
-    length os ≡ length s.pending - k.pending → of_vector vector (marks_of s) ≡ of_vector vector k + level_takes false vector os →
+family-marks : (vector : Vector) (names : Names) (shape : Shape) (start size : ℕ) (k : Marks) (s : Slots)
+    (os : List (Option Value)) → k.pending ≤ length s.pending →
+    length os ≡ length s.pending - k.pending →
+    of_vector vector (marks_of s) ≡ of_vector vector k + level_takes false vector os →
     of_vector vector (marks_of (with_family shape start size k.pending s)) ≡
-    of_vector vector k + (place_takes vector + (own_takes vector (composite_label names shape) (gathered os) + members_take false vector (gathered os)))
+    of_vector vector k + (place_takes vector
+    + (own_takes vector (composite_label names shape) (gathered os) + members_take false vector (gathered os)))
 family-marks NodesOf names shape start size k s os within count e =
     let n : Node = record { start = start; content = length s.families; shape = shape } in
     omega (arith, e, length_push s.nodes n, members_take-of false NodesOf os refl)
@@ -232,28 +263,53 @@ family-marks FamiliesOf names shape start size k s os within count e =
     let f : Family = record { end = length s.links + (length s.pending - k.pending); size = size } in
     omega (arith, e, length_push s.families f, members_take-of false FamiliesOf os refl, (family-label names shape).0)
 family-marks LinksOf names shape start size k s os within count e =
-    omega (arith, e, count, length-append s.links (drop k.pending s.pending), length-drop k.pending s.pending, members_take-of false LinksOf os refl, member_count-of os)
+    omega (
+      arith,
+      e,
+      count,
+      length-append s.links (drop k.pending s.pending),
+      length-drop k.pending s.pending,
+      members_take-of false LinksOf os refl,
+      member_count-of os,
+    )
 family-marks PendingOf names shape start size k s os within count e =
-    omega (arith, within, length_push (take k.pending s.pending) (Some (length s.nodes)), length-take k.pending s.pending, members_pending false (gathered os))
-family-marks TextsOf names shape start size k s os within count e = omega (arith, e, members_take-of false TextsOf os refl, (family-label names shape).1.0)
-family-marks BytesOf names shape start size k s os within count e = omega (arith, e, members_take-of false BytesOf os refl, (family-label names shape).1.1)
+    omega (
+      arith,
+      within,
+      length_push (take k.pending s.pending) (Some (length s.nodes)),
+      length-take k.pending s.pending,
+      members_pending false (gathered os),
+    )
+family-marks TextsOf names shape start size k s os within count e =
+    omega (arith, e, members_take-of false TextsOf os refl, (family-label names shape).1.0)
+family-marks BytesOf names shape start size k s os within count e =
+    omega (arith, e, members_take-of false BytesOf os refl, (family-label names shape).1.1)
 
-module _ (shape : Shape) (start size mark : ℕ) (s : Slots) (composite : IsComposite shape) (sound : IsSound s) (within : mark ≤ length s.pending) where
+module _ (shape : Shape) (start size mark : ℕ) (s : Slots) (composite : IsComposite shape) (sound : IsSound s)
+    (within : mark ≤ length s.pending) where
   new_family : Family
   new_family = record { end = length s.links + (length s.pending - mark); size = size }
 
-  pub family-end : family_at (with_family shape start size mark s).families (length s.families) ≡ record { end = length s.links + (length s.pending - mark); size = size }
-  family-end = get_or-append_seam s.families (record { end = length s.links + (length s.pending - mark); size = size }) [] _
+  pub family-end : family_at (with_family shape start size mark s).families (length s.families)
+      ≡ record { end = length s.links + (length s.pending - mark); size = size }
+  family-end =
+      get_or-append_seam s.families (record { end = length s.links + (length s.pending - mark); size = size }) [] _
 
   family-first : first_link (with_family shape start size mark s).families (length s.families) ≡ length s.links
-  family-first = first_link-grow s.families (record { end = length s.links + (length s.pending - mark); size = size } ∷ []) (length s.families) (omega arith) ∙ sound.links
+  family-first = first_link-grow s.families
+      (record { end = length s.links + (length s.pending - mark); size = size } ∷ []) (length s.families) (omega arith)
+      ∙ sound.links
 
-  pub family-row : family_links (with_family shape start size mark s).families (with_family shape start size mark s).links (length s.families) ≡ drop mark s.pending
+  pub family-row : family_links (with_family shape start size mark s).families
+      (with_family shape start size mark s).links (length s.families) ≡ drop mark s.pending
   family-row =
-      let count : (length s.links + (length s.pending - mark)) - length s.links ≡ length s.pending - mark = omega arith in
-      rw (family-first, family-end, count) (part-all (length s.pending - mark) s.links (drop mark s.pending) (length-drop mark s.pending))
+      let count : (length s.links + (length s.pending - mark)) - length s.links ≡ length s.pending - mark =
+      omega arith in
+      rw (family-first, family-end, count)
+      (part-all (length s.pending - mark) s.links (drop mark s.pending) (length-drop mark s.pending))
 
-  pub family-new : NewNode s (with_family shape start size mark s) (record { start = start; content = length s.families; shape = shape })
+  pub family-new : NewNode s (with_family shape start size mark s)
+      (record { start = start; content = length s.families; shape = shape })
   family-new =
       let u = with_family shape start size mark s in
       record {
@@ -272,13 +328,22 @@ module _ (shape : Shape) (start size mark : ℕ) (s : Slots) (composite : IsComp
         nodes = refl;
         is = record {
           content = family-content u shape start (length s.families) composite (
-            omega (arith, length_push s.families (record { end = length s.links + (length s.pending - mark); size = size })),
+            omega (
+              arith,
+              length_push s.families (record { end = length s.links + (length s.pending - mark); size = size }),
+            ),
             record {
               ordered = omega (arith, family-first, ap (λ (f : Family). f.end) family-end);
-              within = omega (arith, ap (λ (f : Family). f.end) family-end, length-append s.links (drop mark s.pending), length-drop mark s.pending);
+              within = omega (
+                arith,
+                ap (λ (f : Family). f.end) family-end,
+                length-append s.links (drop mark s.pending),
+                length-drop mark s.pending,
+              );
             },
           );
-          below = rw (family-links u shape (length s.families) composite, family-row) (LinksBelow-drop (length s.nodes) mark s.pending sound.pending);
+          below = rw (family-links u shape (length s.families) composite, family-row)
+              (LinksBelow-drop (length s.nodes) mark s.pending sound.pending);
           template = family-template u (length s.nodes) shape start (length s.families) composite;
         };
       }
@@ -291,30 +356,40 @@ module _ (shape : Shape) (start size mark : ℕ) (s : Slots) (composite : IsComp
       record {
         nodes = nodes-new s u n sound family-new;
         pending = pending-new s u n mark sound family-new refl;
-        links = ap (first_link u.families) (length_push s.families f ∙ add-one (length s.families)) ∙ ap (λ (g : Family). g.end) family-end ∙ omega (arith, length-append s.links (drop mark s.pending), length-drop mark s.pending);
+        links = ap (first_link u.families) (length_push s.families f ∙ add-one (length s.families))
+            ∙ ap (λ (g : Family). g.end) family-end
+            ∙ omega (arith, length-append s.links (drop mark s.pending), length-drop mark s.pending);
         bytes = sound.bytes;
       }
 
-  pub family-value : (names : Names) → tree_of names (with_family shape start size mark s) (trees names s) (record { start = start; content = length s.families; shape = shape }) ≡
+  pub family-value : (names : Names) →
+      tree_of names (with_family shape start size mark s) (trees names s)
+      (record { start = start; content = length s.families; shape = shape }) ≡
       Mapped (composite_label names shape) start (start + size) (gathered (drop mark (stack names s)))
   unfolding stack
   family-value names =
       let u = with_family shape start size mark s in
       let ts = trees names s in
       family-tree names u ts shape start (length s.families) composite
-      ∙ ap (λ (f : Family). Mapped (composite_label names shape) start (start + f.size) (gathered (map (opened ts) (family_links u.families u.links (length s.families))))) family-end
+      ∙ ap (λ (f : Family). Mapped (composite_label names shape) start
+      (start + f.size) (gathered (map (opened ts) (family_links u.families u.links (length s.families))))) family-end
       ∙ ap (λ ls. Mapped (composite_label names shape) start (start + size) (gathered (map (opened ts) ls))) family-row
-      ∙ ap (λ os. Mapped (composite_label names shape) start (start + size) (gathered os)) (sym (drop-map (opened ts) mark s.pending))
+      ∙ ap (λ os. Mapped (composite_label names shape) start (start + size) (gathered os))
+      (sym (drop-map (opened ts) mark s.pending))
 
-  family-stack : (names : Names) → stack names (with_family shape start size mark s) ≡ take mark (stack names s) ++ Some (Mapped (composite_label names shape) start (start + size) (gathered (drop mark (stack names s)))) ∷ []
+  family-stack : (names : Names) → stack names (with_family shape start size mark s) ≡ take mark (stack names s)
+      ++ Some (Mapped (composite_label names shape) start (start + size) (gathered (drop mark (stack names s)))) ∷ []
   family-stack names =
       let u = with_family shape start size mark s in
       let n : Node = record { start = start; content = length s.families; shape = shape } in
-      stack-new names s u n mark sound family-new refl ∙ ap (λ t. take mark (stack names s) ++ Some t ∷ []) (family-value names)
+      stack-new names s u n mark sound family-new refl
+      ∙ ap (λ t. take mark (stack names s) ++ Some t ∷ []) (family-value names)
 
 -- the parts of an open value become one value, which takes their place
-pub family-adds : (room : Room) (shape : Shape) (start size : ℕ) (k : Marks) (s : Slots) → IsComposite shape → IsSound s → IsLevel room k s → IsSound (cut_to k s) →
-    Adds room (cut_to k s) (with_family shape start size k.pending s) (λ names. Some (Mapped (composite_label names shape) start (start + size) (gathered (level_of names k s))) ∷ [])
+pub family-adds : (room : Room) (shape : Shape) (start size : ℕ) (k : Marks) (s : Slots) → IsComposite shape →
+    IsSound s → IsLevel room k s → IsSound (cut_to k s) →
+    Adds room (cut_to k s) (with_family shape start size k.pending s)
+    (λ names. Some (Mapped (composite_label names shape) start (start + size) (gathered (level_of names k s))) ∷ [])
 family-adds room shape start size k s composite sound is below =
     let u = with_family shape start size k.pending s in
     let n : Node = record { start = start; content = length s.families; shape = shape } in
@@ -324,18 +399,29 @@ family-adds room shape start size k s composite sound is below =
     let nodes = take-append-le k.nodes s.nodes (n ∷ []) w.nodes in
     let families = take-append-le k.families s.families (f ∷ []) w.families in
     let links = take-append-le k.links s.links (drop k.pending s.pending) w.links in
-    let pending = take_at (take k.pending s.pending) (Some (length s.nodes) ∷ []) k.pending (omega (arith, w.pending, length-take k.pending s.pending)) in
+    let pending = take_at (take k.pending s.pending) (Some (length s.nodes) ∷ []) k.pending
+    (omega (arith, w.pending, length-take k.pending s.pending)) in
     let left : cut_to k u ≡ cut_to k s = cc in
     record {
       sound = family-sound shape start size k.pending s composite sound w.pending;
       rest = ap (λ (j : Marks). cut_to j u) m ∙ left;
-      stack = λ names. family-stack shape start size k.pending s composite sound w.pending names ∙ ap (λ os. os ++ Some (Mapped (composite_label names shape) start (start + size) (gathered (level_of names k s))) ∷ []) (sym (stack-cut names k s below));
+      stack = λ names. family-stack shape start size k.pending s composite sound w.pending names
+          ∙ ap (λ os.
+          os ++ Some (Mapped (composite_label names shape) start (start + size) (gathered (level_of names k s))) ∷ [])
+          (sym (stack-cut names k s below));
       takes = λ none names vector.
           let os = level_of names k s in
           let label = composite_label names shape in
-          let count : length os ≡ length s.pending - k.pending = omega (arith, length-drop k.pending (stack names s), length-stack names s) in
-          let kept = kept-members (packed_width false label (gathered os)) vector label (gathered os) (members_take false vector (gathered os)) (not_packed label (gathered os)) in
-          omega (arith, family-marks vector names shape start size k s os w.pending count (is.takes none names vector), ap (of_vector vector) m, kept);
+          let count : length os ≡ length s.pending - k.pending =
+          omega (arith, length-drop k.pending (stack names s), length-stack names s) in
+          let kept = kept-members (packed_width false label (gathered os)) vector label (gathered os)
+          (members_take false vector (gathered os)) (not_packed label (gathered os)) in
+          omega (
+            arith,
+            family-marks vector names shape start size k s os w.pending count (is.takes none names vector),
+            ap (of_vector vector) m,
+            kept,
+          );
       bare = λ e. absurd (omega (arith, e, length_push s.nodes n, length-take k.nodes s.nodes));
     }
 
@@ -362,16 +448,25 @@ absent-rest s =
     let pending = take_at s.pending (None ∷ []) (length s.pending) refl in
     let texts = take_all (length s.texts) s.texts (omega arith) in
     let bytes = take_all (length s.bytes) s.bytes (omega arith) in
-    let eta : record { nodes = s.nodes; families = s.families; links = s.links; pending = s.pending; texts = s.texts; bytes = s.bytes } ≡ s = refl in
+    let eta : record {
+      nodes = s.nodes;
+      families = s.families;
+      links = s.links;
+      pending = s.pending;
+      texts = s.texts;
+      bytes = s.bytes;
+    } ≡ s = refl in
     cc
 
 absent-stack : (names : Names) (s : Slots) → IsSound s → stack names (with_absent s) ≡ stack names s ++ None ∷ []
 unfolding stack trees
 absent-stack names s sound =
-    let e : trees_from names (with_absent s) [] s.nodes ≡ trees_from names s [] s.nodes = trees_from-grow names s (with_absent s) [] 0 s.nodes (absent-same s) sound.nodes in
+    let e : trees_from names (with_absent s) [] s.nodes ≡ trees_from names s [] s.nodes =
+    trees_from-grow names s (with_absent s) [] 0 s.nodes (absent-same s) sound.nodes in
     ap (λ ts. map (opened ts) (s.pending ++ None ∷ [])) e ∙ map-append (opened (trees names s)) s.pending (None ∷ [])
 
-absent-marks : (vector : Vector) (s : Slots) → of_vector vector (marks_of (with_absent s)) ≡ of_vector vector (marks_of s) + place_takes vector
+absent-marks : (vector : Vector) (s : Slots) →
+    of_vector vector (marks_of (with_absent s)) ≡ of_vector vector (marks_of s) + place_takes vector
 absent-marks NodesOf s = omega arith
 absent-marks FamiliesOf s = omega arith
 absent-marks LinksOf s = omega arith

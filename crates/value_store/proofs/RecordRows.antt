@@ -36,9 +36,11 @@ second start = Mapped (IntegerLabel (negsuc 1) (record { width = 16; signed = tr
 
 array : value_at [] slots 3 ≡ Mapped ArrayLabel 0 48 (
     MemberThen (Mapped (StructLabel None []) 0 24 (
-    MemberThen (first 0) (MemberThen (Mapped (IntegerLabel (pos 513) (record { width = 16; signed = true })) 8 24 NoMembers) NoMembers)))
+    MemberThen (first 0)
+    (MemberThen (Mapped (IntegerLabel (pos 513) (record { width = 16; signed = true })) 8 24 NoMembers) NoMembers)))
     (MemberThen (Mapped (StructLabel None []) 24 48 (
-    MemberThen (Mapped (IntegerLabel (pos 9) (record { width = 8; signed = false })) 24 32 NoMembers) (MemberThen (second 32) NoMembers))) NoMembers))
+    MemberThen (Mapped (IntegerLabel (pos 9) (record { width = 8; signed = false })) 24 32 NoMembers)
+    (MemberThen (second 32) NoMembers))) NoMembers))
 unfolding value_at trees with_sign
 array = refl
 
@@ -76,19 +78,24 @@ deep = record {
 }
 
 abbrev number : (width start n : ℕ) → Value
-number width start n = Mapped (IntegerLabel (pos n) (record { width = width; signed = false })) start (start + width) NoMembers
+number width start n =
+    Mapped (IntegerLabel (pos n) (record { width = width; signed = false })) start (start + width) NoMembers
 
 abbrev halves : (start a b : ℕ) → Value
-halves start a b = Mapped (StructLabel None []) start (start + 8) (MemberThen (number 4 start a) (MemberThen (number 4 (start + 4) b) NoMembers))
+halves start a b = Mapped (StructLabel None []) start
+    (start + 8) (MemberThen (number 4 start a) (MemberThen (number 4 (start + 4) b) NoMembers))
 
 abbrev pair : (start a b : ℕ) → Value
-pair start a b = Mapped ArrayLabel start (start + 16) (MemberThen (number 8 start a) (MemberThen (number 8 (start + 8) b) NoMembers))
+pair start a b =
+    Mapped ArrayLabel start (start + 16) (MemberThen (number 8 start a) (MemberThen (number 8 (start + 8) b) NoMembers))
 
 abbrev whole : (start a b c d e : ℕ) → Value
 whole start a b c d e =
-    Mapped (StructLabel None []) start (start + 32) (MemberThen (number 8 start a) (MemberThen (halves (start + 8) b c) (MemberThen (pair (start + 16) d e) NoMembers)))
+    Mapped (StructLabel None []) start (start + 32)
+    (MemberThen (number 8 start a) (MemberThen (halves (start + 8) b c) (MemberThen (pair (start + 16) d e) NoMembers)))
 
-deep_array : value_at [] deep 8 ≡ Mapped ArrayLabel 0 64 (MemberThen (whole 0 7 1 2 3 4) (MemberThen (whole 32 9 5 6 8 10) NoMembers))
+deep_array : value_at [] deep 8
+    ≡ Mapped ArrayLabel 0 64 (MemberThen (whole 0 7 1 2 3 4) (MemberThen (whole 32 9 5 6 8 10) NoMembers))
 unfolding value_at trees with_sign
 deep_array = refl
 
@@ -110,16 +117,19 @@ both P here there zero h = here
 both P here there (suc zero) h = there
 both P here there (suc (suc i)) h = absurd (omega (arith, h))
 
-deep_column : (j : ℕ) (n : Node) → slice_get deep_nodes j ≡ Some n → IsNumber n.shape → n.content + bytes_for (number_bits n.shape) ≤ 5 → n.start + number_bits n.shape ≤ 32 →
+deep_column : (j : ℕ) (n : Node) → slice_get deep_nodes j ≡ Some n → IsNumber n.shape →
+    n.content + bytes_for (number_bits n.shape) ≤ 5 → n.start + number_bits n.shape ≤ 32 →
     bytes_number (part (5 * 0 + n.content) (bytes_for (number_bits n.shape)) deep.bytes) < 2 ^ number_bits n.shape →
-    bytes_number (part (5 * 1 + n.content) (bytes_for (number_bits n.shape)) deep.bytes) < 2 ^ number_bits n.shape → IsColumn deep 32 5 0 deep.bytes j
+    bytes_number (part (5 * 1 + n.content) (bytes_for (number_bits n.shape)) deep.bytes) < 2 ^ number_bits n.shape →
+    IsColumn deep 32 5 0 deep.bytes j
 deep_column j n found is fits within here there = record {
   node = n;
   found = found;
   number = is;
   fits = fits;
   within = within;
-  below = both (λ i. bytes_number (part (5 * i + n.content) (bytes_for (number_bits n.shape)) deep.bytes) < 2 ^ number_bits n.shape) here there;
+  below = both (λ i. bytes_number (part (5 * i + n.content) (bytes_for (number_bits n.shape)) deep.bytes)
+      < 2 ^ number_bits n.shape) here there;
 }
 
 abbrev deep_number_at : (width start place : ℕ) → Node

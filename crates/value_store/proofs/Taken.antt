@@ -5,11 +5,13 @@ use Rattle.pickle_meaning.specs.Values.{Label, IntegerLabel, OffsetLabel, TextLa
 use Rattle.value_store.specs.Levels.{extended}
 use Rattle.value_store.specs.Takes.{Vector, NodesOf, FamiliesOf, LinksOf, PendingOf, TextsOf, BytesOf, packed_width, families_taken, texts_taken, own_takes, kept_as, value_takes, members_take, place_takes, level_takes, levels_take}
 
-pub level_takes-append : (packs : Bool) (vector : Vector) (xs ys : List (Option Value)) → level_takes packs vector (xs ++ ys) ≡ level_takes packs vector xs + level_takes packs vector ys
+pub level_takes-append : (packs : Bool) (vector : Vector) (xs ys : List (Option Value)) →
+    level_takes packs vector (xs ++ ys) ≡ level_takes packs vector xs + level_takes packs vector ys
 level_takes-append packs vector [] ys = sym (zero-add (level_takes packs vector ys))
 level_takes-append packs vector (v ∷ xs) ys = omega (arith, level_takes-append packs vector xs ys)
 
-pub levels_take-extended : (packs : Bool) (vector : Vector) (ls : Levels) (vs : List (Option Value)) → levels_take packs vector (extended ls vs) ≡ levels_take packs vector ls + level_takes packs vector vs
+pub levels_take-extended : (packs : Bool) (vector : Vector) (ls : Levels) (vs : List (Option Value)) →
+    levels_take packs vector (extended ls vs) ≡ levels_take packs vector ls + level_takes packs vector vs
 levels_take-extended packs vector [] vs = omega arith
 levels_take-extended packs vector (top ∷ outer) vs = omega (arith, level_takes-append packs vector top vs)
 
@@ -18,11 +20,14 @@ pub pushed-extended : (ls : Levels) (v : Option Value) → extended ls (v ∷ []
 pushed-extended [] v = refl
 pushed-extended (top ∷ outer) v = refl
 
-pub levels_take-pushed : (packs : Bool) (vector : Vector) (ls : Levels) (v : Option Value) → levels_take packs vector (pushed ls v) ≡ levels_take packs vector ls + level_takes packs vector (v ∷ [])
-levels_take-pushed packs vector ls v = ap (levels_take packs vector) (sym (pushed-extended ls v)) ∙ levels_take-extended packs vector ls (v ∷ [])
+pub levels_take-pushed : (packs : Bool) (vector : Vector) (ls : Levels) (v : Option Value) →
+    levels_take packs vector (pushed ls v) ≡ levels_take packs vector ls + level_takes packs vector (v ∷ [])
+levels_take-pushed packs vector ls v =
+    ap (levels_take packs vector) (sym (pushed-extended ls v)) ∙ levels_take-extended packs vector ls (v ∷ [])
 
 -- what the members of a value take, where their places take nothing
-pub members_take-of : (packs : Bool) (vector : Vector) (os : List (Option Value)) → place_takes vector ≡ 0 → members_take packs vector (gathered os) ≡ level_takes packs vector os
+pub members_take-of : (packs : Bool) (vector : Vector) (os : List (Option Value)) → place_takes vector ≡ 0 →
+    members_take packs vector (gathered os) ≡ level_takes packs vector os
 members_take-of packs vector [] e = refl
 members_take-of packs vector (None ∷ os) e = omega (arith, e, members_take-of packs vector os e)
 members_take-of packs vector (Some v ∷ os) e = omega (arith, e, members_take-of packs vector os e)
@@ -33,13 +38,15 @@ member_count-of (None ∷ os) = omega (arith, member_count-of os)
 member_count-of (Some v ∷ os) = omega (arith, member_count-of os)
 
 -- a value has no pending children
-kept_pending : (width : Option ℕ) (label : Label) (members : Members) (inside : ℕ) → inside ≡ 0 → kept_as width PendingOf label members inside ≡ 0
+kept_pending : (width : Option ℕ) (label : Label) (members : Members) (inside : ℕ) → inside ≡ 0 →
+    kept_as width PendingOf label members inside ≡ 0
 kept_pending None label _ inside e = omega (arith, e)
 kept_pending (Some width) label _ inside e = refl
 
 mutual
   pub value_pending : (packs : Bool) (v : Value) → value_takes packs PendingOf v ≡ 0
-  value_pending packs (Mapped label start end members) = kept_pending (packed_width packs label members) label members (members_take packs PendingOf members) (members_pending packs members)
+  value_pending packs (Mapped label start end members) = kept_pending (packed_width packs label members) label members
+      (members_take packs PendingOf members) (members_pending packs members)
 
   pub members_pending : (packs : Bool) (members : Members) → members_take packs PendingOf members ≡ 0
   members_pending packs NoMembers = refl
@@ -61,7 +68,8 @@ not_packed ArrayLabel _ = refl
 not_packed (StructLabel name fields) _ = refl
 not_packed (UnionLabel name index alternative) _ = refl
 
-pub kept-members : (width : Option ℕ) (vector : Vector) (label : Label) (members : Members) (inside : ℕ) → width ≡ None → kept_as width vector label members inside ≡ own_takes vector label members + inside
+pub kept-members : (width : Option ℕ) (vector : Vector) (label : Label) (members : Members) (inside : ℕ) →
+    width ≡ None → kept_as width vector label members inside ≡ own_takes vector label members + inside
 kept-members width vector label ms inside e = ap (λ w. kept_as w vector label ms inside) e
 
 -- the vector of the slots of a kind
@@ -71,7 +79,8 @@ vector_of LinkSlot = LinksOf
 vector_of PendingSlot = PendingOf
 vector_of ByteSlot = BytesOf
 
-own-slots : (kind : Slot) (label : Label) (members : Members) → own_slots kind label members ≡ own_takes (vector_of kind) label members
+own-slots : (kind : Slot) (label : Label) (members : Members) →
+    own_slots kind label members ≡ own_takes (vector_of kind) label members
 own-slots NodeSlot label _ = refl
 own-slots LinkSlot label _ = refl
 own-slots PendingSlot label _ = refl
@@ -86,9 +95,16 @@ place-slots ByteSlot = refl
 mutual
   value-slots : (kind : Slot) (v : Value) → value_slots kind v ≡ value_takes false (vector_of kind) v
   value-slots kind (Mapped label start end members) =
-      omega (arith, own-slots kind label members, members-slots kind members, kept-members (packed_width false label members) (vector_of kind) label members (members_take false (vector_of kind) members) (not_packed label members))
+      omega (
+        arith,
+        own-slots kind label members,
+        members-slots kind members,
+        kept-members (packed_width false label members) (vector_of kind) label members
+            (members_take false (vector_of kind) members) (not_packed label members),
+      )
 
-  members-slots : (kind : Slot) (members : Members) → members_slots kind members ≡ members_take false (vector_of kind) members
+  members-slots : (kind : Slot) (members : Members) →
+      members_slots kind members ≡ members_take false (vector_of kind) members
   members-slots kind NoMembers = refl
   members-slots kind (MemberThen v rest) = omega (arith, value-slots kind v, members-slots kind rest)
   members-slots kind (AbsentThen rest) = members-slots kind rest
@@ -103,8 +119,15 @@ pub slots-taken : (kind : Slot) (ls : Levels) → slots kind ls ≡ levels_take 
 slots-taken kind [] = refl
 slots-taken kind (top ∷ outer) = omega (arith, level-slots kind top, slots-taken kind outer)
 
-pub slots-pushed : (kind : Slot) (ls : Levels) (v : Option Value) → slots kind (pushed ls v) ≡ slots kind ls + level_slots kind (v ∷ [])
-slots-pushed kind ls v = omega (arith, slots-taken kind (pushed ls v), levels_take-pushed false (vector_of kind) ls v, slots-taken kind ls, level-slots kind (v ∷ []))
+pub slots-pushed : (kind : Slot) (ls : Levels) (v : Option Value) →
+    slots kind (pushed ls v) ≡ slots kind ls + level_slots kind (v ∷ [])
+slots-pushed kind ls v = omega (
+  arith,
+  slots-taken kind (pushed ls v),
+  levels_take-pushed false (vector_of kind) ls v,
+  slots-taken kind ls,
+  level-slots kind (v ∷ []),
+)
 
 -- there are no more families and texts than nodes
 abbrev pub IsOfNodes : Vector → Type 0
@@ -130,7 +153,13 @@ module _ (vector : Vector) (of_nodes : IsOfNodes vector) where
   mutual
     value-few : (v : Value) → value_takes false vector v ≤ value_slots NodeSlot v
     value-few (Mapped label start end members) =
-        omega (arith, of_nodes.0 label members, members-few members, kept-members (packed_width false label members) vector label members (members_take false vector members) (not_packed label members))
+        omega (
+          arith,
+          of_nodes.0 label members,
+          members-few members,
+          kept-members (packed_width false label members) vector label members (members_take false vector members)
+              (not_packed label members),
+        )
 
     members-few : (members : Members) → members_take false vector members ≤ members_slots NodeSlot members
     members-few NoMembers = omega arith
@@ -157,4 +186,9 @@ taken-slots BytesOf ls = (ByteSlot, omega (arith, slots-taken ByteSlot ls))
 
 -- frames with one more value fill a place
 pub pushed-some : (ls : Levels) (v : Option Value) → 1 ≤ slots PendingSlot (pushed ls v)
-pushed-some ls v = omega (arith, slots-taken PendingSlot (pushed ls v), levels_take-pushed false PendingOf ls v, level_pending false (v ∷ []))
+pushed-some ls v = omega (
+  arith,
+  slots-taken PendingSlot (pushed ls v),
+  levels_take-pushed false PendingOf ls v,
+  level_pending false (v ∷ []),
+)

@@ -6,7 +6,9 @@ use Rattle.value_store.specs.Slots.{row_value}
 use Rattle.value_store.specs.Takes.{NodesOf, FamiliesOf, LinksOf, PendingOf, TextsOf, BytesOf, levels_take}
 
 abbrev taken : (packs : Bool) → Levels → List ℕ
-taken packs levels = levels_take packs NodesOf levels ∷ levels_take packs FamiliesOf levels ∷ levels_take packs LinksOf levels ∷ levels_take packs PendingOf levels ∷ levels_take packs TextsOf levels ∷ levels_take packs BytesOf levels ∷ []
+taken packs levels =
+    levels_take packs NodesOf levels ∷ levels_take packs FamiliesOf levels ∷ levels_take packs LinksOf levels
+    ∷ levels_take packs PendingOf levels ∷ levels_take packs TextsOf levels ∷ levels_take packs BytesOf levels ∷ []
 
 abbrev alone : Value → Levels
 alone v = (Some v ∷ []) ∷ []
@@ -28,6 +30,9 @@ none-packed : taken true (alone (row_value (Integers 8 false) [] 0)) ≡ 1 ∷ 1
 none-packed = refl
 
 -- an array of two texts, in either store
-text-members : (packs : Bool) → taken packs (alone (Mapped ArrayLabel 0 40 (MemberThen (Mapped (TextLabel (65 ∷ 66 ∷ [])) 0 24 NoMembers) (MemberThen (Mapped (TextLabel (67 ∷ [])) 24 40 NoMembers) NoMembers)))) ≡ 3 ∷ 1 ∷ 2 ∷ 1 ∷ 2 ∷ 3 ∷ []
+text-members : (packs : Bool) →
+    taken packs (alone (Mapped ArrayLabel 0 40 (MemberThen (Mapped (TextLabel (65 ∷ 66 ∷ [])) 0 24 NoMembers)
+    (MemberThen (Mapped (TextLabel (67 ∷ [])) 24 40 NoMembers) NoMembers))))
+    ≡ 3 ∷ 1 ∷ 2 ∷ 1 ∷ 2 ∷ 3 ∷ []
 text-members true = refl
 text-members false = refl

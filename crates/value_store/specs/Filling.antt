@@ -13,12 +13,14 @@ closed_text bytes start outer = pushed outer (Some (text_value bytes start (star
 -- the text has one more byte
 abbrev pub Writes : (before after : Held) → (byte start : ℕ) → Type 0
 Writes before after byte start = (names : Names) (bytes : List ℕ) (outer : Levels) →
-    IsWriting names before bytes start outer → IsShort (length bytes + 1) → IsWriting names after (bytes ++ byte ∷ []) start outer
+    IsWriting names before bytes start outer → IsShort (length bytes + 1) →
+    IsWriting names after (bytes ++ byte ∷ []) start outer
 
 -- the frame of the text has that byte
 abbrev pub ShowsByte : (before after : Held) → (byte start : ℕ) → Type 0
 ShowsByte before after byte start = (names : Names) (bytes : List ℕ) (outer : Levels) →
-    IsWriting names before bytes start outer → IsShort (length bytes + 1) → levels names after ≡ text_level (bytes ++ byte ∷ []) start outer
+    IsWriting names before bytes start outer → IsShort (length bytes + 1) →
+    levels names after ≡ text_level (bytes ++ byte ∷ []) start outer
 
 -- the byte doesn't fit in the slots that the store was made with
 abbrev pub CannotWrite : Held → (byte start : ℕ) → Type 0
@@ -42,25 +44,31 @@ CannotCloseText before start = (names : Names) (bytes : List ℕ) (outer : Level
 
 -- the array has one more number
 abbrev pub Packs : (before after : Held) → Shape → (digits start : ℕ) → Type 0
-Packs before after shape digits start = (names : Names) (numbers : List ℕ) (outer : Levels) → IsPacking names before shape numbers start outer →
-    start + element_width shape * (length numbers + 1) < 2 ^ 64 → IsPacking names after shape (numbers ++ digits ∷ []) start outer
+Packs before after shape digits start =
+    (names : Names) (numbers : List ℕ) (outer : Levels) → IsPacking names before shape numbers start outer →
+    start + element_width shape * (length numbers + 1) < 2 ^ 64 →
+    IsPacking names after shape (numbers ++ digits ∷ []) start outer
 
 -- the number doesn't fit in the slots that the store was made with
 abbrev pub CannotPack : Held → Shape → (digits start : ℕ) → Type 0
 CannotPack before shape digits start = (names : Names) (numbers : List ℕ) (outer : Levels) →
-    IsPacking names before shape numbers start outer → Exceeds before.room (elements shape start (numbers ++ digits ∷ []) ∷ outer)
+    IsPacking names before shape numbers start outer →
+    Exceeds before.room (elements shape start (numbers ++ digits ∷ []) ∷ outer)
 
 -- the array is alone in its frame
 abbrev pub SettlesRow : (before after : Held) → Shape → (start : ℕ) → Type 0
 SettlesRow before after shape start = (names : Names) (numbers : List ℕ) (outer : Levels) →
-    IsPacking names before shape numbers start outer → levels names after ≡ (Some (row_value shape numbers start) ∷ []) ∷ outer
+    IsPacking names before shape numbers start outer →
+    levels names after ≡ (Some (row_value shape numbers start) ∷ []) ∷ outer
 
 -- the array is one more member of the value around it
 abbrev pub ClosesRow : (before after : Held) → Shape → (start : ℕ) → Type 0
 ClosesRow before after shape start = (names : Names) (numbers : List ℕ) (outer : Levels) →
-    IsPacking names before shape numbers start outer → levels names after ≡ pushed outer (Some (row_value shape numbers start))
+    IsPacking names before shape numbers start outer →
+    levels names after ≡ pushed outer (Some (row_value shape numbers start))
 
 -- nor does the closed array
 abbrev pub CannotCloseRow : Held → Shape → (start : ℕ) → Type 0
 CannotCloseRow before shape start = (names : Names) (numbers : List ℕ) (outer : Levels) →
-    IsPacking names before shape numbers start outer → Exceeds before.room (pushed outer (Some (row_value shape numbers start)))
+    IsPacking names before shape numbers start outer →
+    Exceeds before.room (pushed outer (Some (row_value shape numbers start)))

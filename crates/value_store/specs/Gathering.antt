@@ -13,7 +13,8 @@ use Rattle.value_store.specs.Slots.{Slots, Held, packs, value_at, number_bits, i
 -- an array of the structs that these bytes are
 abbrev pub records_array : Value → (size stride start : ℕ) → List ℕ → Value
 records_array template size stride start bytes =
-    Mapped ArrayLabel start (start + size * (length bytes / stride)) (gathered (records template size stride 0 (length bytes / stride) bytes))
+    Mapped ArrayLabel start
+    (start + size * (length bytes / stride)) (gathered (records template size stride 0 (length bytes / stride) bytes))
 
 -- a new array of packed structs, which are these bytes, takes the place of the pending children above a mark; the last
 -- node is its template
@@ -40,7 +41,8 @@ abbrev pub AreColumns : Slots → (size stride at start : ℕ) → (bytes : List
 AreColumns s size stride at start bytes [] = at ≡ stride
 AreColumns s size stride at start bytes (None ∷ ls) = ⊥
 AreColumns s size stride at start bytes (Some j ∷ ls) =
-    (column : IsColumn s size stride start bytes j) × (column.node.content ≡ at) × AreColumns s size stride (at + bytes_for (number_bits column.node.shape)) start bytes ls
+    (column : IsColumn s size stride start bytes j) × (column.node.content ≡ at)
+    × AreColumns s size stride (at + bytes_for (number_bits column.node.shape)) start bytes ls
 
 -- the innermost open value has just numbers, those of the template of structs of `size` bits and so far `at` bytes
 abbrev pub IsDraft : Held → (size start at : ℕ) → Type 0
@@ -57,7 +59,8 @@ pub record IsGathering (h : Held) (before : Slots) (size stride start : ℕ) (by
 
 -- the frames with such an array, inside others
 abbrev pub gathering_levels : Names → (before : Slots) → (size stride start : ℕ) → List ℕ → Levels → Levels
-gathering_levels names before size stride start bytes outer = (Some (records_array (last_value names before) size stride start bytes) ∷ []) ∷ outer
+gathering_levels names before size stride start bytes outer =
+    (Some (records_array (last_value names before) size stride start bytes) ∷ []) ∷ outer
 
 -- such an array is open
 pub record IsRecordsOf (h : Held) : Type 0 where
@@ -70,15 +73,18 @@ pub record IsRecordsOf (h : Held) : Type 0 where
 
 -- the template has one more number, of a shape and from the bit `begin` on
 abbrev pub AddsColumn : (before after : Held) → Shape → (begin at : ℕ) → Type 0
-AddsColumn before after shape begin at = (size start : ℕ) → IsDraft before size start at → begin + number_bits shape ≤ start + size →
+AddsColumn before after shape begin at =
+    (size start : ℕ) → IsDraft before size start at → begin + number_bits shape ≤ start + size →
     IsDraft after size start (at + bytes_for (number_bits shape))
 
 -- the numbers of the innermost open value became the template of an array without structs, which takes their place
 pub record BeginsRecords (h n : Held) (of size stride start : ℕ) : Type 0 where
   pub before : Slots
   pub gathering : IsGathering n before size stride start []
-  pub template : (names : Names) → last_value names before ≡ value_of (struct_label names of) start (start + size) (levels names h)
-  pub levels : (names : Names) → levels names n ≡ gathering_levels names before size stride start [] (outer_of (levels names h))
+  pub template : (names : Names) →
+      last_value names before ≡ value_of (struct_label names of) start (start + size) (levels names h)
+  pub levels : (names : Names) →
+      levels names n ≡ gathering_levels names before size stride start [] (outer_of (levels names h))
 
 -- the open array may have one more struct, of these bytes
 pub record TakesRecord (h : Held) (more : List ℕ) : Type 0 where
@@ -95,13 +101,18 @@ pub record TakesRecord (h : Held) (more : List ℕ) : Type 0 where
 -- the array has one more struct
 pub record OneMore (h n : Held) (before : Slots) (size stride start : ℕ) (bytes : List ℕ) : Type 0 where
   pub gathering : IsGathering n before size stride start bytes
-  pub levels : (names : Names) → levels names n ≡ gathering_levels names before size stride start bytes (outer_of (levels names h))
+  pub levels : (names : Names) →
+      levels names n ≡ gathering_levels names before size stride start bytes (outer_of (levels names h))
 
 abbrev pub Gathers : (before after : Held) → (more : List ℕ) → Type 0
-Gathers h n more = (before : Slots) (size stride start : ℕ) (bytes : List ℕ) → IsGathering h before size stride start bytes → length more ≡ stride →
-    start + size * (length bytes / stride + 1) < 2 ^ 64 → EndsWithTemplate before size stride start more → OneMore h n before size stride start (bytes ++ more)
+Gathers h n more = (before : Slots) (size stride start : ℕ) (bytes : List ℕ) →
+    IsGathering h before size stride start bytes → length more ≡ stride →
+    start + size * (length bytes / stride + 1) < 2 ^ 64 → EndsWithTemplate before size stride start more →
+    OneMore h n before size stride start (bytes ++ more)
 
 -- the array is one more member of the value around it
 abbrev pub ClosesRecords : (before after : Held) → Type 0
-ClosesRecords h n = (names : Names) (before : Slots) (size stride start : ℕ) (bytes : List ℕ) → IsGathering h before size stride start bytes →
-    levels names n ≡ pushed (outer_of (levels names h)) (Some (records_array (last_value names before) size stride start bytes))
+ClosesRecords h n = (names : Names) (before : Slots) (size stride start : ℕ) (bytes : List ℕ) →
+    IsGathering h before size stride start bytes →
+    levels names n
+    ≡ pushed (outer_of (levels names h)) (Some (records_array (last_value names before) size stride start bytes))

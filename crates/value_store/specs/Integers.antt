@@ -18,7 +18,8 @@ AreIntegersOf type members = (i : ℕ) → IfSome (member_at members i) (IsInteg
 abbrev pub byte_members : IntegerType → (start : ℕ) → List ℕ → Members
 byte_members type start [] = NoMembers
 byte_members type start (byte ∷ bytes) =
-    MemberThen (Mapped (IntegerLabel (with_sign type byte) type) start (start + type.width) NoMembers) (byte_members type (start + type.width) bytes)
+    MemberThen (Mapped (IntegerLabel (with_sign type byte) type) start (start + type.width) NoMembers)
+    (byte_members type (start + type.width) bytes)
 
 -- an array has such members, and their type has at most 8 bits
 pub record AreBytesOf (type : IntegerType) (bytes : List ℕ) (array : Value) : Type 0 where

@@ -9,7 +9,8 @@ use Rattle.value_store.specs.Slots.{Slots, Held, levels, marks_of}
 
 -- these slots take more of some vector than its capacity
 abbrev pub LacksRoom : Held → Slots → Type 0
-LacksRoom h s = (vector : Vector) × ((h.room.least ≤ of_vector vector h.capacity) × (of_vector vector h.capacity < of_vector vector (marks_of s)))
+LacksRoom h s = (vector : Vector)
+    × ((h.room.least ≤ of_vector vector h.capacity) × (of_vector vector h.capacity < of_vector vector (marks_of s)))
 
 -- `count` more bytes take more than the capacity for bytes
 abbrev pub LacksBytes : Held → (count : ℕ) → Type 0
@@ -25,12 +26,15 @@ CannotPush before v = (names : Names) → Exceeds before.room (pushed (levels na
 
 -- the parts of the innermost open value became one value, which takes their place
 abbrev pub IsPlaced : (before after : Held) → (Names → Label) → (start end : ℕ) → Type 0
-IsPlaced before after label start end = (names : Names) → levels names after ≡ placed (label names) start end (levels names before)
+IsPlaced before after label start end =
+    (names : Names) → levels names after ≡ placed (label names) start end (levels names before)
 
 -- the innermost open value is closed
 abbrev pub IsClosed : (before after : Held) → (Names → Label) → (start end : ℕ) → Type 0
-IsClosed before after label start end = (names : Names) → levels names after ≡ closed (label names) start end (levels names before)
+IsClosed before after label start end =
+    (names : Names) → levels names after ≡ closed (label names) start end (levels names before)
 
 -- nor does the closed value
 abbrev pub CannotClose : Held → (Names → Label) → (start end : ℕ) → Type 0
-CannotClose before label start end = (names : Names) → Exceeds before.room (closed (label names) start end (levels names before))
+CannotClose before label start end =
+    (names : Names) → Exceeds before.room (closed (label names) start end (levels names before))

@@ -45,16 +45,22 @@ part_in names s (Some n) i j = instance (value_at names s j) (record_size n.shap
 -- the binary digits of a number of the packed struct at a place
 abbrev pub part_digits : Slots → (array number : Node) → ℕ → ℕ
 part_digits s n number i =
-    bytes_number (part (record_stride n.shape * i + number.content) (bytes_for (number_bits number.shape)) (text_bytes s.texts s.bytes n.content))
+    bytes_number (part (record_stride n.shape * i + number.content) (bytes_for (number_bits number.shape))
+    (text_bytes s.texts s.bytes n.content))
 
 -- digits of a number of the packed struct at a place of the array that a node is
 abbrev pub IsDigits : Slots → (array : ℕ) → (number : Node) → (index digits : ℕ) → Type 0
-IsDigits s array number index digits = (n : Node) → slice_get s.nodes array ≡ Some n → digits ≡ part_digits s n number index
+IsDigits s array number index digits =
+    (n : Node) → slice_get s.nodes array ≡ Some n → digits ≡ part_digits s n number index
 
 -- a number of these binary digits
 abbrev pub numbered : Shape → (start digits : ℕ) → Value
-numbered (shape.Integer w g) start n = let type : IntegerType = record { width = w; signed = g } in Mapped (IntegerLabel (with_sign type n) type) start (start + w) NoMembers
-numbered (shape.Offset w g u) start n = let type : IntegerType = record { width = w; signed = g } in Mapped (OffsetLabel (with_sign type n) type u) start (start + w) NoMembers
+numbered (shape.Integer w g) start n =
+    let type : IntegerType = record { width = w; signed = g } in
+    Mapped (IntegerLabel (with_sign type n) type) start (start + w) NoMembers
+numbered (shape.Offset w g u) start n =
+    let type : IntegerType = record { width = w; signed = g } in
+    Mapped (OffsetLabel (with_sign type n) type u) start (start + w) NoMembers
 numbered shape start n = no_value
 
 -- how many packed structs an array of this shape has
@@ -98,7 +104,8 @@ parts_at s (Some n) = part_count s n.shape n.content
 abbrev pub IsPartIn : Slots → (array : Option Node) → (index node : ℕ) → Type 0
 IsPartIn s None i j = ⊥
 IsPartIn s (Some n) i j =
-    (i < struct_count s n.shape n.content) × ∥ IsTemplatePart s (record_size n.shape) (record_stride n.shape) n.start (text_bytes s.texts s.bytes n.content) j ∥₁
+    (i < struct_count s n.shape n.content) × ∥ IsTemplatePart s (record_size n.shape) (record_stride n.shape) n.start
+    (text_bytes s.texts s.bytes n.content) j ∥₁
 
 abbrev pub IsPlace : Slots → Place → Type 0
 IsPlace s (place.Node at) = at < length s.nodes

@@ -16,4 +16,5 @@ links_from s i = node_links s (slice_get s.nodes i)
 
 -- the values of the links are the parts of an open value
 abbrev pub AreLinksAt : Held → (level : ℕ) → List (Option ℕ) → Type 0
-AreLinksAt h level links = (names : Names) (i : ℕ) → option_map (node_value names h.slots) (unwrap_or (slice_get links i) None) ≡ value_at (levels names h) level i
+AreLinksAt h level links = (names : Names) (i : ℕ) →
+    option_map (node_value names h.slots) (unwrap_or (slice_get links i) None) ≡ value_at (levels names h) level i

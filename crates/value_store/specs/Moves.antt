@@ -32,8 +32,8 @@ pub data Move : Type 0 where
   PacksRecord : (count : ℕ) → Move
   -- such an array is one more member of the frame around it
   ClosesRecords : Move
-  -- the members of the innermost frame, numbers of so many bytes in all, become one more struct of the array around them,
-  -- where such arrays are packed; else they become one value
+  -- the members of the innermost frame, numbers of so many bytes in all, become one more struct of the array around
+  -- them, where such arrays are packed; else they become one value
   PacksStruct : (stride : ℕ) → Move
 
 -- the lengths of the vectors, and what they were when each open value was opened, the innermost first
@@ -54,11 +54,22 @@ with_text k bytes = record k { nodes = k.nodes + 1; pending = k.pending + 1; tex
 
 -- the members of a frame that began at k became the links of a family
 abbrev pub with_links : (k n : Marks) → Marks
-with_links k n = record n { nodes = n.nodes + 1; families = n.families + 1; links = n.links + (n.pending - k.pending); pending = k.pending + 1 }
+with_links k n = record n {
+  nodes = n.nodes + 1;
+  families = n.families + 1;
+  links = n.links + (n.pending - k.pending);
+  pending = k.pending + 1;
+}
 
 -- the same for the template of an array of packed structs, which has a node and a text
 abbrev pub with_template : (k n : Marks) → Marks
-with_template k n = record n { nodes = n.nodes + 2; families = n.families + 1; links = n.links + (n.pending - k.pending); pending = k.pending + 1; texts = n.texts + 1 }
+with_template k n = record n {
+  nodes = n.nodes + 2;
+  families = n.families + 1;
+  links = n.links + (n.pending - k.pending);
+  pending = k.pending + 1;
+  texts = n.texts + 1;
+}
 
 -- an array that has no element is a family
 abbrev pub with_row : (packs : Bool) → (k n : Marks) → Marks
@@ -82,7 +93,8 @@ with_structs columns stride k = record {
 
 -- one more struct, whose frame began at `own`, of an array that began at k
 abbrev pub with_struct : (stride : ℕ) → (k own n : Marks) → Marks
-with_struct stride k own n = if nat_eq own.nodes k.nodes then with_structs (n.pending - own.pending) stride k else record own { bytes = own.bytes + stride }
+with_struct stride k own n = if nat_eq own.nodes k.nodes then with_structs (n.pending - own.pending) stride k
+    else record own { bytes = own.bytes + stride }
 
 -- what the innermost frame had is now its one member
 abbrev pub joined : State → State
@@ -99,7 +111,10 @@ abbrev pub lifted : State → State
 lifted s = record { now = s.now; frames = around s.frames }
 
 abbrev pub packed_struct : (packs : Bool) → (stride : ℕ) → State → State
-packed_struct true stride s = record { now = with_struct stride (innermost (around s.frames)) (innermost s.frames) s.now; frames = around s.frames }
+packed_struct true stride s = record {
+  now = with_struct stride (innermost (around s.frames)) (innermost s.frames) s.now;
+  frames = around s.frames;
+}
 packed_struct false stride s = lifted (joined s)
 
 abbrev pub moved : (packs : Bool) → Move → State → State
@@ -124,7 +139,8 @@ Moves before after move = state_of after ≡ moved (packs before.room) move (sta
 
 -- the move takes more of some vector than its capacity
 abbrev pub CannotMove : Held → Move → Type 0
-CannotMove before move = (vector : Vector) × (of_vector vector before.capacity < of_vector vector (moved (packs before.room) move (state_of before)).now)
+CannotMove before move = (vector : Vector)
+    × (of_vector vector before.capacity < of_vector vector (moved (packs before.room) move (state_of before)).now)
 
 -- what an empty store is
 abbrev pub no_state : State

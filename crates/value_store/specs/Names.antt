@@ -70,4 +70,5 @@ member_found names (Some of) (Some taken) (suc i) = None
 
 -- the type at an index, if there is one, names the members of a value
 abbrev pub NamesMembers : (of : Option ℕ) → (Names → Value) → Type 0
-NamesMembers of value = (names : Names) (i : ℕ) → let l = label_of (value names) in member_found names of (taken_of l) i ≡ member_name l i
+NamesMembers of value = (names : Names) (i : ℕ) → let l = label_of (value names) in
+    member_found names of (taken_of l) i ≡ member_name l i

@@ -23,7 +23,8 @@ struct_bytes (c ∷ cs) = bytes_for (number_bits c) + struct_bytes cs
 -- the numbers of the template, whose bytes begin at `at`
 abbrev pub drafted : List Shape → (begin at : ℕ) → List (Option Value)
 drafted [] begin at = []
-drafted (c ∷ cs) begin at = Some (number_value c begin at) ∷ drafted cs (begin + number_bits c) (at + bytes_for (number_bits c))
+drafted (c ∷ cs) begin at =
+    Some (number_value c begin at) ∷ drafted cs (begin + number_bits c) (at + bytes_for (number_bits c))
 
 -- numbers of these digits
 abbrev pub fields : List Shape → (begin : ℕ) → List ℕ → List (Option Value)
@@ -59,31 +60,39 @@ AreNumberShapes (c ∷ cs) = IsNumber c × AreNumberShapes cs
 
 -- the struct of the type at an index with these numbers
 abbrev pub struct_of : Names → (of : ℕ) → List Shape → (start : ℕ) → List ℕ → Value
-struct_of names of cs start ds = Mapped (struct_label names of) start (start + struct_bits cs) (gathered (fields cs start ds))
+struct_of names of cs start ds =
+    Mapped (struct_label names of) start (start + struct_bits cs) (gathered (fields cs start ds))
 
 abbrev pub structs_of : Names → (of : ℕ) → List Shape → (start : ℕ) → List (List ℕ) → List (Option Value)
 structs_of names of cs start [] = []
-structs_of names of cs start (ds ∷ rows) = Some (struct_of names of cs start ds) ∷ structs_of names of cs (start + struct_bits cs) rows
+structs_of names of cs start (ds ∷ rows) =
+    Some (struct_of names of cs start ds) ∷ structs_of names of cs (start + struct_bits cs) rows
 
 abbrev pub structs_array : Names → (of : ℕ) → List Shape → (start : ℕ) → List (List ℕ) → Value
-structs_array names of cs start rows = Mapped ArrayLabel start (start + struct_bits cs * length rows) (gathered (structs_of names of cs start rows))
+structs_array names of cs start rows =
+    Mapped ArrayLabel start (start + struct_bits cs * length rows) (gathered (structs_of names of cs start rows))
 
 -- the innermost open value has just numbers of these shapes, for the template of structs of `size` bits
-pub record IsDrafting (names : Names) (h : Held) (size : ℕ) (cs : List Shape) (start : ℕ) (outer : Levels) : Type 0 where
+pub record IsDrafting (names : Names) (h : Held) (size : ℕ) (cs : List Shape) (start : ℕ)
+    (outer : Levels) : Type 0 where
   pub draft : IsDraft h size start (struct_bytes cs)
   pub is : levels names h ≡ drafted cs start 0 ∷ outer
   pub shapes : AreNumberShapes cs
 
 -- it has one more
 abbrev pub DraftsMore : (before after : Held) → Shape → (begin at : ℕ) → Type 0
-DraftsMore before after shape begin at = (names : Names) (size : ℕ) (cs : List Shape) (start : ℕ) (outer : Levels) → IsDrafting names before size cs start outer →
-    begin ≡ start + struct_bits cs → at ≡ struct_bytes cs → struct_bits cs + number_bits shape ≤ size → IsDrafting names after size (cs ++ shape ∷ []) start outer
+DraftsMore before after shape begin at = (names : Names) (size : ℕ) (cs : List Shape) (start : ℕ) (outer : Levels) →
+    IsDrafting names before size cs start outer →
+    begin ≡ start + struct_bits cs → at ≡ struct_bytes cs → struct_bits cs + number_bits shape ≤ size →
+    IsDrafting names after size (cs ++ shape ∷ []) start outer
 
 -- the innermost open value is an array of packed structs with these numbers
-pub record IsPackingStructs (names : Names) (h : Held) (of : ℕ) (cs : List Shape) (start : ℕ) (rows : List (List ℕ)) (outer : Levels) : Type 0 where
+pub record IsPackingStructs (names : Names) (h : Held) (of : ℕ) (cs : List Shape) (start : ℕ) (rows : List (List ℕ))
+    (outer : Levels) : Type 0 where
   pub before : Slots
   pub gathering : IsGathering h before (struct_bits cs) (struct_bytes cs) start (struct_rows cs rows)
-  pub template : last_value names before ≡ Mapped (struct_label names of) start (start + struct_bits cs) (gathered (drafted cs start 0))
+  pub template : last_value names before
+      ≡ Mapped (struct_label names of) start (start + struct_bits cs) (gathered (drafted cs start 0))
   pub inside : outer_of (levels names h) ≡ outer
   pub shapes : AreNumberShapes cs
   pub digits : AreRows cs rows
@@ -100,12 +109,15 @@ pub record IsStructsOf (h : Held) : Type 0 where
 
 -- the numbers of the innermost frame became the template of such an array, which has no structs yet
 abbrev pub BeginsStructs : (before after : Held) → (of size stride start : ℕ) → Type 0
-BeginsStructs before after of size stride start = (names : Names) (cs : List Shape) (outer : Levels) → levels names before ≡ drafted cs start 0 ∷ outer →
-    AreNumberShapes cs → size ≡ struct_bits cs → stride ≡ struct_bytes cs → IsPackingStructs names after of cs start [] outer
+BeginsStructs before after of size stride start =
+    (names : Names) (cs : List Shape) (outer : Levels) → levels names before ≡ drafted cs start 0 ∷ outer →
+    AreNumberShapes cs → size ≡ struct_bits cs → stride ≡ struct_bytes cs →
+    IsPackingStructs names after of cs start [] outer
 
 -- the array doesn't fit in the slots that the store was made with
 abbrev pub CannotBegin : Held → (start : ℕ) → Type 0
-CannotBegin before start = (names : Names) → Exceeds before.room ((Some (structs_array names 0 [] start []) ∷ []) ∷ outer_of (levels names before))
+CannotBegin before start = (names : Names) →
+    Exceeds before.room ((Some (structs_array names 0 [] start []) ∷ []) ∷ outer_of (levels names before))
 
 -- the open array may have one more struct, of these bytes
 pub record TakesStruct (h : Held) (more : List ℕ) : Type 0 where
@@ -123,16 +135,22 @@ pub record TakesStruct (h : Held) (more : List ℕ) : Type 0 where
 
 -- the array has one more struct
 abbrev pub PacksStruct : (before after : Held) → (more : List ℕ) → Type 0
-PacksStruct before after more = (names : Names) (of : ℕ) (cs : List Shape) (start : ℕ) (rows : List (List ℕ)) (outer : Levels) (ds : List ℕ) →
-    IsPackingStructs names before of cs start rows outer → AreDigits cs ds → start + struct_bits cs * (length rows + 1) < 2 ^ 64 → more ≡ struct_row cs ds →
+PacksStruct before after more =
+    (names : Names) (of : ℕ) (cs : List Shape) (start : ℕ) (rows : List (List ℕ)) (outer : Levels) (ds : List ℕ) →
+    IsPackingStructs names before of cs start rows outer → AreDigits cs ds →
+    start + struct_bits cs * (length rows + 1) < 2 ^ 64 → more ≡ struct_row cs ds →
     IsPackingStructs names after of cs start (rows ++ ds ∷ []) outer
 
 -- the struct doesn't fit in the slots that the store was made with
 abbrev pub CannotPackStruct : Held → Type 0
-CannotPackStruct before = (names : Names) (of : ℕ) (cs : List Shape) (start : ℕ) (rows : List (List ℕ)) (outer : Levels) (ds : List ℕ) →
-    IsPackingStructs names before of cs start rows outer → Exceeds before.room (structs_of names of cs start (rows ++ ds ∷ []) ∷ outer)
+CannotPackStruct before =
+    (names : Names) (of : ℕ) (cs : List Shape) (start : ℕ) (rows : List (List ℕ)) (outer : Levels) (ds : List ℕ) →
+    IsPackingStructs names before of cs start rows outer →
+    Exceeds before.room (structs_of names of cs start (rows ++ ds ∷ []) ∷ outer)
 
 -- the array is one more member of the value around it
 abbrev pub ClosesStructs : (before after : Held) → Type 0
-ClosesStructs before after = (names : Names) (of : ℕ) (cs : List Shape) (start : ℕ) (rows : List (List ℕ)) (outer : Levels) →
-    IsPackingStructs names before of cs start rows outer → levels names after ≡ pushed outer (Some (structs_array names of cs start rows))
+ClosesStructs before after =
+    (names : Names) (of : ℕ) (cs : List Shape) (start : ℕ) (rows : List (List ℕ)) (outer : Levels) →
+    IsPackingStructs names before of cs start rows outer →
+    levels names after ≡ pushed outer (Some (structs_array names of cs start rows))

@@ -22,7 +22,8 @@ label_read (UnionLabel name index alternative) row = UnionLabel name index alter
 -- a part of a template as it is in a struct of these bytes, moved by `shift` bits
 abbrev mutual
   pub instance : Value → (shift : ℕ) → List ℕ → Value
-  instance (Mapped label start end members) shift row = Mapped (label_read label row) (start + shift) (end + shift) (instances members shift row)
+  instance (Mapped label start end members) shift row =
+      Mapped (label_read label row) (start + shift) (end + shift) (instances members shift row)
 
   pub instances : Members → (shift : ℕ) → List ℕ → Members
   instances NoMembers shift row = NoMembers
@@ -33,4 +34,5 @@ abbrev mutual
 abbrev pub records : Value → (size stride shift count : ℕ) → List ℕ → List (Option Value)
 records template size stride shift zero bytes = []
 records template size stride shift (suc count) bytes =
-    Some (instance template shift (take stride bytes)) ∷ records template size stride (shift + size) count (drop stride bytes)
+    Some (instance template shift (take stride bytes))
+    ∷ records template size stride (shift + size) count (drop stride bytes)

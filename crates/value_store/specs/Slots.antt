@@ -154,8 +154,12 @@ abbrev pub element_value : Shape → (start digits : ℕ) → Value
 element_value (Integer w g) start n = no_value
 element_value (Offset w g u) start n = no_value
 element_value Text start n = no_value
-element_value (Integers w g) start n = let type : IntegerType = record { width = w; signed = g } in Mapped (IntegerLabel (with_sign type n) type) start (start + w) NoMembers
-element_value (Offsets w g u) start n = let type : IntegerType = record { width = w; signed = g } in Mapped (OffsetLabel (with_sign type n) type u) start (start + w) NoMembers
+element_value (Integers w g) start n =
+    let type : IntegerType = record { width = w; signed = g } in
+    Mapped (IntegerLabel (with_sign type n) type) start (start + w) NoMembers
+element_value (Offsets w g u) start n =
+    let type : IntegerType = record { width = w; signed = g } in
+    Mapped (OffsetLabel (with_sign type n) type u) start (start + w) NoMembers
 element_value (Records stride size) start n = no_value
 element_value Array start n = no_value
 element_value (Struct t) start n = no_value
@@ -168,7 +172,8 @@ elements shape start (n ∷ ns) = Some (element_value shape start n) ∷ element
 
 -- an array of packed numbers
 abbrev pub row_value : Shape → List ℕ → (start : ℕ) → Value
-row_value shape numbers start = Mapped ArrayLabel start (start + element_width shape * length numbers) (gathered (elements shape start numbers))
+row_value shape numbers start =
+    Mapped ArrayLabel start (start + element_width shape * length numbers) (gathered (elements shape start numbers))
 
 -- the number that 64 binary digits are, with a sign or without
 abbrev pub number_in : Bool → ℕ → ℤ
@@ -244,8 +249,10 @@ IsNumber (Struct t) = ⊥
 IsNumber (Union t i) = ⊥
 
 abbrev pub number_value : Shape → ℕ → ℕ → Value
-number_value (Integer w g) start c = Mapped (IntegerLabel (number_in g c) (record { width = w; signed = g })) start (start + w) NoMembers
-number_value (Offset w g u) start c = Mapped (OffsetLabel (number_in g c) (record { width = w; signed = g }) u) start (start + w) NoMembers
+number_value (Integer w g) start c =
+    Mapped (IntegerLabel (number_in g c) (record { width = w; signed = g })) start (start + w) NoMembers
+number_value (Offset w g u) start c =
+    Mapped (OffsetLabel (number_in g c) (record { width = w; signed = g }) u) start (start + w) NoMembers
 number_value Text start c = no_value
 number_value (Integers w g) start c = no_value
 number_value (Offsets w g u) start c = no_value
@@ -271,7 +278,8 @@ parts_in s ts (Offset w g u) start c = []
 parts_in s ts Text start c = []
 parts_in s ts (Integers w g) start c = elements (Integers w g) start (row_numbers s w c)
 parts_in s ts (Offsets w g u) start c = elements (Offsets w g u) start (row_numbers s w c)
-parts_in s ts (Records stride size) start c = records (last_of ts) size stride 0 (record_count s stride c) (text_bytes s.texts s.bytes c)
+parts_in s ts (Records stride size) start c =
+    records (last_of ts) size stride 0 (record_count s stride c) (text_bytes s.texts s.bytes c)
 parts_in s ts Array start c = map (opened ts) (family_links s.families s.links c)
 parts_in s ts (Struct t) start c = map (opened ts) (family_links s.families s.links c)
 parts_in s ts (Union t i) start c = map (opened ts) (family_links s.families s.links c)
@@ -279,7 +287,8 @@ parts_in s ts (Union t i) start c = map (opened ts) (family_links s.families s.l
 -- the value of a node, after the values of the nodes before it
 abbrev pub tree_of : Names → Slots → List Value → Node → Value
 tree_of names s ts n =
-    Mapped (label_in names s n.shape n.content) n.start (n.start + size_in s n.shape n.content) (gathered (parts_in s ts n.shape n.start n.content))
+    Mapped (label_in names s n.shape n.content) n.start (n.start + size_in s n.shape n.content)
+    (gathered (parts_in s ts n.shape n.start n.content))
 
 -- the values of nodes, after those of the nodes before them
 abbrev pub trees_from : Names → Slots → List Value → List Node → List Value
@@ -366,7 +375,9 @@ pub record IsColumn (s : Slots) (size stride start : ℕ) (bytes : List ℕ) (j 
   pub number : IsNumber node.shape
   pub fits : node.content + bytes_for (number_bits node.shape) ≤ stride
   pub within : node.start + number_bits node.shape ≤ start + size
-  pub below : (i : ℕ) → i < length bytes / stride → bytes_number (part (stride * i + node.content) (bytes_for (number_bits node.shape)) bytes) < 2 ^ number_bits node.shape
+  pub below : (i : ℕ) → i < length bytes / stride →
+      bytes_number (part (stride * i + node.content) (bytes_for (number_bits node.shape)) bytes)
+      < 2 ^ number_bits node.shape
 
 -- the node of an array, a struct or a union that each of some packed structs has, or is; its start is that in the first
 -- struct
@@ -378,18 +389,21 @@ pub record IsBranch (s : Slots) (size start : ℕ) (j : ℕ) : Type 0 where
   pub within : node.start + (family_at s.families node.content).size ≤ start + size
 
 mutual
-  -- the node at a place is a part of a template of packed structs, which are these bytes: a number, or an array, a struct
-  -- or a union of such parts
+  -- the node at a place is a part of a template of packed structs, which are these bytes: a number, or an array, a
+  -- struct or a union of such parts
   pub data IsTemplatePart (s : Slots) (size stride start : ℕ) (bytes : List ℕ) : ℕ → Type 0 where
     NumberPart : {j : ℕ} → IsColumn s size stride start bytes j → IsTemplatePart s size stride start bytes j
-    BranchPart : {j : ℕ} (branch : IsBranch s size start j) → AreTemplateParts s size stride start bytes (family_links s.families s.links branch.node.content) →
+    BranchPart : {j : ℕ} (branch : IsBranch s size start j) →
+        AreTemplateParts s size stride start bytes (family_links s.families s.links branch.node.content) →
         IsTemplatePart s size stride start bytes j
 
   -- so are the nodes that these links refer to
   pub data AreTemplateParts (s : Slots) (size stride start : ℕ) (bytes : List ℕ) : List (Option ℕ) → Type 0 where
     NoParts : AreTemplateParts s size stride start bytes []
-    PartThen : {j : ℕ} {ls : List (Option ℕ)} → IsTemplatePart s size stride start bytes j → AreTemplateParts s size stride start bytes ls → AreTemplateParts s size stride start bytes (Some j ∷ ls)
-    AbsentPartThen : {ls : List (Option ℕ)} → AreTemplateParts s size stride start bytes ls → AreTemplateParts s size stride start bytes (None ∷ ls)
+    PartThen : {j : ℕ} {ls : List (Option ℕ)} → IsTemplatePart s size stride start bytes j →
+        AreTemplateParts s size stride start bytes ls → AreTemplateParts s size stride start bytes (Some j ∷ ls)
+    AbsentPartThen : {ls : List (Option ℕ)} → AreTemplateParts s size stride start bytes ls →
+        AreTemplateParts s size stride start bytes (None ∷ ls)
 
 -- The node right before an array of packed structs is the first of them, but for its numbers: a tree of any depth. The
 -- place of a number's bytes is small, so that as a number it has no sign.
@@ -471,7 +485,8 @@ pub record HasNoRows (k : Marks) (s : Slots) : Type 0 where
 -- where nothing is packed, each vector has after some marks just what the parts of the open value take
 pub record IsLevel (room : Room) (k : Marks) (s : Slots) : Type 0 where
   pub within : IsWithin k s
-  pub takes : packs room ≡ false → (names : Names) (vector : Vector) → of_vector vector (marks_of s) ≡ of_vector vector k + level_takes false vector (level_of names k s)
+  pub takes : packs room ≡ false → (names : Names) (vector : Vector) →
+      of_vector vector (marks_of s) ≡ of_vector vector k + level_takes false vector (level_of names k s)
   pub bare : length s.nodes ≡ k.nodes → HasNoRows k s
 
 abbrev pub innermost : List Marks → Marks
@@ -499,7 +514,8 @@ pub record Adds (room : Room) (s u : Slots) (vs : Names → List (Option Value))
   pub sound : IsSound u
   pub rest : cut_to (marks_of s) u ≡ s
   pub stack : (names : Names) → stack names u ≡ stack names s ++ vs names
-  pub takes : packs room ≡ false → (names : Names) (vector : Vector) → of_vector vector (marks_of u) ≡ of_vector vector (marks_of s) + level_takes false vector (vs names)
+  pub takes : packs room ≡ false → (names : Names) (vector : Vector) →
+      of_vector vector (marks_of u) ≡ of_vector vector (marks_of s) + level_takes false vector (vs names)
   pub bare : length u.nodes ≡ length s.nodes → HasNoRows (marks_of s) u
 
 -- a new node without children
@@ -552,7 +568,8 @@ with_more more s = record {
 
 -- the bytes of whole packed numbers
 abbrev pub AreNumberBytes : (width : ℕ) → List ℕ → (start : ℕ) → Type 0
-AreNumberBytes width bytes start = AreNumbers width (numbers_in width bytes) start × (bytes_for width * length (numbers_in width bytes) ≡ length bytes)
+AreNumberBytes width bytes start =
+    AreNumbers width (numbers_in width bytes) start × (bytes_for width * length (numbers_in width bytes) ≡ length bytes)
 
 -- the bytes that a text is, or an array of packed numbers
 abbrev pub AreBytes : Shape → List ℕ → (start : ℕ) → Type 0
@@ -603,7 +620,8 @@ written shape [] start s = s
 written shape (b ∷ bytes) start s = with_bytes shape (b ∷ bytes) start s
 
 -- the innermost open value has these bytes so far; it has no node before its first byte
-pub record IsFilling (names : Names) (h : Held) (shape : Shape) (bytes : List ℕ) (start : ℕ) (outer : Levels) : Type 0 where
+pub record IsFilling (names : Names) (h : Held) (shape : Shape) (bytes : List ℕ) (start : ℕ)
+    (outer : Levels) : Type 0 where
   pub before : Slots
   pub is : h.slots ≡ written shape bytes start before
   pub own : AreLevels h.room h.frames before
@@ -617,7 +635,8 @@ abbrev pub IsWriting : Names → Held → List ℕ → (start : ℕ) → Levels 
 IsWriting names h bytes start outer = IsFilling names h Text bytes start outer
 
 -- the innermost open value is an array of packed numbers with these numbers so far
-pub record IsPacking (names : Names) (h : Held) (shape : Shape) (numbers : List ℕ) (start : ℕ) (outer : Levels) : Type 0 where
+pub record IsPacking (names : Names) (h : Held) (shape : Shape) (numbers : List ℕ) (start : ℕ)
+    (outer : Levels) : Type 0 where
   pub filling : IsFilling names h shape (packed (bytes_for (element_width shape)) numbers) start outer
   pub below : All (λ n. n < 2 ^ element_width shape) numbers
 
@@ -705,7 +724,8 @@ pub record IsRead (s : Slots) (i : ℕ) (n : Node) : Type 0 where
   pub label : (names : Names) → label_of (value_at names s i) ≡ label_in names s n.shape n.content
   pub start : (names : Names) → start_of (value_at names s i) ≡ n.start
   pub end : (names : Names) → end_of (value_at names s i) ≡ n.start + size_in s n.shape n.content
-  pub members : (names : Names) → members_of (value_at names s i) ≡ gathered (parts_in s (take i (trees names s)) n.shape n.start n.content)
+  pub members : (names : Names) →
+      members_of (value_at names s i) ≡ gathered (parts_in s (take i (trees names s)) n.shape n.start n.content)
   pub content : IsContent s n.shape n.start n.content
   pub sound : IsSound s
 

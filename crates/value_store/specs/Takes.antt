@@ -93,7 +93,8 @@ kept_as (Some width) vector label members inside = row_takes vector width (membe
 
 abbrev mutual
   pub value_takes : (packs : Bool) → Vector → Value → ℕ
-  value_takes packs vector (Mapped label start end members) = kept_as (packed_width packs label members) vector label members (members_take packs vector members)
+  value_takes packs vector (Mapped label start end members) =
+      kept_as (packed_width packs label members) vector label members (members_take packs vector members)
 
   pub members_take : (packs : Bool) → Vector → Members → ℕ
   members_take packs vector NoMembers = 0

@@ -86,7 +86,8 @@ fn names_in(shape: &Shape) -> MemberNames<'_>
 }
 
 fn name_of_field(fields: &[Field], place: usize) -> Option<&[u8]>
-    ensures { option_map (λ name. name.now) result ≡ unwrap_or (option_map field_name (slice_get fields.now place)) None }
+    ensures { option_map (λ name. name.now) result
+        ≡ unwrap_or (option_map field_name (slice_get fields.now place)) None }
 {
     match fields.get(place) {
         Some(field) => letters(&field.name),

@@ -94,7 +94,8 @@ impl<'a> StoredValue<'a> {
     // The size of a node's value in bits.
     fn node_size(&self, at: usize) -> u64
         requires { at < length self.now.store.now.slots.nodes }
-        ensures { (names : Names) → let v = value_at names self.now.store.now.slots at in start_of v + result ≡ end_of v }
+        ensures { (names : Names) → let v = value_at names self.now.store.now.slots at in
+            start_of v + result ≡ end_of v }
     {
         let node = self.store.node_at(at);
         let row = node.content as usize;
@@ -229,7 +230,8 @@ impl<'a> StoredValue<'a> {
 
     /// The element or field at a place, or a union's alternative at place 0. None for an absent field and past the end.
     pub fn child(&self, i: usize) -> Option<StoredValue<'a>>
-        ensures part { (names : Names) → option_map (value_of names) result ≡ member_at (members_of (value_of names self.now)) i }
+        ensures part { (names : Names) →
+            option_map (value_of names) result ≡ member_at (members_of (value_of names self.now)) i }
         ensures below { IfSome result (λ c. place_rank c.place < place_rank self.now.place) }
     {
         self.linked(self.links(), self.packed(), i)
@@ -253,7 +255,8 @@ impl<'a> StoredValue<'a> {
 
     /// The type of the parts, where they are packed integers.
     pub(crate) fn row_type(&self) -> Option<IntegerType>
-        ensures { (names : Names) → IfSome result (λ number. AreIntegersOf number (members_of (value_of names self.now))) }
+        ensures { (names : Names) →
+            IfSome result (λ number. AreIntegersOf number (members_of (value_of names self.now))) }
     {
         let Place::Node(at) = self.place else {
             return None;
@@ -361,7 +364,8 @@ impl<'a> StoredValue<'a> {
     pub(crate) fn linked(&self, links: &[Link], packed: usize, i: usize) -> Option<StoredValue<'a>>
         requires links { links.now ≡ place_links self.now.store.now.slots self.now.place }
         requires packed { packed ≡ place_packed self.now.store.now.slots self.now.place }
-        ensures part { (names : Names) → option_map (value_of names) result ≡ member_at (members_of (value_of names self.now)) i }
+        ensures part { (names : Names) →
+            option_map (value_of names) result ≡ member_at (members_of (value_of names self.now)) i }
         ensures below { IfSome result (λ c. place_rank c.place < place_rank self.now.place) }
     {
         let _node = self.store.node_at(self.array());

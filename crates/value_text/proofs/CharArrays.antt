@@ -6,7 +6,8 @@ use Rattle.value_store.specs.Labels.{kind_of}
 use Rattle.value_text.specs.CharTexts.{is_node, has_chars}
 
 -- only an array has chars
-pub chars_of_array : (chars element : Option ℕ) (label : Label) → kind.Array ≡ kind_of label → has_chars chars element label ≡ is_node chars element
+pub chars_of_array : (chars element : Option ℕ) (label : Label) → kind.Array ≡ kind_of label →
+    has_chars chars element label ≡ is_node chars element
 chars_of_array chars element (IntegerLabel number type) e = cc
 chars_of_array chars element (OffsetLabel magnitude type unit) e = cc
 chars_of_array chars element (TextLabel bytes) e = cc
@@ -14,7 +15,8 @@ chars_of_array chars element ArrayLabel e = refl
 chars_of_array chars element (StructLabel name fields) e = cc
 chars_of_array chars element (UnionLabel name index alternative) e = cc
 
-pub chars_of_other : (chars element : Option ℕ) (label : Label) → kind_of label ≢ kind.Array → has_chars chars element label ≡ false
+pub chars_of_other : (chars element : Option ℕ) (label : Label) → kind_of label ≢ kind.Array →
+    has_chars chars element label ≡ false
 chars_of_other chars element (IntegerLabel number type) e = refl
 chars_of_other chars element (OffsetLabel magnitude type unit) e = refl
 chars_of_other chars element (TextLabel bytes) e = refl

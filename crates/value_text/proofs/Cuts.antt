@@ -10,7 +10,8 @@ use Rattle.value_text.specs.CutArrays.{limit_of, is_past, is_cut, kept_count, le
 use Rattle.value_text.proofs.MemberTexts.{members_from, with_member, from_at, from_end}
 
 -- only an array has a limit
-pub limit_of_array : (style : Style) (label : Label) → kind.Array ≡ kind_of label → limit_of style label ≡ style.elements
+pub limit_of_array : (style : Style) (label : Label) → kind.Array ≡ kind_of label →
+    limit_of style label ≡ style.elements
 limit_of_array style (IntegerLabel number type) e = cc
 limit_of_array style (OffsetLabel magnitude type unit) e = cc
 limit_of_array style (TextLabel bytes) e = cc
@@ -71,12 +72,15 @@ left_some more left some = let is : (left == 0) ≡ false = grind (arith, some) 
 -- the texts of members from a place on end with what is printed of those that are left out
 pub left_is : (limit : Option ℕ) (text : (place : ℕ) → Members → List ℕ) (more : (left : ℕ) → List ℕ)
     → ((place : ℕ) → text place NoMembers ≡ [])
-    → ((place : ℕ) (member : Option Value) (rest : Members) → is_past limit place ≡ true → text place (with_member member rest) ≡ more (suc (member_count rest)))
-    → (all : Members) (i : ℕ) → i ≡ kept_count limit (member_count all) → text i (members_from i all) ≡ left_text more (member_count all - i)
+    → ((place : ℕ) (member : Option Value) (rest : Members) → is_past limit place ≡ true
+    → text place (with_member member rest) ≡ more (suc (member_count rest)))
+    → (all : Members) (i : ℕ) → i ≡ kept_count limit (member_count all)
+    → text i (members_from i all) ≡ left_text more (member_count all - i)
 left_is limit text more ends past all i e = elim (cases_Bool (nat_lt i (member_count all))) [
   | inl some ↦
       (let lt : i < member_count all = grind (arith, some) in
-      let left : suc (member_count (members_from (i + 1) all)) ≡ member_count all - i = omega (arith, count_from (i + 1) all, lt) in
+      let left : suc (member_count (members_from (i + 1) all)) ≡ member_count all - i =
+      omega (arith, count_from (i + 1) all, lt) in
       ap (text i) (from_at all i lt)
       ∙ past i (member_at all i) (members_from (i + 1) all) (past_kept limit (member_count all) i e lt)
       ∙ ap more left

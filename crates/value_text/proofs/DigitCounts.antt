@@ -10,11 +10,13 @@ power_positive (suc k) = omega (arith, power_positive k)
 least_digits : (k n : ℕ) → 10 ^ k ≤ n → n < 2 ^ 64 → k + 1 ≤ length (decimal n)
 least_digits zero n low high = decimal_nonempty n high
 least_digits (suc k) n low high =
-    let long : length (decimal n) ≡ length (decimal (n / 10)) + 1 = ap length (decimal_step n (omega (arith, low, power_positive k)) high) ∙ length-append _ _ in
+    let long : length (decimal n) ≡ length (decimal (n / 10)) + 1 =
+    ap length (decimal_step n (omega (arith, low, power_positive k)) high) ∙ length-append _ _ in
     omega (arith, long, least_digits k (n / 10) (omega (arith, low)) (omega arith))
 
 pub digits_of_power : (k n : ℕ) → 10 ^ k ≤ n → n < 10 * 10 ^ k → n < 2 ^ 64 → length (decimal n) ≡ k + 1
-digits_of_power k n low high fits = omega (arith, least_digits k n low fits, length-decimal-le (suc k) n (omega arith) (omega (arith, high)) fits)
+digits_of_power k n low high fits =
+    omega (arith, least_digits k n low fits, length-decimal-le (suc k) n (omega arith) (omega (arith, high)) fits)
 
 pub one_digit : (n : ℕ) → n < 10 → length (decimal n) ≡ 1
 one_digit n h = ap length (decimal_digit n h)
@@ -23,7 +25,8 @@ pub longest : (n : ℕ) → n < 2 ^ 64 → length (decimal n) ≤ 20
 longest n h = length-decimal-le 20 n (omega arith) (omega arith) h
 
 -- digits that are laid out right after the first `at` bytes
-pub laid_out : (at from end : ℕ) (old new digits : List ℕ) → at + length digits ≡ end → from + length digits ≡ end → drop from new ≡ digits ++ drop end old → take from new ≡ take from old → take end new ≡ take at old ++ digits
+pub laid_out : (at from end : ℕ) (old new digits : List ℕ) → at + length digits ≡ end → from + length digits ≡ end →
+    drop from new ≡ digits ++ drop end old → take from new ≡ take from old → take end new ≡ take at old ++ digits
 laid_out at from end old new digits e f written before =
     let same : from ≡ at = omega (arith, e, f) in
     subst (λ k. take k new ≡ take at old ++ digits) e

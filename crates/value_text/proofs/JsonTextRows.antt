@@ -11,7 +11,8 @@ leaf label = Mapped label 0 0 NoMembers
 abbrev byte : ℕ → Value
 byte n = leaf (IntegerLabel (pos n) (record { width = 8; signed = false }))
 
-an_integer : json_line (leaf (IntegerLabel (pos 18446744073709551615) (record { width = 64; signed = false }))) ≡ codes "18446744073709551615\n"
+an_integer : json_line (leaf (IntegerLabel (pos 18446744073709551615) (record { width = 64; signed = false })))
+    ≡ codes "18446744073709551615\n"
 unfolding digits
 an_integer = refl
 
@@ -19,7 +20,8 @@ below_0 : json_line (leaf (IntegerLabel (negsuc 4) (record { width = 12; signed 
 unfolding digits
 below_0 = refl
 
-an_offset : json_line (leaf (OffsetLabel (negsuc 1) (record { width = 16; signed = true }) 4)) ≡ codes "{\"magnitude\":-2,\"unit\":4}\n"
+an_offset : json_line (leaf (OffsetLabel (negsuc 1) (record { width = 16; signed = true }) 4))
+    ≡ codes "{\"magnitude\":-2,\"unit\":4}\n"
 unfolding digits json_offset
 an_offset = refl
 
@@ -36,11 +38,13 @@ no_string = refl
 empty_array : json_line (leaf ArrayLabel) ≡ codes "[]\n"
 empty_array = refl
 
-none_present : json_line (Mapped (StructLabel (Some (codes "P")) (Some (codes "f") ∷ [])) 0 0 (AbsentThen NoMembers)) ≡ codes "{}\n"
+none_present : json_line (Mapped (StructLabel (Some (codes "P")) (Some (codes "f") ∷ [])) 0 0 (AbsentThen NoMembers))
+    ≡ codes "{}\n"
 none_present = refl
 
 pair : json_line (Mapped (StructLabel (Some (codes "P")) (Some (codes "a") ∷ Some (codes "b") ∷ [])) 0 24
-    (MemberThen (byte 5) (MemberThen (Mapped ArrayLabel 8 24 (MemberThen (byte 1) (MemberThen (byte 2) NoMembers))) NoMembers)))
+    (MemberThen (byte 5)
+    (MemberThen (Mapped ArrayLabel 8 24 (MemberThen (byte 1) (MemberThen (byte 2) NoMembers))) NoMembers)))
     ≡ codes "{\"a\":5,\"b\":[1,2]}\n"
 unfolding digits json_string
 pair = refl
@@ -55,7 +59,8 @@ places = refl
 -- a union is its alternative
 unions : json_line (Mapped ArrayLabel 0 16
     (MemberThen (Mapped (UnionLabel (Some (codes "U")) 0 (Some (codes "a"))) 0 8 (MemberThen (byte 1) NoMembers))
-    (MemberThen (Mapped (UnionLabel None 1 (Some (codes "b"))) 8 16 (MemberThen (leaf (TextLabel (codes "hi"))) NoMembers)) NoMembers)))
+    (MemberThen (Mapped (UnionLabel None 1 (Some (codes "b"))) 8 16
+    (MemberThen (leaf (TextLabel (codes "hi"))) NoMembers)) NoMembers)))
     ≡ codes "[{\"a\":1},{\"b\":\"hi\"}]\n"
 unfolding digits json_string
 unions = refl

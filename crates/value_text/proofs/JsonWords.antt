@@ -26,7 +26,8 @@ is_that : (byte n : ℕ) → (byte == n) ≡ true → byte ≡ n
 is_that byte n h = grind (arith, h)
 
 -- an escape before other characters
-escape_is : (byte : ℕ) {rest characters : List ℕ} → byte < 256 → json.ReadsCharacters rest characters → json.ReadsCharacters (json_escape byte ++ rest) (byte ∷ characters)
+escape_is : (byte : ℕ) {rest characters : List ℕ} → byte < 256 → json.ReadsCharacters rest characters →
+    json.ReadsCharacters (json_escape byte ++ rest) (byte ∷ characters)
 escape_is byte {rest} {characters} small h = elim (cases_Bool (byte == 92)) [
   | inl a ↦ rw a (short byte 92 92 (is_that byte 92 a) json.backslash)
   | inr a ↦ rw a (elim (cases_Bool (byte == 34)) [
@@ -35,8 +36,10 @@ escape_is byte {rest} {characters} small h = elim (cases_Bool (byte == 92)) [
       | inl c ↦ rw c (short byte 116 9 (is_that byte 9 c) json.letter_t)
       | inr c ↦ rw c (elim (cases_Bool (byte == 10)) [
         | inl d ↦ rw d (short byte 110 10 (is_that byte 10 d) json.letter_n)
-        | inr d ↦ rw d (subst (λ n. json.ReadsCharacters (92 ∷ 117 ∷ 48 ∷ 48 ∷ hex_digit (byte / 16 % 16) ∷ hex_digit (byte % 16) ∷ rest) (n ∷ characters)) (together byte small)
-            (json.long_escape zero_is zero_is (hex_is (byte / 16 % 16) (omega arith)) (hex_is (byte % 16) (omega arith)) h))
+        | inr d ↦ rw d (subst (λ n. json.ReadsCharacters (92 ∷ 117 ∷ 48 ∷ 48 ∷ hex_digit (byte / 16 % 16)
+            ∷ hex_digit (byte % 16) ∷ rest) (n ∷ characters)) (together byte small)
+            (json.long_escape zero_is zero_is (hex_is (byte / 16 % 16) (omega arith))
+            (hex_is (byte % 16) (omega arith)) h))
       ])
     ])
   ])
@@ -48,8 +51,10 @@ escape_is byte {rest} {characters} small h = elim (cases_Bool (byte == 92)) [
     together : (n : ℕ) → n < 256 → ((0 * 16 + 0) * 16 + n / 16 % 16) * 16 + n % 16 ≡ n
     together n small = omega (arith, small)
 
-    short : (byte letter character : ℕ) → byte ≡ character → json.IsShort letter character → json.ReadsCharacters (92 ∷ letter ∷ rest) (byte ∷ characters)
-    short byte letter character is k = subst (λ n. json.ReadsCharacters (92 ∷ letter ∷ rest) (n ∷ characters)) (sym is) (json.short_escape k h)
+    short : (byte letter character : ℕ) → byte ≡ character → json.IsShort letter character →
+        json.ReadsCharacters (92 ∷ letter ∷ rest) (byte ∷ characters)
+    short byte letter character is k =
+        subst (λ n. json.ReadsCharacters (92 ∷ letter ∷ rest) (n ∷ characters)) (sym is) (json.short_escape k h)
 
 characters_are : (bytes : List ℕ) → AreBytes bytes → json.ReadsCharacters (spelled json_escape bytes) bytes
 characters_are [] small = json.no_character
@@ -66,7 +71,8 @@ string_is bytes small = json.string (characters_are bytes small)
 data IsLeading : List ℕ → Type 0 where
   leading : {digit : ℕ} {digits : List ℕ} → 49 ≤ digit → digit ≤ 57 → json.IsDigits digits → IsLeading (digit ∷ digits)
 
-more_digits : {digits : List ℕ} {digit : ℕ} → json.IsDigits digits → json.IsDigit digit → json.IsDigits (digits ++ digit ∷ [])
+more_digits : {digits : List ℕ} {digit : ℕ} → json.IsDigits digits → json.IsDigit digit →
+    json.IsDigits (digits ++ digit ∷ [])
 more_digits json.no_digit h = json.one_digit h json.no_digit
 more_digits (json.one_digit a rest) h = json.one_digit a (more_digits rest h)
 
@@ -84,10 +90,15 @@ whole_is n small = (decimal_by_steps WholeOf first more n small).1
   where
     first : (m : ℕ) → m < 10 → WholeOf m ((48 + m) ∷ [])
     first zero l = (λ some. absurd (omega (arith, some)), json.only_zero)
-    first (suc m) l = let one : IsLeading ((48 + suc m) ∷ []) = leading (omega arith) (omega (arith, l)) json.no_digit in (λ some. one, whole_of one)
+    first (suc m) l =
+        let one : IsLeading ((48 + suc m) ∷ []) = leading (omega arith) (omega (arith, l)) json.no_digit in
+        (λ some. one, whole_of one)
 
     more : (m : ℕ) (ds : List ℕ) → 10 ≤ m → WholeOf (m / 10) ds → WholeOf m (ds ++ ((48 + m % 10) ∷ []))
-    more m ds l h = let all : IsLeading (ds ++ ((48 + m % 10) ∷ [])) = more_leading (h.0 (omega (arith, l))) (omega arith, omega arith) in (λ some. all, whole_of all)
+    more m ds l h =
+        let all : IsLeading (ds ++ ((48 + m % 10) ∷ [])) =
+        more_leading (h.0 (omega (arith, l))) (omega arith, omega arith) in
+        (λ some. all, whole_of all)
 
 digits_are : (n : ℕ) → n < 2 ^ 64 → digits_value 10 (decimal n ++ []) ≡ n
 digits_are n small = ap (digits_value 10) (append-nil (decimal n)) ∙ (decimal_is_IsNumeral n small).1
@@ -102,16 +113,19 @@ pub number_is : (z : ℤ) → unsigned_abs z < 2 ^ 64 → json.ReadsNumber (sign
 number_is (pos n) small = natural_is n small
 number_is (negsuc n) small =
     subst (λ s. json.ReadsNumber s (whole_number (negsuc n))) (ap (λ s. 45 ∷ s) (append-nil (decimal (suc n))))
-    (subst (λ k. json.ReadsNumber (45 ∷ (decimal (suc n) ++ [])) (whole_number (json.signed true k))) (digits_are (suc n) small)
+    (subst (λ k. json.ReadsNumber (45 ∷ (decimal (suc n) ++ [])) (whole_number (json.signed true k)))
+    (digits_are (suc n) small)
     (json.number json.minus (whole_is (suc n) small) json.no_fraction json.no_exponent))
 
 digit_characters : {digits : List ℕ} → json.IsDigits digits → json.ReadsCharacters digits digits
 digit_characters json.no_digit = json.no_character
-digit_characters (json.one_digit h rest) = json.plain_character (omega (arith, h.0)) (omega (arith, h.1)) (λ e. omega (arith, e, h.0)) (λ e. omega (arith, e, h.1)) (digit_characters rest)
+digit_characters (json.one_digit h rest) = json.plain_character (omega (arith, h.0)) (omega (arith, h.1))
+    (λ e. omega (arith, e, h.0)) (λ e. omega (arith, e, h.1)) (digit_characters rest)
 
 whole_characters : {digits : List ℕ} → json.IsWhole digits → json.ReadsCharacters digits digits
 whole_characters json.only_zero = digit_characters (json.one_digit (omega arith, omega arith) json.no_digit)
-whole_characters (json.leading low high rest) = digit_characters (json.one_digit (omega (arith, low), omega (arith, high)) rest)
+whole_characters (json.leading low high rest) =
+    digit_characters (json.one_digit (omega (arith, low), omega (arith, high)) rest)
 
 pub place_is : (place : ℕ) → place < 2 ^ 64 → json.ReadsString (place_key place) (decimal place)
 place_is place small = json.string (whole_characters (whole_is place small))

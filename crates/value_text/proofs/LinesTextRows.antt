@@ -6,7 +6,8 @@ use Rattle.value_text.specs.LinesText.{part_lines}
 use Rattle.value_text.specs.ValueText.{integer_text, string_text}
 
 abbrev byte_at : (start number : ℕ) → Value
-byte_at start number = Mapped (IntegerLabel (pos number) (record { width = 8; signed = false })) start (start + 8) NoMembers
+byte_at start number =
+    Mapped (IntegerLabel (pos number) (record { width = 8; signed = false })) start (start + 8) NoMembers
 
 an_integer : part_lines (byte_at 48 5) ≡ codes ".\t48#b\t8#b\t5UB\n"
 unfolding integer_text digits
@@ -21,14 +22,16 @@ empty_array : part_lines (Mapped ArrayLabel 8 8 NoMembers) ≡ codes ".\t8#b\t0#
 unfolding digits
 empty_array = refl
 
-none_present : part_lines (Mapped (StructLabel (Some (codes "P")) (Some (codes "f") ∷ [])) 0 0 (AbsentThen NoMembers)) ≡ codes ".\t0#b\t0#b\tP {}\n"
+none_present : part_lines (Mapped (StructLabel (Some (codes "P")) (Some (codes "f") ∷ [])) 0 0 (AbsentThen NoMembers))
+    ≡ codes ".\t0#b\t0#b\tP {}\n"
 unfolding digits
 none_present = refl
 
 -- an array of structs, of which the second has an empty array
 elements : part_lines (Mapped ArrayLabel 0 16
     (MemberThen (Mapped (StructLabel None (Some (codes "x") ∷ [])) 0 8 (MemberThen (byte_at 0 1) NoMembers))
-    (MemberThen (Mapped (StructLabel None (Some (codes "x") ∷ Some (codes "e") ∷ [])) 8 16 (MemberThen (byte_at 8 2) (MemberThen (Mapped ArrayLabel 16 16 NoMembers) NoMembers))) NoMembers)))
+    (MemberThen (Mapped (StructLabel None (Some (codes "x") ∷ Some (codes "e") ∷ [])) 8 16
+    (MemberThen (byte_at 8 2) (MemberThen (Mapped ArrayLabel 16 16 NoMembers) NoMembers))) NoMembers)))
     ≡ codes "[0].x\t0#b\t8#b\t1UB\n[1].x\t8#b\t8#b\t2UB\n[1].e\t16#b\t0#b\t[]\n"
 unfolding integer_text digits
 elements = refl
@@ -36,7 +39,8 @@ elements = refl
 -- a nameless field after an absent one, and a union in an array
 places : part_lines (Mapped (StructLabel (Some (codes "T")) (Some (codes "f") ∷ None ∷ Some (codes "us") ∷ [])) 0 16
     (AbsentThen (MemberThen (byte_at 0 1) (MemberThen (Mapped ArrayLabel 8 16
-    (MemberThen (Mapped (UnionLabel (Some (codes "U")) 1 (Some (codes "b"))) 8 16 (MemberThen (byte_at 8 2) NoMembers)) NoMembers)) NoMembers))))
+    (MemberThen (Mapped (UnionLabel (Some (codes "U")) 1 (Some (codes "b"))) 8 16 (MemberThen (byte_at 8 2) NoMembers))
+    NoMembers)) NoMembers))))
     ≡ codes ".1\t0#b\t8#b\t1UB\n.us[0].b\t8#b\t8#b\t2UB\n"
 unfolding integer_text digits
 places = refl

@@ -14,10 +14,12 @@ abbrev pub with_member : Option Value → Members → Members
 with_member None rest = AbsentThen rest
 with_member (Some value) rest = MemberThen value rest
 
-pub from_at : (all : Members) (i : ℕ) → i < member_count all → members_from i all ≡ with_member (member_at all i) (members_from (i + 1) all)
+pub from_at : (all : Members) (i : ℕ) → i < member_count all →
+    members_from i all ≡ with_member (member_at all i) (members_from (i + 1) all)
 from_at all i h = rw add-one (at_suc all i h)
   where
-    at_suc : (all : Members) (i : ℕ) → i < member_count all → members_from i all ≡ with_member (member_at all i) (members_from (suc i) all)
+    at_suc : (all : Members) (i : ℕ) → i < member_count all →
+        members_from i all ≡ with_member (member_at all i) (members_from (suc i) all)
     at_suc NoMembers i h = absurd (omega (arith, h))
     at_suc (MemberThen value rest) zero h = refl
     at_suc (AbsentThen rest) zero h = refl

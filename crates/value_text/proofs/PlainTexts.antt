@@ -29,7 +29,8 @@ use Rattle.value_store.specs.declared.value.ValueRef.{ValueRef}
 use Rattle.value_store.specs.Refs.{value_shown}
 use Rattle.text_output.specs.declared.style.Style.{Style}
 
-plain_offset : (type : IntegerType) (unit : ℕ) (magnitude : ℤ) → offset_in Decimal type unit magnitude ≡ offset_text type unit magnitude
+plain_offset : (type : IntegerType) (unit : ℕ) (magnitude : ℤ) →
+    offset_in Decimal type unit magnitude ≡ offset_text type unit magnitude
 unfolding offset_in unit_in offset_text
 plain_offset type unit magnitude = refl
 
@@ -50,18 +51,24 @@ mutual
   plain_value (Mapped (IntegerLabel number type) start end _) = refl
   plain_value (Mapped (OffsetLabel magnitude type unit) start end _) = plain_offset type unit magnitude
   plain_value (Mapped (TextLabel bytes) start end _) = refl
-  plain_value (Mapped ArrayLabel start end all) = ap (λ s. codes "[" ++ (s ++ codes "]")) (plain_members ArrayLabel 0 true all)
+  plain_value (Mapped ArrayLabel start end all) =
+      ap (λ s. codes "[" ++ (s ++ codes "]")) (plain_members ArrayLabel 0 true all)
   plain_value (Mapped (StructLabel name fields) start end all) =
-      ap (λ s. title_text (codes "struct") name ++ (codes " {" ++ (s ++ codes "}"))) (plain_members (StructLabel name fields) 0 true all)
+      ap (λ s. title_text (codes "struct") name ++ (codes " {" ++ (s ++ codes "}")))
+      (plain_members (StructLabel name fields) 0 true all)
   plain_value (Mapped (UnionLabel name index alternative) start end all) =
-      ap (λ s. title_text (codes "union") name ++ (codes " {" ++ (s ++ codes "}"))) (plain_members (UnionLabel name index alternative) 0 true all)
+      ap (λ s. title_text (codes "union") name ++ (codes " {" ++ (s ++ codes "}")))
+      (plain_members (UnionLabel name index alternative) 0 true all)
 
-  plain_members : (label : Label) (place : ℕ) (first : Bool) (all : Members) → styled_members plain None label place first all ≡ members_text label place first all
+  plain_members : (label : Label) (place : ℕ) (first : Bool) (all : Members) →
+      styled_members plain None label place first all ≡ members_text label place first all
   plain_members label place first NoMembers = refl
   plain_members label place first (AbsentThen rest) = plain_members label (suc place) first rest
   plain_members label place first (MemberThen value rest) =
-      ap (λ s. (comma first ++ (name_text (member_name label place) ++ s)) ++ styled_members plain None label (suc place) false rest) (plain_value value)
-      ∙ ap (λ s. (comma first ++ (name_text (member_name label place) ++ value_text value)) ++ s) (plain_members label (suc place) false rest)
+      ap (λ s. (comma first ++ (name_text (member_name label place) ++ s))
+      ++ styled_members plain None label (suc place) false rest) (plain_value value)
+      ∙ ap (λ s. (comma first ++ (name_text (member_name label place) ++ value_text value)) ++ s)
+      (plain_members label (suc place) false rest)
 
 plain_head : (label : Label) (count : ℕ) → styled_head plain label count ≡ head_text label count
 plain_head (IntegerLabel number type) count = refl
@@ -72,14 +79,18 @@ plain_head (StructLabel name fields) count = refl
 plain_head (UnionLabel name index alternative) count = refl
 
 mutual
-  plain_lines : (level : ℕ) (prefix : List ℕ) (value : Value) → styled_lines plain level prefix value ≡ lines_text level prefix value
-  plain_lines level prefix (Mapped label start end all) = rw (plain_head label (member_count all), plain_limit label, plain_parts (level + 1) label 0 all) refl
+  plain_lines : (level : ℕ) (prefix : List ℕ) (value : Value) →
+      styled_lines plain level prefix value ≡ lines_text level prefix value
+  plain_lines level prefix (Mapped label start end all) =
+      rw (plain_head label (member_count all), plain_limit label, plain_parts (level + 1) label 0 all) refl
 
-  plain_parts : (level : ℕ) (label : Label) (place : ℕ) (all : Members) → styled_parts plain None level label place all ≡ parts_text level label place all
+  plain_parts : (level : ℕ) (label : Label) (place : ℕ) (all : Members) →
+      styled_parts plain None level label place all ≡ parts_text level label place all
   plain_parts level label place NoMembers = refl
   plain_parts level label place (AbsentThen rest) = plain_parts level label (suc place) rest
   plain_parts level label place (MemberThen value rest) =
-      ap (λ s. s ++ styled_parts plain None level label (suc place) rest) (plain_lines level (prefix_text label place) value)
+      ap (λ s. s ++ styled_parts plain None level label (suc place) rest)
+      (plain_lines level (prefix_text label place) value)
       ∙ ap (λ s. lines_text level (prefix_text label place) value ++ s) (plain_parts level label (suc place) rest)
 
 mutual
@@ -87,20 +98,27 @@ mutual
   plain_json (Mapped (IntegerLabel number type) start end _) = refl
   plain_json (Mapped (OffsetLabel magnitude type unit) start end _) = plain_json_offset magnitude unit
   plain_json (Mapped (TextLabel bytes) start end _) = refl
-  plain_json (Mapped ArrayLabel start end all) = ap (λ s. codes "[" ++ (s ++ codes "]")) (plain_json_members no_key 0 true all)
-  plain_json (Mapped (StructLabel name fields) start end all) = ap (λ s. codes "{" ++ (s ++ codes "}")) (plain_json_members (key_before (StructLabel name fields)) 0 true all)
+  plain_json (Mapped ArrayLabel start end all) =
+      ap (λ s. codes "[" ++ (s ++ codes "]")) (plain_json_members no_key 0 true all)
+  plain_json (Mapped (StructLabel name fields) start end all) =
+      ap (λ s. codes "{" ++ (s ++ codes "}")) (plain_json_members (key_before (StructLabel name fields)) 0 true all)
   plain_json (Mapped (UnionLabel name index alternative) start end all) =
-      ap (λ s. codes "{" ++ (s ++ codes "}")) (plain_json_members (key_before (UnionLabel name index alternative)) 0 true all)
+      ap (λ s. codes "{" ++ (s ++ codes "}"))
+      (plain_json_members (key_before (UnionLabel name index alternative)) 0 true all)
 
-  plain_json_members : (before : ℕ → List ℕ) (place : ℕ) (first : Bool) (all : Members) → styled_json_members plain None before place first all ≡ json_members before place first all
+  plain_json_members : (before : ℕ → List ℕ) (place : ℕ) (first : Bool) (all : Members) →
+      styled_json_members plain None before place first all ≡ json_members before place first all
   plain_json_members before place first NoMembers = refl
   plain_json_members before place first (AbsentThen rest) = plain_json_members before (suc place) first rest
   plain_json_members before place first (MemberThen value rest) =
-      ap (λ s. ((comma first ++ before place) ++ s) ++ styled_json_members plain None before (suc place) false rest) (plain_json value)
-      ∙ ap (λ s. ((comma first ++ before place) ++ json_text value) ++ s) (plain_json_members before (suc place) false rest)
+      ap (λ s. ((comma first ++ before place) ++ s) ++ styled_json_members plain None before (suc place) false rest)
+      (plain_json value)
+      ∙ ap (λ s. ((comma first ++ before place) ++ json_text value) ++ s)
+      (plain_json_members before (suc place) false rest)
 
 plain_leaf : (steps : List ℕ) (value : Value) → styled_leaf plain steps value ≡ leaf_line steps value
-plain_leaf steps value = ap (λ s. path_text steps ++ (place_cells value ++ (codes "\t" ++ (s ++ codes "\n")))) (plain_value value)
+plain_leaf steps value =
+    ap (λ s. path_text steps ++ (place_cells value ++ (codes "\t" ++ (s ++ codes "\n")))) (plain_value value)
 
 mutual
   plain_leaves : (steps : List ℕ) (value : Value) → styled_leaves plain steps value ≡ leaves_text steps value
@@ -109,12 +127,15 @@ mutual
     | inr miss ↦ rw miss (plain_leaf steps (Mapped label start end all))
   ]
 
-  plain_branches : (steps : List ℕ) (owner : Value) (place : ℕ) (all : Members) → styled_branches plain None steps owner place all ≡ branches_text steps (label_of owner) place all
+  plain_branches : (steps : List ℕ) (owner : Value) (place : ℕ) (all : Members) →
+      styled_branches plain None steps owner place all ≡ branches_text steps (label_of owner) place all
   plain_branches steps owner place NoMembers = refl
   plain_branches steps owner place (AbsentThen rest) = plain_branches steps owner (suc place) rest
   plain_branches steps owner place (MemberThen value rest) =
-      ap (λ s. s ++ styled_branches plain None steps owner (suc place) rest) (plain_leaves (steps ++ step_text (label_of owner) place) value)
-      ∙ ap (λ s. leaves_text (steps ++ step_text (label_of owner) place) value ++ s) (plain_branches steps owner (suc place) rest)
+      ap (λ s. s ++ styled_branches plain None steps owner (suc place) rest)
+      (plain_leaves (steps ++ step_text (label_of owner) place) value)
+      ∙ ap (λ s. leaves_text (steps ++ step_text (label_of owner) place) value ++ s)
+      (plain_branches steps owner (suc place) rest)
 
 pub plain_is : (mode : Mode) (value : Value) → styled plain mode value ≡ printed mode value
 plain_is Flat value = ap (λ s. s ++ codes "\n") (plain_value value)
@@ -122,7 +143,8 @@ plain_is Tree value = plain_lines 0 [] value
 plain_is Json value = ap (λ s. s ++ codes "\n") (plain_json value)
 plain_is Lines value = plain_leaves [] value
 
-pub plain_typed : (style : Style) (typed : Typed) (value : ValueRef) (mode : Mode) → style ≡ plain → value_in typed ≡ value → typed_printed style mode typed ≡ printed mode (value_shown value)
+pub plain_typed : (style : Style) (typed : Typed) (value : ValueRef) (mode : Mode) → style ≡ plain →
+    value_in typed ≡ value → typed_printed style mode typed ≡ printed mode (value_shown value)
 plain_typed style typed value mode e is =
     ap (λ s. typed_printed s mode typed) e ∙ plain_is mode (mapped_in typed) ∙ ap (λ v. printed mode (value_shown v)) is
 

@@ -19,36 +19,48 @@ use Rattle.value_text.proofs.Cuts.{whole_before}
 pub row_text : (style : Style) (first : Bool) (v : Value) (type : IntegerType) → IsIntegerOf type v
     → member_text style first None v ≡ comma first ++ integer_in style.numbers type (number_of (label_of v))
 row_text style first (Mapped (IntegerLabel n t) s e m) type is =
-    ap (λ text. text ++ integer_in style.numbers t n) (append-nil (comma first)) ∙ ap (λ label. comma first ++ integer_in style.numbers (type_of label) n) is
+    ap (λ text. text ++ integer_in style.numbers t n) (append-nil (comma first))
+    ∙ ap (λ label. comma first ++ integer_in style.numbers (type_of label) n) is
 row_text style first (Mapped (OffsetLabel n t u) s e m) type is = cc
 row_text style first (Mapped (TextLabel bytes) s e m) type is = cc
 row_text style first (Mapped ArrayLabel s e m) type is = cc
 row_text style first (Mapped (StructLabel name fields) s e m) type is = cc
 row_text style first (Mapped (UnionLabel name index alternative) s e m) type is = cc
 
-bytes_count : (type : IntegerType) (start : ℕ) (bytes : List ℕ) → member_count (byte_members type start bytes) ≡ length bytes
+bytes_count : (type : IntegerType) (start : ℕ) (bytes : List ℕ) →
+    member_count (byte_members type start bytes) ≡ length bytes
 bytes_count type start [] = refl
 bytes_count type start (byte ∷ bytes) = omega (arith, bytes_count type (start + type.width) bytes)
 
 -- integers of a byte each as members without names, of which none is left out
-bytes_text : (style : Style) (limit : Option ℕ) (type : IntegerType) (first : Bool) (place start : ℕ) (bytes : List ℕ) → is_cut limit (place + length bytes) ≡ false
-    → styled_members style limit ArrayLabel place first (byte_members type start bytes) ≡ byte_row_text style.numbers type first bytes
+bytes_text : (style : Style) (limit : Option ℕ) (type : IntegerType) (first : Bool) (place start : ℕ) (bytes : List ℕ)
+    → is_cut limit (place + length bytes) ≡ false
+    → styled_members style limit ArrayLabel place first (byte_members type start bytes)
+    ≡ byte_row_text style.numbers type first bytes
 bytes_text style limit type first place start [] whole = refl
 bytes_text style limit type first place start (byte ∷ bytes) whole =
-    let before : is_past limit place ≡ false = whole_before limit (place + suc (length bytes)) place whole (omega arith) in
+    let before : is_past limit place ≡ false =
+    whole_before limit (place + suc (length bytes)) place whole (omega arith) in
     let on : place + suc (length bytes) ≡ suc place + length bytes = omega arith in
-    rw before (ap (λ text. (comma first ++ integer_in style.numbers type (with_sign type byte)) ++ text) (bytes_text style limit type false (suc place) (start + type.width) bytes (rw on at whole)))
+    rw before (ap (λ text. (comma first ++ integer_in style.numbers type (with_sign type byte)) ++ text)
+    (bytes_text style limit type false (suc place) (start + type.width) bytes (rw on at whole)))
 
-pub byte_row : (style : Style) (type : IntegerType) (bytes : List ℕ) (value : Value) → AreBytesOf type bytes value → is_cut style.elements (member_count (members_of value)) ≡ false
+pub byte_row : (style : Style) (type : IntegerType) (bytes : List ℕ) (value : Value) → AreBytesOf type bytes value
+    → is_cut style.elements (member_count (members_of value)) ≡ false
     → byte_row_text style.numbers type true bytes ≡ elements_text style value
 byte_row style type bytes value are whole =
     let here : length bytes ≡ 0 + length bytes = omega arith in
-    let count : member_count (members_of value) ≡ 0 + length bytes = ap member_count are.members ∙ bytes_count type (start_of value) bytes ∙ here in
-    sym (ap (λ all. styled_members style style.elements ArrayLabel 0 true all) are.members ∙ bytes_text style style.elements type true 0 (start_of value) bytes (rw count at whole))
+    let count : member_count (members_of value) ≡ 0 + length bytes =
+    ap member_count are.members ∙ bytes_count type (start_of value) bytes ∙ here in
+    sym (ap (λ all. styled_members style style.elements ArrayLabel 0 true all) are.members
+    ∙ bytes_text style style.elements type true 0 (start_of value) bytes (rw count at whole))
 
 -- their text from one on
-pub byte_first : (numbers : Numbers) (type : IntegerType) (bytes : List ℕ) (first : Bool) (i : ℕ) (number : ℤ) → i < length bytes → number ≡ with_sign type (get_or bytes i 0)
-    → byte_row_text numbers type first (drop i bytes) ≡ (comma first ++ integer_in numbers type number) ++ byte_row_text numbers type false (drop (i + 1) bytes)
+pub byte_first : (numbers : Numbers) (type : IntegerType) (bytes : List ℕ) (first : Bool) (i : ℕ) (number : ℤ)
+    → i < length bytes → number ≡ with_sign type (get_or bytes i 0)
+    → byte_row_text numbers type first (drop i bytes)
+    ≡ (comma first ++ integer_in numbers type number) ++ byte_row_text numbers type false (drop (i + 1) bytes)
 byte_first numbers type bytes first i number lt is =
     ap (λ bytes. byte_row_text numbers type first bytes) (drop_more bytes i 0 lt)
-    ∙ ap (λ n. (comma first ++ integer_in numbers type n) ++ byte_row_text numbers type false (drop (i + 1) bytes)) (sym is)
+    ∙ ap (λ n. (comma first ++ integer_in numbers type n) ++ byte_row_text numbers type false (drop (i + 1) bytes))
+    (sym is)

@@ -14,7 +14,8 @@ ends_meet at n old one two text within least most first last =
     let front : take (at + m) one ≡ take at old ++ take m text =
     sym (take-take (at + m) (at + n) one (omega (arith, most)))
     ∙ ap (take (at + m)) first
-    ∙ subst (λ k. take (k + m) (take at old ++ take n text) ≡ take at old ++ take m (take n text)) before (take-append-add (take at old) (take n text) m)
+    ∙ subst (λ k. take (k + m) (take at old ++ take n text) ≡ take at old ++ take m (take n text)) before
+    (take-append-add (take at old) (take n text) m)
     ∙ ap (λ s. take at old ++ s) (take-take m n text (omega (arith, most))) in
     let end : at + length text ≡ at + length text - n + n = omega (arith, least) in
     ap (λ k. take k two) end

@@ -35,26 +35,34 @@ trimmed_more (x ∷ xs) byte e = ap (kept_before x) (trimmed_more xs byte e) ∙
 one_more : (bytes : List ℕ) (i : ℕ) → i < length bytes → take (i + 1) bytes ≡ take i bytes ++ get_or bytes i 0 ∷ []
 one_more bytes i h = rw add-one (take-suc bytes i 0 h)
 
-pub kept_zero : (bytes : List ℕ) (end i : ℕ) → i < length bytes → get_or bytes i 0 ≡ 0 → take end bytes ≡ trimmed (take i bytes) → take end bytes ≡ trimmed (take (i + 1) bytes)
-kept_zero bytes end i h e so_far = so_far ∙ sym (ap trimmed (one_more bytes i h ∙ ap (λ b. take i bytes ++ b ∷ []) e) ∙ trimmed_zero (take i bytes))
+pub kept_zero : (bytes : List ℕ) (end i : ℕ) → i < length bytes → get_or bytes i 0 ≡ 0 →
+    take end bytes ≡ trimmed (take i bytes) → take end bytes ≡ trimmed (take (i + 1) bytes)
+kept_zero bytes end i h e so_far =
+    so_far ∙ sym (ap trimmed (one_more bytes i h ∙ ap (λ b. take i bytes ++ b ∷ []) e) ∙ trimmed_zero (take i bytes))
 
-pub kept_more : (bytes : List ℕ) (i : ℕ) → i < length bytes → get_or bytes i 0 ≢ 0 → take (i + 1) bytes ≡ trimmed (take (i + 1) bytes)
-kept_more bytes i h e = one_more bytes i h ∙ sym (ap trimmed (one_more bytes i h) ∙ trimmed_more (take i bytes) (get_or bytes i 0) (isnt (get_or bytes i 0) e))
+pub kept_more : (bytes : List ℕ) (i : ℕ) → i < length bytes → get_or bytes i 0 ≢ 0 →
+    take (i + 1) bytes ≡ trimmed (take (i + 1) bytes)
+kept_more bytes i h e = one_more bytes i h
+    ∙ sym (ap trimmed (one_more bytes i h) ∙ trimmed_more (take i bytes) (get_or bytes i 0) (isnt (get_or bytes i 0) e))
   where
     isnt : (n : ℕ) → n ≢ 0 → (n == 0) ≡ false
     isnt n e = grind arith
 
-pub kept_all : (bytes : List ℕ) (end i : ℕ) → length bytes ≤ i → take end bytes ≡ trimmed (take i bytes) → take end bytes ≡ trimmed bytes
+pub kept_all : (bytes : List ℕ) (end i : ℕ) → length bytes ≤ i → take end bytes ≡ trimmed (take i bytes) →
+    take end bytes ≡ trimmed bytes
 kept_all bytes end i h e = e ∙ ap trimmed (take_all i bytes h)
 
 -- one byte of what is kept
 pub text_next : (bytes : List ℕ) (count i byte : ℕ) → count ≤ length bytes → i < count → byte ≡ get_or bytes i 0
-    → bytes_text (drop i (take count bytes)) ≡ spelled_byte escape_text byte ++ bytes_text (drop (i + 1) (take count bytes))
+    → bytes_text (drop i (take count bytes))
+    ≡ spelled_byte escape_text byte ++ bytes_text (drop (i + 1) (take count bytes))
 text_next bytes count i byte most h is =
     let lt : i < length (take count bytes) = omega (arith, length-take count bytes) in
-    let front : drop i (take count bytes) ≡ get_or (take count bytes) i 0 ∷ drop (i + 1) (take count bytes) = rw add-one (drop-cons (take count bytes) i 0 lt) in
+    let front : drop i (take count bytes) ≡ get_or (take count bytes) i 0 ∷ drop (i + 1) (take count bytes) =
+    rw add-one (drop-cons (take count bytes) i 0 lt) in
     ap bytes_text front
-    ∙ ap (λ b. spelled_byte escape_text b ++ bytes_text (drop (i + 1) (take count bytes))) (get_or-take count bytes i 0 h ∙ sym is)
+    ∙ ap (λ b. spelled_byte escape_text b ++ bytes_text (drop (i + 1) (take count bytes)))
+    (get_or-take count bytes i 0 h ∙ sym is)
 
 pub text_end : (bytes : List ℕ) (count i : ℕ) → count ≤ i → bytes_text (drop i (take count bytes)) ≡ []
 text_end bytes count i h = ap bytes_text (drop_all i (take count bytes) (omega (arith, length-take count bytes)))

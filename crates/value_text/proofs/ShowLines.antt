@@ -15,7 +15,8 @@ use Rattle.value_text.specs.ShowText.{View, margin, name_cell, found_name, is_ar
 use Rattle.value_text.specs.ShowParts.{is_inline_if, whole_text, rest_text, part_text, start_text, all_inline_text, braced_text}
 use Rattle.value_text.proofs.MemberTexts.{members_from, with_member, from_at, from_end}
 
-rest_is : (view : View) (level : ℕ) (inner : Bool) (of : Option ℕ) (value : Value) → shown_rest view level inner of value ≡ rest_text view level inner of value
+rest_is : (view : View) (level : ℕ) (inner : Bool) (of : Option ℕ) (value : Value) →
+    shown_rest view level inner of value ≡ rest_text view level inner of value
 rest_is view level inner of (Mapped label start end members) = refl
 
 pub show_is : (view : View) (of : Option ℕ) (value : Value) → show_text view of value ≡ whole_text view of value
@@ -58,7 +59,8 @@ array_isnt (UnionLabel name index alternative) e = refl
 
 pub ruleset by_array = (array_is, array_isnt)
 
-pub name_of_element : (label : Label) (place : ℕ) → kind.Array ≡ kind_of label → name_cell label place ≡ codes " " ++ in_brackets place
+pub name_of_element : (label : Label) (place : ℕ) → kind.Array ≡ kind_of label →
+    name_cell label place ≡ codes " " ++ in_brackets place
 name_of_element (IntegerLabel number type) place e = cc
 name_of_element (OffsetLabel magnitude type unit) place e = cc
 name_of_element (TextLabel bytes) place e = cc
@@ -66,7 +68,8 @@ name_of_element ArrayLabel place e = refl
 name_of_element (StructLabel name fields) place e = cc
 name_of_element (UnionLabel name index alternative) place e = cc
 
-pub name_of_field : (label : Label) (place : ℕ) → kind_of label ≢ kind.Array → name_cell label place ≡ found_name (member_name label place)
+pub name_of_field : (label : Label) (place : ℕ) → kind_of label ≢ kind.Array →
+    name_cell label place ≡ found_name (member_name label place)
 name_of_field (IntegerLabel number type) place e = refl
 name_of_field (OffsetLabel magnitude type unit) place e = refl
 name_of_field (TextLabel bytes) place e = refl
@@ -76,7 +79,8 @@ name_of_field (UnionLabel name index alternative) place e = refl
 
 pub ruleset by_name = (name_of_element, name_of_field)
 
-pub byte_integer : (label : Label) → kind.Integer ≡ kind_of label → is_byte_label label ≡ (width_of label == 8) && not (signed_of label)
+pub byte_integer : (label : Label) → kind.Integer ≡ kind_of label →
+    is_byte_label label ≡ (width_of label == 8) && not (signed_of label)
 byte_integer (IntegerLabel number type) e = refl
 byte_integer (OffsetLabel magnitude type unit) e = cc
 byte_integer (TextLabel bytes) e = cc
@@ -110,7 +114,8 @@ number_offset ArrayLabel e = cc
 number_offset (StructLabel name fields) e = cc
 number_offset (UnionLabel name index alternative) e = cc
 
-pub number_other : (label : Label) → kind_of label ≢ kind.Integer → kind_of label ≢ kind.Offset → is_number_label label ≡ false
+pub number_other : (label : Label) → kind_of label ≢ kind.Integer → kind_of label ≢ kind.Offset →
+    is_number_label label ≡ false
 number_other (IntegerLabel number type) e f = absurd (e refl)
 number_other (OffsetLabel magnitude type unit) e f = absurd (f refl)
 number_other (TextLabel bytes) e f = refl
@@ -153,7 +158,8 @@ line_array (Mapped ArrayLabel start end _) e = refl
 line_array (Mapped (StructLabel name fields) start end _) e = cc
 line_array (Mapped (UnionLabel name index alternative) start end _) e = cc
 
-pub line_struct : (v : Value) → kind.Struct ≡ kind_of (label_of v) → is_inline v ≡ nat_le (end_of v - start_of v) 64 && any_present (members_of v) && are_inline (members_of v)
+pub line_struct : (v : Value) → kind.Struct ≡ kind_of (label_of v) →
+    is_inline v ≡ nat_le (end_of v - start_of v) 64 && any_present (members_of v) && are_inline (members_of v)
 line_struct (Mapped (IntegerLabel number type) start end _) e = cc
 line_struct (Mapped (OffsetLabel magnitude type unit) start end _) e = cc
 line_struct (Mapped (TextLabel bytes) start end _) e = cc
@@ -172,7 +178,8 @@ line_union (Mapped (UnionLabel name index alternative) start end _) e = refl
 pub ruleset by_line = (line_integer, line_offset, line_string, line_array, line_struct, line_union)
 
 -- the text of a value on its line
-pub inline_integer : (most : Option ℕ) (v : Value) → kind.Integer ≡ kind_of (label_of v) → inline_text most v ≡ shown_number (number_of (label_of v))
+pub inline_integer : (most : Option ℕ) (v : Value) → kind.Integer ≡ kind_of (label_of v) →
+    inline_text most v ≡ shown_number (number_of (label_of v))
 inline_integer most (Mapped (IntegerLabel number type) start end _) e = refl
 inline_integer most (Mapped (OffsetLabel magnitude type unit) start end _) e = cc
 inline_integer most (Mapped (TextLabel bytes) start end _) e = cc
@@ -180,7 +187,8 @@ inline_integer most (Mapped ArrayLabel start end _) e = cc
 inline_integer most (Mapped (StructLabel name fields) start end _) e = cc
 inline_integer most (Mapped (UnionLabel name index alternative) start end _) e = cc
 
-pub inline_offset : (most : Option ℕ) (v : Value) → kind.Offset ≡ kind_of (label_of v) → inline_text most v ≡ shown_offset (unit_of (label_of v)) (number_of (label_of v))
+pub inline_offset : (most : Option ℕ) (v : Value) → kind.Offset ≡ kind_of (label_of v) →
+    inline_text most v ≡ shown_offset (unit_of (label_of v)) (number_of (label_of v))
 inline_offset most (Mapped (IntegerLabel number type) start end _) e = cc
 inline_offset most (Mapped (OffsetLabel magnitude type unit) start end _) e = refl
 inline_offset most (Mapped (TextLabel bytes) start end _) e = cc
@@ -188,7 +196,8 @@ inline_offset most (Mapped ArrayLabel start end _) e = cc
 inline_offset most (Mapped (StructLabel name fields) start end _) e = cc
 inline_offset most (Mapped (UnionLabel name index alternative) start end _) e = cc
 
-pub inline_string : (most : Option ℕ) (v : Value) → kind.Text ≡ kind_of (label_of v) → inline_text most v ≡ shown_string most (bytes_of (label_of v))
+pub inline_string : (most : Option ℕ) (v : Value) → kind.Text ≡ kind_of (label_of v) →
+    inline_text most v ≡ shown_string most (bytes_of (label_of v))
 inline_string most (Mapped (IntegerLabel number type) start end _) e = cc
 inline_string most (Mapped (OffsetLabel magnitude type unit) start end _) e = cc
 inline_string most (Mapped (TextLabel bytes) start end _) e = refl
@@ -204,7 +213,8 @@ inline_array most (Mapped ArrayLabel start end _) e = refl
 inline_array most (Mapped (StructLabel name fields) start end _) e = cc
 inline_array most (Mapped (UnionLabel name index alternative) start end _) e = cc
 
-pub inline_struct : (most : Option ℕ) (v : Value) → kind.Struct ≡ kind_of (label_of v) → inline_text most v ≡ all_inline_text most v
+pub inline_struct : (most : Option ℕ) (v : Value) → kind.Struct ≡ kind_of (label_of v) →
+    inline_text most v ≡ all_inline_text most v
 inline_struct most (Mapped (IntegerLabel number type) start end _) e = cc
 inline_struct most (Mapped (OffsetLabel magnitude type unit) start end _) e = cc
 inline_struct most (Mapped (TextLabel bytes) start end _) e = cc
@@ -212,7 +222,8 @@ inline_struct most (Mapped ArrayLabel start end _) e = cc
 inline_struct most (Mapped (StructLabel name fields) start end _) e = refl
 inline_struct most (Mapped (UnionLabel name index alternative) start end _) e = cc
 
-pub inline_union : (most : Option ℕ) (v : Value) → kind.Union ≡ kind_of (label_of v) → inline_text most v ≡ all_inline_text most v
+pub inline_union : (most : Option ℕ) (v : Value) → kind.Union ≡ kind_of (label_of v) →
+    inline_text most v ≡ all_inline_text most v
 inline_union most (Mapped (IntegerLabel number type) start end _) e = cc
 inline_union most (Mapped (OffsetLabel magnitude type unit) start end _) e = cc
 inline_union most (Mapped (TextLabel bytes) start end _) e = cc
@@ -223,27 +234,37 @@ inline_union most (Mapped (UnionLabel name index alternative) start end _) e = r
 pub ruleset by_inline = (inline_integer, inline_offset, inline_string, inline_array, inline_struct, inline_union)
 
 -- the members on a line, one after the other
-pub inline_present : (most : Option ℕ) (label : Label) (all : Members) (i : ℕ) (first : Bool) (value : Value) → i < member_count all → Some value ≡ member_at all i
+pub inline_present : (most : Option ℕ) (label : Label) (all : Members) (i : ℕ) (first : Bool) (value : Value)
+    → i < member_count all → Some value ≡ member_at all i
     → inline_members most label i first (members_from i all)
-    ≡ ((separator first ++ inline_name (member_name label i)) ++ braced_text most value) ++ inline_members most label (i + 1) false (members_from (i + 1) all)
+    ≡ ((separator first ++ inline_name (member_name label i)) ++ braced_text most value)
+    ++ inline_members most label (i + 1) false (members_from (i + 1) all)
 inline_present most label all i first value lt is =
-    ap (inline_members most label i first) (from_at all i lt ∙ ap (λ o. with_member o (members_from (i + 1) all)) (sym is))
-    ∙ ap (λ n. ((separator first ++ inline_name (member_name label i)) ++ braced_text most value) ++ inline_members most label n false (members_from (i + 1) all)) (sym (add-one i))
+    ap (inline_members most label i first)
+    (from_at all i lt ∙ ap (λ o. with_member o (members_from (i + 1) all)) (sym is))
+    ∙ ap (λ n. ((separator first ++ inline_name (member_name label i)) ++ braced_text most value)
+    ++ inline_members most label n false (members_from (i + 1) all)) (sym (add-one i))
 
-pub inline_absent : (most : Option ℕ) (label : Label) (all : Members) (i : ℕ) (first : Bool) → i < member_count all → None ≡ member_at all i
-    → inline_members most label i first (members_from i all) ≡ inline_members most label (i + 1) first (members_from (i + 1) all)
+pub inline_absent : (most : Option ℕ) (label : Label) (all : Members) (i : ℕ) (first : Bool) → i < member_count all
+    → None ≡ member_at all i
+    → inline_members most label i first (members_from i all)
+    ≡ inline_members most label (i + 1) first (members_from (i + 1) all)
 inline_absent most label all i first lt is =
-    ap (inline_members most label i first) (from_at all i lt ∙ ap (λ o. with_member o (members_from (i + 1) all)) (sym is))
+    ap (inline_members most label i first)
+    (from_at all i lt ∙ ap (λ o. with_member o (members_from (i + 1) all)) (sym is))
     ∙ ap (λ n. inline_members most label n first (members_from (i + 1) all)) (sym (add-one i))
 
-pub inline_end : (most : Option ℕ) (label : Label) (all : Members) (i : ℕ) (first : Bool) → member_count all ≤ i → inline_members most label i first (members_from i all) ≡ []
+pub inline_end : (most : Option ℕ) (label : Label) (all : Members) (i : ℕ) (first : Bool) → member_count all ≤ i →
+    inline_members most label i first (members_from i all) ≡ []
 inline_end most label all i first h = ap (inline_members most label i first) (from_end all i h)
 
 -- whether the members from a place on go on the line
-pub are_inline_at : (all : Members) (i : ℕ) → i < member_count all → are_inline (members_from i all) ≡ is_inline_if (member_at all i) && are_inline (members_from (i + 1) all)
+pub are_inline_at : (all : Members) (i : ℕ) → i < member_count all →
+    are_inline (members_from i all) ≡ is_inline_if (member_at all i) && are_inline (members_from (i + 1) all)
 are_inline_at all i lt = ap are_inline (from_at all i lt) ∙ by_member (member_at all i) (members_from (i + 1) all)
   where
-    by_member : (member : Option Value) (rest : Members) → are_inline (with_member member rest) ≡ is_inline_if member && are_inline rest
+    by_member : (member : Option Value) (rest : Members) →
+        are_inline (with_member member rest) ≡ is_inline_if member && are_inline rest
     by_member None rest = refl
     by_member (Some value) rest = refl
 
@@ -259,27 +280,39 @@ below_count : (most : Option ℕ) (count i : ℕ) → i < at_most most count →
 below_count None count i h = h
 below_count (Some m) count i h = omega arith
 
-pub parts_present : (view : View) (level : ℕ) (of : Option ℕ) (label : Label) (all : Members) (i : ℕ) (value : Value) → i < at_most (cut_of view.elements label) (member_count all) → Some value ≡ member_at all i
-    → shown_parts view level of label i (members_from i all) ≡ part_text view level of label i value ++ shown_parts view level of label (i + 1) (members_from (i + 1) all)
+pub parts_present : (view : View) (level : ℕ) (of : Option ℕ) (label : Label) (all : Members) (i : ℕ) (value : Value)
+    → i < at_most (cut_of view.elements label) (member_count all) → Some value ≡ member_at all i
+    → shown_parts view level of label i (members_from i all)
+    ≡ part_text view level of label i value ++ shown_parts view level of label (i + 1) (members_from (i + 1) all)
 parts_present view level of label all i value h is =
     let here = within_at (cut_of view.elements label) (member_count all) i h in
     let lt = below_count (cut_of view.elements label) (member_count all) i h in
-    ap (shown_parts view level of label i) (from_at all i lt ∙ ap (λ o. with_member o (members_from (i + 1) all)) (sym is))
+    ap (shown_parts view level of label i)
+    (from_at all i lt ∙ ap (λ o. with_member o (members_from (i + 1) all)) (sym is))
     ∙ shown here
-    ∙ ap (λ n. part_text view level of label i value ++ shown_parts view level of label n (members_from (i + 1) all)) (sym (add-one i))
+    ∙ ap (λ n. part_text view level of label i value ++ shown_parts view level of label n (members_from (i + 1) all))
+    (sym (add-one i))
   where
     shown : within (cut_of view.elements label) i ≡ true
-        → shown_parts view level of label i (MemberThen value (members_from (i + 1) all)) ≡ part_text view level of label i value ++ shown_parts view level of label (suc i) (members_from (i + 1) all)
-    shown here = rw here (ap (λ s. (start_text level label i value ++ s) ++ shown_parts view level of label (suc i) (members_from (i + 1) all)) (rest_is view level (is_array label) (part_node view.types.nodes of label i) value))
+        → shown_parts view level of label i (MemberThen value (members_from (i + 1) all))
+        ≡ part_text view level of label i value ++ shown_parts view level of label (suc i) (members_from (i + 1) all)
+    shown here = rw here (ap (λ s.
+        (start_text level label i value ++ s) ++ shown_parts view level of label (suc i) (members_from (i + 1) all))
+        (rest_is view level (is_array label) (part_node view.types.nodes of label i) value))
 
-pub parts_absent : (view : View) (level : ℕ) (of : Option ℕ) (label : Label) (all : Members) (i : ℕ) → i < at_most (cut_of view.elements label) (member_count all) → None ≡ member_at all i
-    → shown_parts view level of label i (members_from i all) ≡ shown_parts view level of label (i + 1) (members_from (i + 1) all)
+pub parts_absent : (view : View) (level : ℕ) (of : Option ℕ) (label : Label) (all : Members) (i : ℕ)
+    → i < at_most (cut_of view.elements label) (member_count all) → None ≡ member_at all i
+    → shown_parts view level of label i (members_from i all)
+    ≡ shown_parts view level of label (i + 1) (members_from (i + 1) all)
 parts_absent view level of label all i h is =
-    ap (shown_parts view level of label i) (from_at all i (below_count (cut_of view.elements label) (member_count all) i h) ∙ ap (λ o. with_member o (members_from (i + 1) all)) (sym is))
+    ap (shown_parts view level of label i)
+    (from_at all i (below_count (cut_of view.elements label) (member_count all) i h)
+    ∙ ap (λ o. with_member o (members_from (i + 1) all)) (sym is))
     ∙ ap (λ n. shown_parts view level of label n (members_from (i + 1) all)) (sym (add-one i))
 
 -- nothing of what is cut off
-cut_off : (view : View) (level : ℕ) (of : Option ℕ) (label : Label) (m i : ℕ) (members : Members) → cut_of view.elements label ≡ Some m → m ≤ i → shown_parts view level of label i members ≡ []
+cut_off : (view : View) (level : ℕ) (of : Option ℕ) (label : Label) (m i : ℕ) (members : Members) →
+    cut_of view.elements label ≡ Some m → m ≤ i → shown_parts view level of label i members ≡ []
 cut_off view level of label m i NoMembers e h = refl
 cut_off view level of label m i (AbsentThen rest) e h = cut_off view level of label m (suc i) rest e (omega arith)
 cut_off view level of label m i (MemberThen value rest) e h =
@@ -289,10 +322,13 @@ cut_off view level of label m i (MemberThen value rest) e h =
     not_below : (i m : ℕ) → m ≤ i → nat_lt i m ≡ false
     not_below i m h = grind arith
 
-pub parts_end : (view : View) (level : ℕ) (of : Option ℕ) (label : Label) (all : Members) (i : ℕ) → at_most (cut_of view.elements label) (member_count all) ≤ i → shown_parts view level of label i (members_from i all) ≡ []
+pub parts_end : (view : View) (level : ℕ) (of : Option ℕ) (label : Label) (all : Members) (i : ℕ) →
+    at_most (cut_of view.elements label) (member_count all) ≤ i →
+    shown_parts view level of label i (members_from i all) ≡ []
 parts_end view level of label all i h = by_most (cut_of view.elements label) refl h
   where
-    by_most : (most : Option ℕ) → cut_of view.elements label ≡ most → at_most most (member_count all) ≤ i → shown_parts view level of label i (members_from i all) ≡ []
+    by_most : (most : Option ℕ) → cut_of view.elements label ≡ most → at_most most (member_count all) ≤ i →
+        shown_parts view level of label i (members_from i all) ≡ []
     by_most None e h = ap (shown_parts view level of label i) (from_end all i h)
     by_most (Some m) e h = elim (cases_lt i m) [
       | inl lt ↦ ap (shown_parts view level of label i) (from_end all i (omega arith))
@@ -300,8 +336,10 @@ parts_end view level of label all i h = by_most (cut_of view.elements label) ref
     ]
 
 -- the pieces of a line from a place on
-pub flat_first : (f : ℕ → List ℕ) (i end : ℕ) → i < end → flat_map f (range_with_len i (end - i)) ≡ f i ++ flat_map f (range_with_len (i + 1) (end - (i + 1)))
-flat_first f i end h = let e : end - i ≡ suc (end - (i + 1)) = omega arith in ap (λ n. flat_map f (range_with_len i n)) e
+pub flat_first : (f : ℕ → List ℕ) (i end : ℕ) → i < end →
+    flat_map f (range_with_len i (end - i)) ≡ f i ++ flat_map f (range_with_len (i + 1) (end - (i + 1)))
+flat_first f i end h =
+    let e : end - i ≡ suc (end - (i + 1)) = omega arith in ap (λ n. flat_map f (range_with_len i n)) e
 
 pub flat_none : (f : ℕ → List ℕ) (i end : ℕ) → end ≤ i → flat_map f (range_with_len i (end - i)) ≡ []
 flat_none f i end h = let e : end - i ≡ 0 = omega arith in ap (λ n. flat_map f (range_with_len i n)) e
@@ -315,16 +353,19 @@ past_end (MemberThen value rest) (suc i) h = past_end rest i (omega (arith, h))
 past_end (AbsentThen rest) (suc i) h = past_end rest i (omega (arith, h))
 
 -- a dump of all rows, and one that is cut
-pub dump_all : (level : ℕ) (members : Members) → dump_text level None members ≡ rows_text level ((member_count members + 15) / 16) members
+pub dump_all : (level : ℕ) (members : Members) →
+    dump_text level None members ≡ rows_text level ((member_count members + 15) / 16) members
 dump_all level members = append-nil (rows_text level ((member_count members + 15) / 16) members)
 
-pub dump_whole : (level most : ℕ) (members : Members) → (member_count members + 15) / 16 ≤ most → dump_text level (Some most) members ≡ rows_text level ((member_count members + 15) / 16) members
+pub dump_whole : (level most : ℕ) (members : Members) → (member_count members + 15) / 16 ≤ most →
+    dump_text level (Some most) members ≡ rows_text level ((member_count members + 15) / 16) members
 dump_whole level most members h =
     let rows : min ((member_count members + 15) / 16) most ≡ (member_count members + 15) / 16 = omega arith in
     let none : member_at members (16 * most) ≡ None = past_end members (16 * most) (omega arith) in
     rw (rows, none) (append-nil (rows_text level ((member_count members + 15) / 16) members))
 
-pub dump_cut : (level most : ℕ) (members : Members) → most < (member_count members + 15) / 16 → dump_text level (Some most) members ≡ rows_text level most members ++ rest_from level members (16 * most)
+pub dump_cut : (level most : ℕ) (members : Members) → most < (member_count members + 15) / 16 →
+    dump_text level (Some most) members ≡ rows_text level most members ++ rest_from level members (16 * most)
 dump_cut level most members h =
     let rows : min ((member_count members + 15) / 16) most ≡ most = omega arith in
     rw rows refl

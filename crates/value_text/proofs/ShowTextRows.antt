@@ -74,7 +74,8 @@ unfolding shown_offset shown_number digits
 negative_offset = refl
 
 -- strings with escapes, whole and cut after a line of 16 bytes
-a_string : show_text bare None (Mapped (TextLabel (codes "a\tb\"" ++ 27 ∷ [])) 8 56 NoMembers) ≡ codes "00000001    = \"a\\tb\\\"\\x1b\"\n"
+a_string : show_text bare None (Mapped (TextLabel (codes "a\tb\"" ++ 27 ∷ [])) 8 56 NoMembers)
+    ≡ codes "00000001    = \"a\\tb\\\"\\x1b\"\n"
 unfolding byte_place hex_text string_text digits
 a_string = refl
 
@@ -83,16 +84,20 @@ unfolding string_text digits
 cut_string = refl
 
 -- a struct of at most 64 bits on one line, with another one in it, and a nameless field
-one_line : show_text bare None (Mapped (StructLabel (Some (codes "Flags")) (Some (codes "a") ∷ Some (codes "b") ∷ None ∷ [])) 0 16
-    (MemberThen (number 0 4 1) (MemberThen (Mapped (StructLabel None (Some (codes "c") ∷ Some (codes "d") ∷ [])) 4 8 (MemberThen (number 4 2 2) (MemberThen (number 6 2 3) NoMembers)))
+one_line : show_text bare None
+    (Mapped (StructLabel (Some (codes "Flags")) (Some (codes "a") ∷ Some (codes "b") ∷ None ∷ [])) 0 16
+    (MemberThen (number 0 4 1) (MemberThen (Mapped (StructLabel None (Some (codes "c") ∷ Some (codes "d") ∷ [])) 4 8
+    (MemberThen (number 4 2 2) (MemberThen (number 6 2 3) NoMembers)))
     (MemberThen (number 8 8 255) NoMembers))))
     ≡ codes "00000000    Flags = a 1, b {c 2, d 3}, 255 0xff\n"
 unfolding shown_number byte_place hex_text digits
 one_line = refl
 
 -- a struct with a string, whose first field is absent
-fields : show_text bare None (Mapped (StructLabel (Some (codes "P")) (Some (codes "f") ∷ Some (codes "s") ∷ Some (codes "n") ∷ [])) 0 88
-    (AbsentThen (MemberThen (Mapped (TextLabel (codes "text")) 0 40 NoMembers) (MemberThen (number 40 48 7) NoMembers))))
+fields : show_text bare None
+    (Mapped (StructLabel (Some (codes "P")) (Some (codes "f") ∷ Some (codes "s") ∷ Some (codes "n") ∷ [])) 0 88
+    (AbsentThen
+    (MemberThen (Mapped (TextLabel (codes "text")) 0 40 NoMembers) (MemberThen (number 40 48 7) NoMembers))))
     ≡ codes "00000000    P\n00000000      s = \"text\"\n00000005      n = 7\n"
 unfolding shown_number byte_place hex_text string_text digits
 fields = refl
@@ -102,12 +107,15 @@ unfolding byte_place hex_text digits
 no_field = refl
 
 -- a union with a number, and one with a struct of more bits
-union_of_number : show_text bare None (Mapped (UnionLabel (Some (codes "U")) 1 (Some (codes "b"))) 8 16 (MemberThen (number 8 8 2) NoMembers)) ≡ codes "00000001    U = b 2\n"
+union_of_number : show_text bare None
+    (Mapped (UnionLabel (Some (codes "U")) 1 (Some (codes "b"))) 8 16 (MemberThen (number 8 8 2) NoMembers))
+    ≡ codes "00000001    U = b 2\n"
 unfolding shown_number byte_place hex_text digits
 union_of_number = refl
 
 union_of_struct : show_text bare None (Mapped (UnionLabel None 0 (Some (codes "a"))) 0 128
-    (MemberThen (Mapped (StructLabel (Some (codes "S")) (Some (codes "x") ∷ Some (codes "y") ∷ [])) 0 128 (MemberThen (number 0 64 1) (MemberThen (number 64 64 2) NoMembers))) NoMembers))
+    (MemberThen (Mapped (StructLabel (Some (codes "S")) (Some (codes "x") ∷ Some (codes "y") ∷ [])) 0 128
+    (MemberThen (number 0 64 1) (MemberThen (number 64 64 2) NoMembers))) NoMembers))
     ≡ codes "00000000    union\n00000000      a S\n00000000        x = 1\n00000008        y = 2\n"
 unfolding shown_number byte_place hex_text digits
 union_of_struct = refl
@@ -118,22 +126,27 @@ deep most = record { types = record { nodes = []; letters = None }; elements = S
 
 abbrev nest : Value
 nest = Mapped (StructLabel None (Some (codes "a") ∷ Some (codes "b") ∷ Some (codes "c") ∷ [])) 0 64
-    (MemberThen (number 0 8 1) (MemberThen (Mapped ArrayLabel 8 16 (MemberThen (Mapped ArrayLabel 8 16 (MemberThen (number 8 8 65) NoMembers)) NoMembers)) (MemberThen (Mapped ArrayLabel 16 16 NoMembers) NoMembers)))
+    (MemberThen (number 0 8 1) (MemberThen
+    (Mapped ArrayLabel 8 16 (MemberThen (Mapped ArrayLabel 8 16 (MemberThen (number 8 8 65) NoMembers)) NoMembers))
+    (MemberThen (Mapped ArrayLabel 16 16 NoMembers) NoMembers)))
 
 no_level : show_text (deep 0) None nest ≡ codes "00000000    struct ..\n"
 unfolding byte_place hex_text digits
 no_level = refl
 
-one_level : show_text (deep 1) None nest ≡ codes "00000000    struct\n00000000      a = 1\n00000001      b [1] ..\n00000002      c [0]\n"
+one_level : show_text (deep 1) None nest
+    ≡ codes "00000000    struct\n00000000      a = 1\n00000001      b [1] ..\n00000002      c [0]\n"
 unfolding shown_number byte_place hex_text digits
 one_level = refl
 
-two_levels : show_text (deep 2) None nest ≡ codes "00000000    struct\n00000000      a = 1\n00000001      b [1]\n00000001        [0] [1] ..\n00000002      c [0]\n"
+two_levels : show_text (deep 2) None nest ≡ codes
+    "00000000    struct\n00000000      a = 1\n00000001      b [1]\n00000001        [0] [1] ..\n00000002      c [0]\n"
 unfolding shown_number byte_place hex_text digits
 two_levels = refl
 
 -- arrays of numbers: on one line, of too many bits, cut, and empty
-numbers : show_text bare None (Mapped ArrayLabel 0 32 (MemberThen (number 0 16 1) (MemberThen (number 16 16 65535) NoMembers)))
+numbers : show_text bare None
+    (Mapped ArrayLabel 0 32 (MemberThen (number 0 16 1) (MemberThen (number 16 16 65535) NoMembers)))
     ≡ codes "00000000    [2] = 1, 65535 0xffff\n"
 unfolding shown_number byte_place hex_text digits
 numbers = refl
@@ -148,11 +161,13 @@ unfolding shown_number byte_place hex_text digits
 five_numbers = refl
 
 six_numbers : show_text (cut 6) None (Mapped ArrayLabel 0 384 (sevens 0 6))
-    ≡ codes "00000000    [6]\n00000000      [0] = 7\n00000008      [1] = 7\n00000010      [2] = 7\n00000018      [3] = 7\n00000020      [4] = 7\n00000028      [5] = 7\n"
+    ≡ codes
+    "00000000    [6]\n00000000      [0] = 7\n00000008      [1] = 7\n00000010      [2] = 7\n00000018      [3] = 7\n00000020      [4] = 7\n00000028      [5] = 7\n"
 unfolding shown_number byte_place hex_text digits
 six_numbers = refl
 
-cut_numbers : show_text (cut 1) None (Mapped ArrayLabel 0 48 (MemberThen (number 0 16 1) (MemberThen (number 16 16 2) (MemberThen (number 32 16 3) NoMembers))))
+cut_numbers : show_text (cut 1) None (Mapped ArrayLabel 0 48
+    (MemberThen (number 0 16 1) (MemberThen (number 16 16 2) (MemberThen (number 32 16 3) NoMembers))))
     ≡ codes "00000000    [3]\n00000000      [0] = 1\n00000002      ..+2\n"
 unfolding shown_number byte_place hex_text digits
 cut_numbers = refl
@@ -173,7 +188,8 @@ unfolding columns shown_letters byte_place hex_text digits
 dump = refl
 
 cut_dump : show_text (cut 1) None (Mapped ArrayLabel 0 144 (bytes_from 0 0 (codes "0123456789abcdefgh")))
-    ≡ codes "00000000    [18]\n00000000      3031 3233 3435 3637 3839 6162 6364 6566  0123456789abcdef\n00000010      ..+2\n"
+    ≡ codes
+    "00000000    [18]\n00000000      3031 3233 3435 3637 3839 6162 6364 6566  0123456789abcdef\n00000010      ..+2\n"
 unfolding columns shown_letters byte_place hex_text digits
 cut_dump = refl
 
@@ -194,22 +210,27 @@ abbrev typed : View
 typed = record { types = record { nodes = types; letters = Some 0 }; elements = Some 16; depth = None; dim = false }
 
 -- an array of `char` as a text, without the zeros at its end
-a_text : show_text typed (Some 1) (Mapped ArrayLabel 0 48 (bytes_from 0 0 (codes "boot" ++ 0 ∷ 0 ∷ []))) ≡ codes "00000000    char[6] = \"boot\"\n"
+a_text : show_text typed (Some 1) (Mapped ArrayLabel 0 48 (bytes_from 0 0 (codes "boot" ++ 0 ∷ 0 ∷ [])))
+    ≡ codes "00000000    char[6] = \"boot\"\n"
 unfolding node_word byte_place hex_text string_text digits
 a_text = refl
 
 -- an array of arrays of bytes
-arrays : show_text typed (Some 4) (Mapped ArrayLabel 0 8 (MemberThen (Mapped ArrayLabel 0 8 (MemberThen (number 0 8 65) NoMembers)) NoMembers))
+arrays : show_text typed (Some 4)
+    (Mapped ArrayLabel 0 8 (MemberThen (Mapped ArrayLabel 0 8 (MemberThen (number 0 8 65) NoMembers)) NoMembers))
     ≡ codes "00000000    byte[][1]\n00000000      [0] [1]\n00000000        41                                       A\n"
 unfolding node_word columns shown_letters byte_place hex_text digits
 arrays = refl
 
-an_offset : show_text typed (Some 5) (Mapped (OffsetLabel (pos 2) (unsigned 8) 8) 0 8 NoMembers) ≡ codes "00000000    offset<uint<8>,B> = 2 B\n"
+an_offset : show_text typed (Some 5) (Mapped (OffsetLabel (pos 2) (unsigned 8) 8) 0 8 NoMembers)
+    ≡ codes "00000000    offset<uint<8>,B> = 2 B\n"
 unfolding node_word shown_offset shown_number byte_place hex_text digits
 an_offset = refl
 
 -- a type in a dim colour
-dim_type : show_text (record { types = record { nodes = types; letters = Some 0 }; elements = None; depth = None; dim = true }) (Some 2) (number 0 8 7)
+dim_type : show_text
+    (record { types = record { nodes = types; letters = Some 0 }; elements = None; depth = None; dim = true })
+    (Some 2) (number 0 8 7)
     ≡ codes "00000000    " ++ 27 ∷ codes "[2mbyte" ++ 27 ∷ codes "[22m = 7\n"
 unfolding node_word shown_number byte_place hex_text digits
 dim_type = refl

@@ -12,7 +12,8 @@ use Rattle.text_output.specs.Brackets.{in_brackets}
 use Rattle.value_text.specs.ValueText.{title_text}
 use Rattle.value_text.specs.TypeWords.{Known, is_letter, found_word, inner_word, bare_word, known_word, some_word, node_word}
 
-pub inner_array : (label : Label) (count : ℕ) → kind.Array ≡ kind_of label → inner_word label count ≡ Some (in_brackets count)
+pub inner_array : (label : Label) (count : ℕ) → kind.Array ≡ kind_of label →
+    inner_word label count ≡ Some (in_brackets count)
 inner_array (IntegerLabel number type) count e = cc
 inner_array (OffsetLabel magnitude type unit) count e = cc
 inner_array (TextLabel bytes) count e = cc
@@ -54,7 +55,8 @@ bare_string ArrayLabel count e = cc
 bare_string (StructLabel name fields) count e = cc
 bare_string (UnionLabel name index alternative) count e = cc
 
-pub bare_array : (label : Label) (count : ℕ) → kind.Array ≡ kind_of label → bare_word label count ≡ Some (in_brackets count)
+pub bare_array : (label : Label) (count : ℕ) → kind.Array ≡ kind_of label →
+    bare_word label count ≡ Some (in_brackets count)
 bare_array (IntegerLabel number type) count e = cc
 bare_array (OffsetLabel magnitude type unit) count e = cc
 bare_array (TextLabel bytes) count e = cc
@@ -62,7 +64,8 @@ bare_array ArrayLabel count e = refl
 bare_array (StructLabel name fields) count e = cc
 bare_array (UnionLabel name index alternative) count e = cc
 
-pub bare_struct : (label : Label) (count : ℕ) → kind.Struct ≡ kind_of label → bare_word label count ≡ Some (title_text (codes "struct") (name_of label))
+pub bare_struct : (label : Label) (count : ℕ) → kind.Struct ≡ kind_of label →
+    bare_word label count ≡ Some (title_text (codes "struct") (name_of label))
 bare_struct (IntegerLabel number type) count e = cc
 bare_struct (OffsetLabel magnitude type unit) count e = cc
 bare_struct (TextLabel bytes) count e = cc
@@ -70,7 +73,8 @@ bare_struct ArrayLabel count e = cc
 bare_struct (StructLabel name fields) count e = refl
 bare_struct (UnionLabel name index alternative) count e = cc
 
-pub bare_union : (label : Label) (count : ℕ) → kind.Union ≡ kind_of label → bare_word label count ≡ Some (title_text (codes "union") (name_of label))
+pub bare_union : (label : Label) (count : ℕ) → kind.Union ≡ kind_of label →
+    bare_word label count ≡ Some (title_text (codes "union") (name_of label))
 bare_union (IntegerLabel number type) count e = cc
 bare_union (OffsetLabel magnitude type unit) count e = cc
 bare_union (TextLabel bytes) count e = cc
@@ -89,7 +93,8 @@ known_array types of ArrayLabel count e = refl
 known_array types of (StructLabel name fields) count e = cc
 known_array types of (UnionLabel name index alternative) count e = cc
 
-pub known_other : (types : Known) (of : ℕ) (label : Label) (count : ℕ) → kind_of label ≢ kind.Array → known_word types of label count ≡ node_word 8 types of
+pub known_other : (types : Known) (of : ℕ) (label : Label) (count : ℕ) → kind_of label ≢ kind.Array →
+    known_word types of label count ≡ node_word 8 types of
 known_other types of (IntegerLabel number type) count e = refl
 known_other types of (OffsetLabel magnitude type unit) count e = refl
 known_other types of (TextLabel bytes) count e = refl
@@ -100,12 +105,14 @@ known_other types of (UnionLabel name index alternative) count e = refl
 pub ruleset by_known = (known_array, known_other)
 
 -- the word of a type that isn't `char`, one level further in
-pub word_inside : (levels : ℕ) (types : Known) (of : ℕ) → 0 < levels → is_letter types.letters of ≡ false → node_word levels types of ≡ found_word (node_word (levels - 1) types) (slice_get types.nodes of)
+pub word_inside : (levels : ℕ) (types : Known) (of : ℕ) → 0 < levels → is_letter types.letters of ≡ false →
+    node_word levels types of ≡ found_word (node_word (levels - 1) types) (slice_get types.nodes of)
 unfolding node_word
 word_inside zero types of h e = absurd (omega (arith, h))
 word_inside (suc levels) types of h e = let same : suc levels - 1 ≡ levels = omega arith in rw (same, e) refl
 
-pub word_letter : (levels : ℕ) (types : Known) (of : ℕ) → 0 < levels → is_letter types.letters of ≡ true → node_word levels types of ≡ codes "char"
+pub word_letter : (levels : ℕ) (types : Known) (of : ℕ) → 0 < levels → is_letter types.letters of ≡ true →
+    node_word levels types of ≡ codes "char"
 unfolding node_word
 word_letter zero types of h e = absurd (omega (arith, h))
 word_letter (suc levels) types of h e = rw e refl

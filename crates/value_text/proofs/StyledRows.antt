@@ -35,10 +35,12 @@ abbrev byte_at : (start n : ℕ) → Value
 byte_at start n = Mapped (IntegerLabel (pos n) (unsigned_type 8)) start (start + 8) NoMembers
 
 abbrev three_bytes : Value
-three_bytes = Mapped ArrayLabel 16 40 (MemberThen (byte_at 16 1) (MemberThen (byte_at 24 2) (MemberThen (byte_at 32 3) NoMembers)))
+three_bytes = Mapped ArrayLabel 16 40
+    (MemberThen (byte_at 16 1) (MemberThen (byte_at 24 2) (MemberThen (byte_at 32 3) NoMembers)))
 
 abbrev packet : Value
-packet = Mapped (StructLabel (Some (codes "Packet")) (Some (codes "size") ∷ Some (codes "data") ∷ [])) 8 40 (MemberThen (byte_at 8 3) (MemberThen three_bytes NoMembers))
+packet = Mapped (StructLabel (Some (codes "Packet")) (Some (codes "size") ∷ Some (codes "data") ∷ [])) 8 40
+    (MemberThen (byte_at 8 3) (MemberThen three_bytes NoMembers))
 
 -- ---- hexadecimal numbers
 
@@ -99,7 +101,8 @@ hex_json_negative : styled hexadecimals Json (leaf (IntegerLabel (negsuc 4) (sig
 unfolding quoted_hex hexadecimal
 hex_json_negative = refl
 
-hex_json_offset : styled hexadecimals Json (leaf (OffsetLabel (pos 2) (unsigned_type 64) 8)) ≡ codes "{\"magnitude\":\"0x2\",\"unit\":8}\n"
+hex_json_offset : styled hexadecimals Json (leaf (OffsetLabel (pos 2) (unsigned_type 64) 8))
+    ≡ codes "{\"magnitude\":\"0x2\",\"unit\":8}\n"
 unfolding json_offset_in quoted_hex hexadecimal digits
 hex_json_offset = refl
 
@@ -107,11 +110,13 @@ hex_flat : styled hexadecimals Flat packet ≡ codes "Packet {size=0x3UB,data=[0
 unfolding hex_integer hexadecimal
 hex_flat = refl
 
-hex_tree : styled hexadecimals Tree packet ≡ codes "Packet\n  size=0x3UB\n  data=[3]\n    [0]=0x1UB\n    [1]=0x2UB\n    [2]=0x3UB\n"
+hex_tree : styled hexadecimals Tree packet
+    ≡ codes "Packet\n  size=0x3UB\n  data=[3]\n    [0]=0x1UB\n    [1]=0x2UB\n    [2]=0x3UB\n"
 unfolding hex_integer hexadecimal digits
 hex_tree = refl
 
-hex_lines : styled hexadecimals Lines three_bytes ≡ codes "[0]\t16#b\t8#b\t0x1UB\n[1]\t24#b\t8#b\t0x2UB\n[2]\t32#b\t8#b\t0x3UB\n"
+hex_lines : styled hexadecimals Lines three_bytes
+    ≡ codes "[0]\t16#b\t8#b\t0x1UB\n[1]\t24#b\t8#b\t0x2UB\n[2]\t32#b\t8#b\t0x3UB\n"
 unfolding hex_integer hexadecimal digits
 hex_lines = refl
 
@@ -174,7 +179,8 @@ first_json_none : styled (first 0) Json three_bytes ≡ codes "[{\"..\":3}]\n"
 unfolding digits
 first_json_none = refl
 
-first_lines : styled (first 1) Lines packet ≡ codes ".size\t8#b\t8#b\t3UB\n.data[0]\t16#b\t8#b\t1UB\n.data[1..]\t24#b\t16#b\t..+2\n"
+first_lines : styled (first 1) Lines packet
+    ≡ codes ".size\t8#b\t8#b\t3UB\n.data[0]\t16#b\t8#b\t1UB\n.data[1..]\t24#b\t16#b\t..+2\n"
 unfolding integer_text digits
 first_lines = refl
 
@@ -182,7 +188,8 @@ first_lines_none : styled (first 0) Lines three_bytes ≡ codes "[0..]\t16#b\t24
 unfolding digits
 first_lines_none = refl
 
-first_nested : styled (first 1) Flat (Mapped ArrayLabel 16 64 (MemberThen three_bytes (MemberThen three_bytes NoMembers))) ≡ codes "[[1UB,..+2],..+1]\n"
+first_nested : styled (first 1) Flat
+    (Mapped ArrayLabel 16 64 (MemberThen three_bytes (MemberThen three_bytes NoMembers))) ≡ codes "[[1UB,..+2],..+1]\n"
 unfolding integer_text digits
 first_nested = refl
 

@@ -16,48 +16,66 @@ use Rattle.value_text.proofs.MemberTexts.{members_from, with_member, from_at, fr
 use Rattle.value_text.proofs.Cuts.{left_is}
 
 -- a member that isn't past the limit, and one that is
-text_before : (style : Style) (limit : Option ℕ) (label : Label) (i : ℕ) (first : Bool) (value : Value) (rest : Members) → is_past limit i ≡ false
-    → styled_members style limit label i first (with_member (Some value) rest) ≡ (comma first ++ (name_text (member_name label i) ++ styled_value style value)) ++ styled_members style limit label (suc i) false rest
+text_before : (style : Style) (limit : Option ℕ) (label : Label) (i : ℕ) (first : Bool) (value : Value) (rest : Members)
+    → is_past limit i ≡ false
+    → styled_members style limit label i first (with_member (Some value) rest)
+    ≡ (comma first ++ (name_text (member_name label i) ++ styled_value style value))
+    ++ styled_members style limit label (suc i) false rest
 text_before style limit label i first value rest before = rw before refl
 
-absent_before : (style : Style) (limit : Option ℕ) (label : Label) (i : ℕ) (first : Bool) (rest : Members) → is_past limit i ≡ false
-    → styled_members style limit label i first (with_member None rest) ≡ styled_members style limit label (suc i) first rest
+absent_before : (style : Style) (limit : Option ℕ) (label : Label) (i : ℕ) (first : Bool) (rest : Members)
+    → is_past limit i ≡ false
+    → styled_members style limit label i first (with_member None rest)
+    ≡ styled_members style limit label (suc i) first rest
 absent_before style limit label i first rest before = rw before refl
 
-text_past : (style : Style) (limit : Option ℕ) (label : Label) (i : ℕ) (first : Bool) (member : Option Value) (rest : Members) → is_past limit i ≡ true
+text_past : (style : Style) (limit : Option ℕ) (label : Label) (i : ℕ) (first : Bool) (member : Option Value)
+    (rest : Members) → is_past limit i ≡ true
     → styled_members style limit label i first (with_member member rest) ≡ more_member first (suc (member_count rest))
 text_past style limit label i first None rest past = rw past refl
 text_past style limit label i first (Some value) rest past = rw past refl
 
 -- a member that is there
-pub text_present : (style : Style) (limit : Option ℕ) (label : Label) (all : Members) (i : ℕ) (first : Bool) (value : Value) → i < member_count all → is_past limit i ≡ false → Some value ≡ member_at all i
+pub text_present : (style : Style) (limit : Option ℕ) (label : Label) (all : Members) (i : ℕ) (first : Bool)
+    (value : Value) → i < member_count all → is_past limit i ≡ false → Some value ≡ member_at all i
     → styled_members style limit label i first (members_from i all)
-    ≡ member_text style first (member_name label i) value ++ styled_members style limit label (i + 1) false (members_from (i + 1) all)
+    ≡ member_text style first (member_name label i) value
+    ++ styled_members style limit label (i + 1) false (members_from (i + 1) all)
 text_present style limit label all i first value lt before is =
-    ap (styled_members style limit label i first) (from_at all i lt ∙ ap (λ o. with_member o (members_from (i + 1) all)) (sym is))
+    ap (styled_members style limit label i first)
+    (from_at all i lt ∙ ap (λ o. with_member o (members_from (i + 1) all)) (sym is))
     ∙ text_before style limit label i first value (members_from (i + 1) all) before
-    ∙ ap (λ s. s ++ styled_members style limit label (suc i) false (members_from (i + 1) all)) (sym (append_assoc (comma first) (name_text (member_name label i)) (styled_value style value)))
-    ∙ ap (λ n. member_text style first (member_name label i) value ++ styled_members style limit label n false (members_from (i + 1) all)) (sym (add-one i))
+    ∙ ap (λ s. s ++ styled_members style limit label (suc i) false (members_from (i + 1) all))
+    (sym (append_assoc (comma first) (name_text (member_name label i)) (styled_value style value)))
+    ∙ ap (λ n. member_text style first (member_name label i) value
+    ++ styled_members style limit label n false (members_from (i + 1) all)) (sym (add-one i))
 
-pub text_absent : (style : Style) (limit : Option ℕ) (label : Label) (all : Members) (i : ℕ) (first : Bool) → i < member_count all → is_past limit i ≡ false → None ≡ member_at all i
-    → styled_members style limit label i first (members_from i all) ≡ styled_members style limit label (i + 1) first (members_from (i + 1) all)
+pub text_absent : (style : Style) (limit : Option ℕ) (label : Label) (all : Members) (i : ℕ) (first : Bool)
+    → i < member_count all → is_past limit i ≡ false → None ≡ member_at all i
+    → styled_members style limit label i first (members_from i all)
+    ≡ styled_members style limit label (i + 1) first (members_from (i + 1) all)
 text_absent style limit label all i first lt before is =
-    ap (styled_members style limit label i first) (from_at all i lt ∙ ap (λ o. with_member o (members_from (i + 1) all)) (sym is))
+    ap (styled_members style limit label i first)
+    (from_at all i lt ∙ ap (λ o. with_member o (members_from (i + 1) all)) (sym is))
     ∙ absent_before style limit label i first (members_from (i + 1) all) before
     ∙ ap (λ n. styled_members style limit label n first (members_from (i + 1) all)) (sym (add-one i))
 
 -- the end of those that are printed
-pub text_left : (style : Style) (limit : Option ℕ) (label : Label) (all : Members) (i : ℕ) (first : Bool) → i ≡ kept_count limit (member_count all)
-    → styled_members style limit label i first (members_from i all) ≡ left_text (more_member first) (member_count all - i)
+pub text_left : (style : Style) (limit : Option ℕ) (label : Label) (all : Members) (i : ℕ) (first : Bool)
+    → i ≡ kept_count limit (member_count all)
+    → styled_members style limit label i first (members_from i all)
+    ≡ left_text (more_member first) (member_count all - i)
 text_left style limit label all i first e =
     left_is limit (λ place. styled_members style limit label place first) (more_member first) (λ place. refl)
     (λ place member rest past. text_past style limit label place first member rest past) all i e
 
-pub text_end : (style : Style) (limit : Option ℕ) (label : Label) (all : Members) (i : ℕ) (first : Bool) → member_count all ≤ i → styled_members style limit label i first (members_from i all) ≡ []
+pub text_end : (style : Style) (limit : Option ℕ) (label : Label) (all : Members) (i : ℕ) (first : Bool) →
+    member_count all ≤ i → styled_members style limit label i first (members_from i all) ≡ []
 text_end style limit label all i first h = ap (styled_members style limit label i first) (from_end all i h)
 
 -- the text of a value, by its kind
-pub text_of_integer : (style : Style) (v : Value) → kind.Integer ≡ kind_of (label_of v) → styled_value style v ≡ integer_in style.numbers (type_of (label_of v)) (number_of (label_of v))
+pub text_of_integer : (style : Style) (v : Value) → kind.Integer ≡ kind_of (label_of v) →
+    styled_value style v ≡ integer_in style.numbers (type_of (label_of v)) (number_of (label_of v))
 text_of_integer style (Mapped (IntegerLabel number type) start end _) e = refl
 text_of_integer style (Mapped (OffsetLabel magnitude type unit) start end _) e = cc
 text_of_integer style (Mapped (TextLabel bytes) start end _) e = cc
@@ -65,7 +83,8 @@ text_of_integer style (Mapped ArrayLabel start end _) e = cc
 text_of_integer style (Mapped (StructLabel name fields) start end _) e = cc
 text_of_integer style (Mapped (UnionLabel name index alternative) start end _) e = cc
 
-pub text_of_offset : (style : Style) (v : Value) → kind.Offset ≡ kind_of (label_of v) → styled_value style v ≡ offset_in style.numbers (type_of (label_of v)) (unit_of (label_of v)) (number_of (label_of v))
+pub text_of_offset : (style : Style) (v : Value) → kind.Offset ≡ kind_of (label_of v) → styled_value style v
+    ≡ offset_in style.numbers (type_of (label_of v)) (unit_of (label_of v)) (number_of (label_of v))
 text_of_offset style (Mapped (IntegerLabel number type) start end _) e = cc
 text_of_offset style (Mapped (OffsetLabel magnitude type unit) start end _) e = refl
 text_of_offset style (Mapped (TextLabel bytes) start end _) e = cc
@@ -73,7 +92,8 @@ text_of_offset style (Mapped ArrayLabel start end _) e = cc
 text_of_offset style (Mapped (StructLabel name fields) start end _) e = cc
 text_of_offset style (Mapped (UnionLabel name index alternative) start end _) e = cc
 
-pub text_of_string : (style : Style) (v : Value) → kind.Text ≡ kind_of (label_of v) → styled_value style v ≡ quoted_by Poke (bytes_of (label_of v))
+pub text_of_string : (style : Style) (v : Value) → kind.Text ≡ kind_of (label_of v) →
+    styled_value style v ≡ quoted_by Poke (bytes_of (label_of v))
 text_of_string style (Mapped (IntegerLabel number type) start end _) e = cc
 text_of_string style (Mapped (OffsetLabel magnitude type unit) start end _) e = cc
 text_of_string style (Mapped (TextLabel bytes) start end _) e = refl
@@ -81,7 +101,8 @@ text_of_string style (Mapped ArrayLabel start end _) e = cc
 text_of_string style (Mapped (StructLabel name fields) start end _) e = cc
 text_of_string style (Mapped (UnionLabel name index alternative) start end _) e = cc
 
-pub text_of_array : (style : Style) (v : Value) → kind.Array ≡ kind_of (label_of v) → styled_value style v ≡ array_text style v
+pub text_of_array : (style : Style) (v : Value) → kind.Array ≡ kind_of (label_of v) →
+    styled_value style v ≡ array_text style v
 text_of_array style (Mapped (IntegerLabel number type) start end _) e = cc
 text_of_array style (Mapped (OffsetLabel magnitude type unit) start end _) e = cc
 text_of_array style (Mapped (TextLabel bytes) start end _) e = cc
@@ -89,7 +110,8 @@ text_of_array style (Mapped ArrayLabel start end all) e = refl
 text_of_array style (Mapped (StructLabel name fields) start end _) e = cc
 text_of_array style (Mapped (UnionLabel name index alternative) start end _) e = cc
 
-pub text_of_struct : (style : Style) (v : Value) → kind.Struct ≡ kind_of (label_of v) → styled_value style v ≡ titled_text style (codes "struct") v
+pub text_of_struct : (style : Style) (v : Value) → kind.Struct ≡ kind_of (label_of v) →
+    styled_value style v ≡ titled_text style (codes "struct") v
 text_of_struct style (Mapped (IntegerLabel number type) start end _) e = cc
 text_of_struct style (Mapped (OffsetLabel magnitude type unit) start end _) e = cc
 text_of_struct style (Mapped (TextLabel bytes) start end _) e = cc
@@ -97,7 +119,8 @@ text_of_struct style (Mapped ArrayLabel start end _) e = cc
 text_of_struct style (Mapped (StructLabel name fields) start end all) e = refl
 text_of_struct style (Mapped (UnionLabel name index alternative) start end _) e = cc
 
-pub text_of_union : (style : Style) (v : Value) → kind.Union ≡ kind_of (label_of v) → styled_value style v ≡ titled_text style (codes "union") v
+pub text_of_union : (style : Style) (v : Value) → kind.Union ≡ kind_of (label_of v) →
+    styled_value style v ≡ titled_text style (codes "union") v
 text_of_union style (Mapped (IntegerLabel number type) start end _) e = cc
 text_of_union style (Mapped (OffsetLabel magnitude type unit) start end _) e = cc
 text_of_union style (Mapped (TextLabel bytes) start end _) e = cc

@@ -29,10 +29,12 @@ an_empty_struct : printed Tree (leaf (StructLabel (Some (codes "P")) [])) ≡ co
 an_empty_struct = refl
 
 -- elements are numbered from 0
-an_array_of_structs : printed Tree (Mapped (StructLabel (Some (codes "A")) (Some (codes "es") ∷ Some (codes "z") ∷ [])) 0 24
+an_array_of_structs : printed Tree
+    (Mapped (StructLabel (Some (codes "A")) (Some (codes "es") ∷ Some (codes "z") ∷ [])) 0 24
     (MemberThen (Mapped ArrayLabel 0 16
     (MemberThen (Mapped (StructLabel (Some (codes "E")) (Some (codes "v") ∷ [])) 0 8 (MemberThen (byte 5) NoMembers))
-    (MemberThen (Mapped (StructLabel (Some (codes "E")) (Some (codes "v") ∷ [])) 8 16 (MemberThen (byte 6) NoMembers)) NoMembers)))
+    (MemberThen (Mapped (StructLabel (Some (codes "E")) (Some (codes "v") ∷ [])) 8 16 (MemberThen (byte 6) NoMembers))
+    NoMembers)))
     (MemberThen (byte 0) NoMembers)))
     ≡ codes "A\n  es=[2]\n    [0]=E\n      v=5UB\n    [1]=E\n      v=6UB\n  z=0UB\n"
 unfolding integer_text digits
@@ -47,7 +49,8 @@ unfolding integer_text digits
 nameless = refl
 
 -- the second field is absent
-an_absent_field : printed Tree (Mapped (StructLabel (Some (codes "T")) (Some (codes "f") ∷ Some (codes "x") ∷ Some (codes "y") ∷ [])) 0 16
+an_absent_field : printed Tree
+    (Mapped (StructLabel (Some (codes "T")) (Some (codes "f") ∷ Some (codes "x") ∷ Some (codes "y") ∷ [])) 0 16
     (MemberThen (byte 0) (AbsentThen (MemberThen (byte 5) NoMembers))))
     ≡ codes "T\n  f=0UB\n  y=5UB\n"
 unfolding integer_text digits
@@ -63,7 +66,8 @@ unions = refl
 
 -- an array of arrays, with an offset and a number below 0
 arrays : printed Tree (Mapped ArrayLabel 0 32
-    (MemberThen (Mapped ArrayLabel 0 16 (MemberThen (leaf (OffsetLabel (pos 3) (record { width = 8; signed = false }) 8))
+    (MemberThen
+    (Mapped ArrayLabel 0 16 (MemberThen (leaf (OffsetLabel (pos 3) (record { width = 8; signed = false }) 8))
     (MemberThen (leaf (IntegerLabel (negsuc 0) (record { width = 12; signed = true }))) NoMembers)))
     (MemberThen (leaf ArrayLabel) NoMembers)))
     ≡ codes "[2]\n  [0]=[2]\n    [0]=3UB#B\n    [1]=(int<12>) -1\n  [1]=[0]\n"

@@ -111,19 +111,22 @@ empty_struct : printed Flat (leaf (StructLabel (Some (codes "P")) [])) ≡ codes
 empty_struct = refl
 
 pair : printed Flat (Mapped (StructLabel (Some (codes "P")) (Some (codes "a") ∷ Some (codes "b") ∷ [])) 0 72
-    (MemberThen (byte 5) (MemberThen (Mapped ArrayLabel 8 72 (MemberThen (word 1) (MemberThen (word 2) NoMembers))) NoMembers)))
+    (MemberThen (byte 5)
+    (MemberThen (Mapped ArrayLabel 8 72 (MemberThen (word 1) (MemberThen (word 2) NoMembers))) NoMembers)))
     ≡ codes "P {a=5UB,b=[1U,2U]}\n"
 unfolding integer_text digits
 pair = refl
 
 -- the first field and the third are absent
-absent : printed Flat (Mapped (StructLabel (Some (codes "T")) (Some (codes "f") ∷ Some (codes "x") ∷ Some (codes "y") ∷ Some (codes "z") ∷ [])) 0 16
+absent : printed Flat (Mapped (StructLabel (Some (codes "T"))
+    (Some (codes "f") ∷ Some (codes "x") ∷ Some (codes "y") ∷ Some (codes "z") ∷ [])) 0 16
     (AbsentThen (MemberThen (byte 0) (AbsentThen (MemberThen (byte 5) NoMembers)))))
     ≡ codes "T {x=0UB,z=5UB}\n"
 unfolding integer_text digits
 absent = refl
 
-none_present : printed Flat (Mapped (StructLabel (Some (codes "P")) (Some (codes "f") ∷ [])) 0 0 (AbsentThen NoMembers)) ≡ codes "P {}\n"
+none_present : printed Flat (Mapped (StructLabel (Some (codes "P")) (Some (codes "f") ∷ [])) 0 0 (AbsentThen NoMembers))
+    ≡ codes "P {}\n"
 none_present = refl
 
 -- a nameless field in a nameless struct
@@ -138,20 +141,23 @@ nameless = refl
 unions : printed Flat (Mapped (StructLabel (Some (codes "T")) (Some (codes "us") ∷ Some (codes "v") ∷ [])) 0 24
     (MemberThen (Mapped ArrayLabel 0 16
     (MemberThen (Mapped (UnionLabel (Some (codes "U")) 0 (Some (codes "a"))) 0 8 (MemberThen (byte 1) NoMembers))
-    (MemberThen (Mapped (UnionLabel (Some (codes "U")) 1 (Some (codes "b"))) 8 16 (MemberThen (byte 2) NoMembers)) NoMembers)))
+    (MemberThen (Mapped (UnionLabel (Some (codes "U")) 1 (Some (codes "b"))) 8 16 (MemberThen (byte 2) NoMembers))
+    NoMembers)))
     (MemberThen (Mapped (UnionLabel None 2 (Some (codes "c"))) 16 24 (MemberThen (byte 3) NoMembers)) NoMembers)))
     ≡ codes "T {us=[U {a=1UB},U {b=2UB}],v=union {c=3UB}}\n"
 unfolding integer_text digits
 unions = refl
 
-string_and_offset : printed Flat (Mapped (StructLabel (Some (codes "T")) (Some (codes "s") ∷ Some (codes "o") ∷ [])) 0 32
+string_and_offset : printed Flat
+    (Mapped (StructLabel (Some (codes "T")) (Some (codes "s") ∷ Some (codes "o") ∷ [])) 0 32
     (MemberThen (leaf (TextLabel (codes "hi"))) (MemberThen (leaf (OffsetLabel (pos 3) (signed_type 32) 8)) NoMembers)))
     ≡ codes "T {s=\"hi\",o=3#B}\n"
 unfolding integer_text offset_text string_text digits
 string_and_offset = refl
 
 -- a size in bytes, so many bytes, and a negative offset in units of 4 bits
-sizes : printed Flat (Mapped (StructLabel (Some (codes "T")) (Some (codes "len") ∷ Some (codes "data") ∷ Some (codes "o") ∷ [])) 0 40
+sizes : printed Flat
+    (Mapped (StructLabel (Some (codes "T")) (Some (codes "len") ∷ Some (codes "data") ∷ Some (codes "o") ∷ [])) 0 40
     (MemberThen (leaf (OffsetLabel (pos 2) (unsigned_type 8) 8))
     (MemberThen (Mapped ArrayLabel 8 24 (MemberThen (byte 170) (MemberThen (byte 187) NoMembers)))
     (MemberThen (leaf (OffsetLabel (negsuc 1) (signed_type 16) 4)) NoMembers))))
@@ -163,7 +169,8 @@ sizes = refl
 elements : printed Flat (Mapped (StructLabel (Some (codes "A")) (Some (codes "es") ∷ Some (codes "z") ∷ [])) 0 24
     (MemberThen (Mapped ArrayLabel 0 16
     (MemberThen (Mapped (StructLabel (Some (codes "E")) (Some (codes "v") ∷ [])) 0 8 (MemberThen (byte 5) NoMembers))
-    (MemberThen (Mapped (StructLabel (Some (codes "E")) (Some (codes "v") ∷ [])) 8 16 (MemberThen (byte 6) NoMembers)) NoMembers)))
+    (MemberThen (Mapped (StructLabel (Some (codes "E")) (Some (codes "v") ∷ [])) 8 16 (MemberThen (byte 6) NoMembers))
+    NoMembers)))
     (MemberThen (byte 0) NoMembers)))
     ≡ codes "A {es=[E {v=5UB},E {v=6UB}],z=0UB}\n"
 unfolding integer_text digits

@@ -49,7 +49,8 @@ module _ (nodes : List Node) (chars : Option ℕ) where
     -- a value whose type has this node, with each array of chars in it as a text at the array's place
     pub with_texts : (of : Option ℕ) → Value → Value
     with_texts of (Mapped label start end members) =
-        if has_chars chars (part_node nodes of label 0) label then Mapped (TextLabel (trimmed (chars_in members))) start end NoMembers
+        if has_chars chars (part_node nodes of label 0) label
+        then Mapped (TextLabel (trimmed (chars_in members))) start end NoMembers
         else Mapped label start end (parts_with_texts of label 0 members)
 
     -- the same of the members from a place on

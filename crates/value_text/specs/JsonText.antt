@@ -37,7 +37,8 @@ no_key place = []
 
 -- the unit is in bits
 unfoldable pub json_offset : (magnitude : ℤ) (unit : ℕ) → List ℕ
-json_offset magnitude unit = codes "{\"magnitude\":" ++ (signed_decimal magnitude ++ (codes ",\"unit\":" ++ (decimal unit ++ codes "}")))
+json_offset magnitude unit =
+    codes "{\"magnitude\":" ++ (signed_decimal magnitude ++ (codes ",\"unit\":" ++ (decimal unit ++ codes "}")))
 
 abbrev mutual
   -- a number for an integer, a list for an array, an object for the others but strings
@@ -46,7 +47,8 @@ abbrev mutual
   json_text (Mapped (OffsetLabel magnitude type unit) start end _) = json_offset magnitude unit
   json_text (Mapped (TextLabel bytes) start end _) = json_string bytes
   json_text (Mapped ArrayLabel start end members) = codes "[" ++ (json_members no_key 0 true members ++ codes "]")
-  json_text (Mapped (StructLabel name fields) start end members) = codes "{" ++ (json_members (key_before (StructLabel name fields)) 0 true members ++ codes "}")
+  json_text (Mapped (StructLabel name fields) start end members) =
+      codes "{" ++ (json_members (key_before (StructLabel name fields)) 0 true members ++ codes "}")
   json_text (Mapped (UnionLabel name index alternative) start end members) =
       codes "{" ++ (json_members (key_before (UnionLabel name index alternative)) 0 true members ++ codes "}")
 

@@ -18,7 +18,8 @@ use Rattle.value_text.specs.LinesText.{part_lines}
 
 -- the plain style prints what is printed without a style, whatever the types are
 abbrev pub PrintsPlain : Type 0
-PrintsPlain = (nodes : List Node) (chars of : Option ℕ) (mode : Mode) (value : Value) → styled_printed nodes chars of plain mode value ≡ printed mode value
+PrintsPlain = (nodes : List Node) (chars of : Option ℕ) (mode : Mode) (value : Value) →
+    styled_printed nodes chars of plain mode value ≡ printed mode value
 
 -- what is printed in JSON is a JSON text
 abbrev pub PrintsJson : Type 0
@@ -30,11 +31,14 @@ JsonReadsBack = (value : Value) → HasSmallParts value → Reads (json_line val
 
 -- in every style too, with the types of a table
 abbrev pub StyledJsonReadsBack : Type 0
-StyledJsonReadsBack = (nodes : List Node) (chars of : Option ℕ) (style : Style) (value : Value) → HasSmallParts value → HasFewMembers value
-    → Reads (styled_printed nodes chars of style mode.Json value) (styled_json_of style (with_chars style.chars nodes chars of value))
+StyledJsonReadsBack = (nodes : List Node) (chars of : Option ℕ) (style : Style) (value : Value) → HasSmallParts value
+    → HasFewMembers value
+    → Reads (styled_printed nodes chars of style mode.Json value)
+    (styled_json_of style (with_chars style.chars nodes chars of value))
 
 abbrev pub PrintsStyledJson : Type 0
-PrintsStyledJson = (nodes : List Node) (chars of : Option ℕ) (style : Style) (value : Value) → HasSmallParts value → HasFewMembers value
+PrintsStyledJson = (nodes : List Node) (chars of : Option ℕ) (style : Style) (value : Value) → HasSmallParts value
+    → HasFewMembers value
     → IsJson (styled_printed nodes chars of style mode.Json value)
 
 -- a text reads as one value only

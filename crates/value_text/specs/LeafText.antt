@@ -12,7 +12,8 @@ use Rattle.value_text.specs.Steps.{text_of, steps_of}
 
 -- the line of the elements of an array from a place on, which are so many
 abbrev pub more_leaf_at : Steps → Typed → (place left : ℕ) → List ℕ
-more_leaf_at steps array place left = more_leaf (steps_of steps) (typed_shown array) place (start_from (typed_shown array) place) left
+more_leaf_at steps array place left =
+    more_leaf (steps_of steps) (typed_shown array) place (start_from (typed_shown array) place) left
 
 module _ (style : Style) where
   abbrev pub leaf_at : Steps → Typed → List ℕ
@@ -24,7 +25,8 @@ module _ (style : Style) where
   -- the lines of all parts of a value
   abbrev pub branches_at : Steps → Typed → List ℕ
   branches_at steps value =
-      styled_branches style (limit_of style (label_of (typed_shown value))) (steps_of steps) (typed_shown value) 0 (members_of (typed_shown value))
+      styled_branches style (limit_of style (label_of (typed_shown value))) (steps_of steps) (typed_shown value) 0
+      (members_of (typed_shown value))
 
   -- the lines of a part, whose path has one more step
   abbrev pub branch_at : Steps → Step → Typed → List ℕ

@@ -8,7 +8,8 @@ use Rattle.value_text.specs.PathText.{step_text}
 -- steps.
 pub data LeadsBy : Value → (places steps : List ℕ) → Value → Type 0 where
   here : {value : Value} → LeadsBy value [] [] value
-  further : {value part found : Value} {places steps : List ℕ} (place : ℕ) → is_parted (label_of value) (members_of value) ≡ true
+  further : {value part found : Value} {places steps : List ℕ} (place : ℕ)
+      → is_parted (label_of value) (members_of value) ≡ true
       → member_at (members_of value) place ≡ Some part → LeadsBy part places steps found
       → LeadsBy value (place ∷ places) (step_text (label_of value) place ++ steps) found
 

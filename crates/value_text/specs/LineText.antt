@@ -18,7 +18,8 @@ module _ (style : Style) where
 
   -- the lines of all parts of a value
   abbrev pub all_parts_text : (level : ℕ) → Value → List ℕ
-  all_parts_text level value = styled_parts style (limit_of style (label_of value)) (level + 1) (label_of value) 0 (members_of value)
+  all_parts_text level value =
+      styled_parts style (limit_of style (label_of value)) (level + 1) (label_of value) 0 (members_of value)
 
   -- the lines below that of a value
   abbrev pub below_text : (level : ℕ) → Value → List ℕ

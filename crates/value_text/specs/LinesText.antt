@@ -34,7 +34,8 @@ abbrev mutual
   -- the lines of a value to which steps lead: those of its parts or, if it has none, its own
   pub leaves_text : (steps : List ℕ) → Value → List ℕ
   leaves_text steps (Mapped label start end members) =
-      if is_parted label members then branches_text steps label 0 members else leaf_line steps (Mapped label start end members)
+      if is_parted label members then branches_text steps label 0 members
+      else leaf_line steps (Mapped label start end members)
 
   -- the lines of the present members from a place on
   pub branches_text : (steps : List ℕ) → Label → (place : ℕ) → Members → List ℕ

@@ -17,7 +17,8 @@ type_of label = record { width = width_of label; signed = signed_of label }
 -- integers of a type whose bits are these bytes
 abbrev pub byte_row_text : Numbers → IntegerType → (first : Bool) → List ℕ → List ℕ
 byte_row_text numbers type first [] = []
-byte_row_text numbers type first (byte ∷ bytes) = (comma first ++ integer_in numbers type (with_sign type byte)) ++ byte_row_text numbers type false bytes
+byte_row_text numbers type first (byte ∷ bytes) =
+    (comma first ++ integer_in numbers type (with_sign type byte)) ++ byte_row_text numbers type false bytes
 
 module _ (style : Style) where
   -- all members of a struct or a union
@@ -37,4 +38,5 @@ module _ (style : Style) where
 
   -- a struct or a union
   abbrev pub titled_text : (sort : List ℕ) → Value → List ℕ
-  titled_text sort value = title_text sort (name_of (label_of value)) ++ (codes " {" ++ (all_members_text value ++ codes "}"))
+  titled_text sort value =
+      title_text sort (name_of (label_of value)) ++ (codes " {" ++ (all_members_text value ++ codes "}"))

@@ -24,10 +24,13 @@ module _ {W : Type 0} (contents : W → Option (List ℕ)) where
   -- a call puts a text after all that was put before
   pub record Puts (old new : Printer W) (text : List ℕ) : Type 0 where
     pub lent : new.writer.ghost_name ≡ old.writer.ghost_name
-    pub behind : (start : Option (List ℕ)) (before : List ℕ) → HasPut start old before → HasPut start new (before ++ text)
+    pub behind : (start : Option (List ℕ)) (before : List ℕ) → HasPut start old before →
+        HasPut start new (before ++ text)
 
   -- a call ends the printing of a text: the writer accepted it or, with a fault, some of its first bytes
   pub record Ends {A E : Type 0} (old new : Printer W) (result : Result A E) : Type 0 where
     pub lent : new.writer.ghost_name ≡ old.writer.ghost_name
-    pub ok : (start : Option (List ℕ)) (text : List ℕ) → HasPut start old text → OnOk result (Appends start (contents new.writer.now) text)
-    pub err : (start : Option (List ℕ)) (text : List ℕ) → HasPut start old text → OnErr result (AppendsPart start (contents new.writer.now) text)
+    pub ok : (start : Option (List ℕ)) (text : List ℕ) → HasPut start old text →
+        OnOk result (Appends start (contents new.writer.now) text)
+    pub err : (start : Option (List ℕ)) (text : List ℕ) → HasPut start old text →
+        OnErr result (AppendsPart start (contents new.writer.now) text)

@@ -29,7 +29,12 @@ look_at look value = view_of look (types_in value)
 -- a value as it is shown, by the nodes of a table, the node of `char` and that of its type
 abbrev pub shown_in : Look → List Node → (chars node : Option ℕ) → Value → List ℕ
 shown_in look nodes chars node value =
-    show_text (record { types = record { nodes = nodes; letters = chars }; elements = look.elements; depth = look.depth; dim = look.dim }) node value
+    show_text (record {
+      types = record { nodes = nodes; letters = chars };
+      elements = look.elements;
+      depth = look.depth;
+      dim = look.dim;
+    }) node value
 
 -- a value beside its type, as it is shown
 abbrev pub shown_at : Look → Typed → List ℕ
@@ -37,7 +42,8 @@ shown_at look value = show_text (look_at look value) (node_in value) (mapped_in 
 
 -- the type after the name of a value
 abbrev pub type_at : View → (inner : Bool) → (of : Option ℕ) → Value → List ℕ
-type_at view inner of value = type_cell view.dim (type_word view.types inner of (label_of value) (member_count (members_of value)))
+type_at view inner of value =
+    type_cell view.dim (type_word view.types inner of (label_of value) (member_count (members_of value)))
 
 -- the same of an element, of a value of a type that isn't known, and of one that is known
 abbrev pub inner_type : (dim : Bool) → Value → List ℕ
@@ -72,7 +78,8 @@ all_parts_text view level of value = shown_parts view (level + 1) of (label_of v
 
 abbrev pub below_text : View → (level : ℕ) → (of : Option ℕ) → Value → List ℕ
 below_text view level of value =
-    codes "\n" ++ (all_parts_text view level of value ++ rest_of (level + 1) 1 (cut_of view.elements (label_of value)) (members_of value))
+    codes "\n" ++ (all_parts_text view level of value
+    ++ rest_of (level + 1) 1 (cut_of view.elements (label_of value)) (members_of value))
 
 -- the members of a value on its line
 abbrev pub all_inline_text : (most : Option ℕ) → Value → List ℕ
@@ -93,7 +100,8 @@ dump_at view level value =
 
 -- an array of bytes
 abbrev pub bytes_at : View → (level : ℕ) → (of : Option ℕ) → Value → List ℕ
-bytes_at view level of value = bytes_body view level (is_text view of (label_of value) (members_of value)) (members_of value)
+bytes_at view level of value =
+    bytes_body view level (is_text view of (label_of value) (members_of value)) (members_of value)
 
 -- the value on its line, or the lines below it
 abbrev pub body_text : View → (level : ℕ) → (of : Option ℕ) → Value → List ℕ
@@ -114,13 +122,15 @@ start_text level label place value = margin level value ++ name_cell label place
 
 abbrev pub part_text : View → (level : ℕ) → (of : Option ℕ) → Label → (place : ℕ) → Value → List ℕ
 part_text view level of label place value =
-    start_text level label place value ++ rest_text view level (is_array label) (part_node view.types.nodes of label place) value
+    start_text level label place value
+    ++ rest_text view level (is_array label) (part_node view.types.nodes of label place) value
 
 abbrev pub lent_start : (level : ℕ) → ValueRef → (place : ℕ) → ValueRef → List ℕ
 lent_start level value place part = start_text level (label_of (value_shown value)) place (value_shown part)
 
 abbrev pub lent_part : View → (level : ℕ) → Typed → (place : ℕ) → ValueRef → List ℕ
-lent_part view level value place part = part_text view level (node_in value) (label_of (mapped_in value)) place (value_shown part)
+lent_part view level value place part =
+    part_text view level (node_in value) (label_of (mapped_in value)) place (value_shown part)
 
 -- whether a member goes on the line, if there is one
 abbrev pub is_inline_if : Option Value → Bool

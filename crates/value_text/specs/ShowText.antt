@@ -96,15 +96,18 @@ abbrev mutual
   inline_text most (Mapped (OffsetLabel magnitude type unit) start end _) = shown_offset unit magnitude
   inline_text most (Mapped (TextLabel bytes) start end _) = shown_string most bytes
   inline_text most (Mapped ArrayLabel start end _) = []
-  inline_text most (Mapped (StructLabel name fields) start end members) = inline_members most (StructLabel name fields) 0 true members
-  inline_text most (Mapped (UnionLabel name index alternative) start end members) = inline_members most (UnionLabel name index alternative) 0 true members
+  inline_text most (Mapped (StructLabel name fields) start end members) =
+      inline_members most (StructLabel name fields) 0 true members
+  inline_text most (Mapped (UnionLabel name index alternative) start end members) =
+      inline_members most (UnionLabel name index alternative) 0 true members
 
   -- the present members from a place on, each after its name if it has one
   pub inline_members : (most : Option ℕ) → Label → (place : ℕ) (first : Bool) → Members → List ℕ
   inline_members most label place first NoMembers = []
   inline_members most label place first (AbsentThen rest) = inline_members most label (suc place) first rest
   inline_members most label place first (MemberThen value rest) =
-      ((separator first ++ inline_name (member_name label place)) ++ (opening value ++ (inline_text most value ++ closing value)))
+      ((separator first ++ inline_name (member_name label place))
+      ++ (opening value ++ (inline_text most value ++ closing value)))
       ++ inline_members most label (suc place) false rest
 
 -- whether a value is an unsigned integer of 8 bits
@@ -134,11 +137,12 @@ abbrev pub are_all : (most : Option ℕ) → (count : ℕ) → Bool
 are_all None count = true
 are_all (Some most) count = nat_le count most
 
--- whether an array is one of numbers, by its first element, that goes on the line of its name: at most 16 of at most 320
--- bits together, if none is cut off
+-- whether an array is one of numbers, by its first element, that goes on the line of its name: at most 16 of at most
+-- 320 bits together, if none is cut off
 abbrev pub is_number_row : (most : Option ℕ) → Value → Bool
 is_number_row most value =
-    is_array (label_of value) && is_some_number (member_at (members_of value) 0) && nat_le (member_count (members_of value)) 16
+    is_array (label_of value) && is_some_number (member_at (members_of value) 0)
+    && nat_le (member_count (members_of value)) 16
     && nat_le (end_of value - start_of value) 320 && are_all most (member_count (members_of value))
 
 -- whether parts at a level are left out
@@ -239,7 +243,8 @@ are_few (Some most) count = nat_le count (16 * most)
 -- whether an array of a type is shown as a text
 abbrev pub is_text : View → (of : Option ℕ) → Label → Members → Bool
 is_text view of label members =
-    has_chars view.types.letters (part_node view.types.nodes of label 0) label && are_few view.elements (member_count members)
+    has_chars view.types.letters (part_node view.types.nodes of label 0) label
+    && are_few view.elements (member_count members)
 
 -- an array of characters as a text without the zeros at its end
 abbrev pub text_of : Members → List ℕ
@@ -261,11 +266,14 @@ abbrev mutual
   pub shown_rest : View → (level : ℕ) (inner : Bool) (of : Option ℕ) → Value → List ℕ
   shown_rest view level inner of (Mapped label start end members) =
       type_cell view.dim (type_word view.types inner of label (member_count members))
-      ++ (if is_inline (Mapped label start end members) then value_cell (inline_text view.elements (Mapped label start end members))
+      ++ (if is_inline (Mapped label start end members)
+      then value_cell (inline_text view.elements (Mapped label start end members))
       else if is_bytes label members then bytes_body view level (is_text view of label members) members
-      else if is_number_row view.elements (Mapped label start end members) then value_cell (inline_members view.elements label 0 true members)
+      else if is_number_row view.elements (Mapped label start end members)
+      then value_cell (inline_members view.elements label 0 true members)
       else if leaves_below view level members then left_below
-      else codes "\n" ++ (shown_parts view (level + 1) of label 0 members ++ rest_of (level + 1) 1 (cut_of view.elements label) members))
+      else codes "\n" ++ (shown_parts view (level + 1) of label 0 members
+      ++ rest_of (level + 1) 1 (cut_of view.elements label) members))
 
   -- the lines of the present members from a place on
   pub shown_parts : View → (level : ℕ) (of : Option ℕ) → Label → (place : ℕ) → Members → List ℕ
@@ -273,7 +281,8 @@ abbrev mutual
   shown_parts view level of label place (AbsentThen rest) = shown_parts view level of label (suc place) rest
   shown_parts view level of label place (MemberThen value rest) =
       (if within (cut_of view.elements label) place
-      then (margin level value ++ name_cell label place) ++ shown_rest view level (is_array label) (part_node view.types.nodes of label place) value
+      then (margin level value ++ name_cell label place)
+      ++ shown_rest view level (is_array label) (part_node view.types.nodes of label place) value
       else [])
       ++ shown_parts view level of label (suc place) rest
 

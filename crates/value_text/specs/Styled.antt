@@ -32,7 +32,9 @@ styled_printed nodes chars of style mode value = styled style mode (with_chars s
 
 -- the same for a value beside its type
 abbrev pub with_chars_in : Chars → Typed → Value
-with_chars_in chars typed = with_chars chars (nodes_in (types_in typed)) (char_node_in (types_in typed)) (node_in typed) (mapped_in typed)
+with_chars_in chars typed =
+    with_chars chars (nodes_in (types_in typed)) (char_node_in (types_in typed)) (node_in typed) (mapped_in typed)
 
 abbrev pub typed_printed : Style → Mode → Typed → List ℕ
-typed_printed style mode typed = styled_printed (nodes_in (types_in typed)) (char_node_in (types_in typed)) (node_in typed) style mode (mapped_in typed)
+typed_printed style mode typed = styled_printed (nodes_in (types_in typed)) (char_node_in (types_in typed))
+    (node_in typed) style mode (mapped_in typed)

@@ -14,20 +14,25 @@ module _ (style : Style) where
     styled_json (Mapped (IntegerLabel number type) start end _) = json_number style.numbers number
     styled_json (Mapped (OffsetLabel magnitude type unit) start end _) = json_offset_in style.numbers magnitude unit
     styled_json (Mapped (TextLabel bytes) start end _) = json_string bytes
-    styled_json (Mapped ArrayLabel start end members) = codes "[" ++ (styled_json_members style.elements no_key 0 true members ++ codes "]")
+    styled_json (Mapped ArrayLabel start end members) =
+        codes "[" ++ (styled_json_members style.elements no_key 0 true members ++ codes "]")
     styled_json (Mapped (StructLabel name fields) start end members) =
         codes "{" ++ (styled_json_members None (key_before (StructLabel name fields)) 0 true members ++ codes "}")
     styled_json (Mapped (UnionLabel name index alternative) start end members) =
-        codes "{" ++ (styled_json_members None (key_before (UnionLabel name index alternative)) 0 true members ++ codes "}")
+        codes "{"
+        ++ (styled_json_members None (key_before (UnionLabel name index alternative)) 0 true members ++ codes "}")
 
     -- the present members from a place on, each after its key if it has one, joined by commas, up to the limit
-    pub styled_json_members : (limit : Option ℕ) (before : (place : ℕ) → List ℕ) (place : ℕ) (first : Bool) → Members → List ℕ
+    pub styled_json_members : (limit : Option ℕ) (before : (place : ℕ) → List ℕ) (place : ℕ) (first : Bool) → Members →
+        List ℕ
     styled_json_members limit before place first NoMembers = []
     styled_json_members limit before place first (AbsentThen rest) =
-        if is_past limit place then more_item first (suc (member_count rest)) else styled_json_members limit before (suc place) first rest
+        if is_past limit place then more_item first (suc (member_count rest))
+        else styled_json_members limit before (suc place) first rest
     styled_json_members limit before place first (MemberThen value rest) =
         if is_past limit place then more_item first (suc (member_count rest))
-        else ((comma first ++ before place) ++ styled_json value) ++ styled_json_members limit before (suc place) false rest
+        else ((comma first ++ before place) ++ styled_json value)
+        ++ styled_json_members limit before (suc place) false rest
 
 -- the whole output
 abbrev pub styled_json_line : Style → Value → List ℕ

@@ -17,7 +17,8 @@ integer_json Digits number = whole_number number
 
 -- a magnitude, and a unit in bits
 abbrev pub styled_offset_json : Numbers → (magnitude : ℤ) (unit : ℕ) → Json
-styled_offset_json numbers magnitude unit = JsonObject (EntryThen (codes "magnitude") (integer_json numbers magnitude) (EntryThen (codes "unit") (whole_number (pos unit)) NoEntries))
+styled_offset_json numbers magnitude unit = JsonObject (EntryThen (codes "magnitude") (integer_json numbers magnitude)
+    (EntryThen (codes "unit") (whole_number (pos unit)) NoEntries))
 
 -- how many more elements there are
 abbrev pub more_json : (left : ℕ) → Json
@@ -27,17 +28,21 @@ module _ (style : Style) where
   abbrev mutual
     pub styled_json_of : Value → Json
     styled_json_of (Mapped (IntegerLabel number type) start end _) = integer_json style.numbers number
-    styled_json_of (Mapped (OffsetLabel magnitude type unit) start end _) = styled_offset_json style.numbers magnitude unit
+    styled_json_of (Mapped (OffsetLabel magnitude type unit) start end _) =
+        styled_offset_json style.numbers magnitude unit
     styled_json_of (Mapped (TextLabel bytes) start end _) = JsonString bytes
     styled_json_of (Mapped ArrayLabel start end members) = JsonList (styled_elements style.elements 0 members)
-    styled_json_of (Mapped (StructLabel name fields) start end members) = JsonObject (styled_entries (StructLabel name fields) 0 members)
-    styled_json_of (Mapped (UnionLabel name index alternative) start end members) = JsonObject (styled_entries (UnionLabel name index alternative) 0 members)
+    styled_json_of (Mapped (StructLabel name fields) start end members) =
+        JsonObject (styled_entries (StructLabel name fields) 0 members)
+    styled_json_of (Mapped (UnionLabel name index alternative) start end members) =
+        JsonObject (styled_entries (UnionLabel name index alternative) 0 members)
 
     -- the present members from a place on, up to the limit
     pub styled_elements : (limit : Option ℕ) → (place : ℕ) → Members → Elements
     styled_elements limit place NoMembers = NoElements
     styled_elements limit place (AbsentThen rest) =
-        if is_past limit place then ElementThen (more_json (suc (member_count rest))) NoElements else styled_elements limit (suc place) rest
+        if is_past limit place then ElementThen (more_json (suc (member_count rest))) NoElements
+        else styled_elements limit (suc place) rest
     styled_elements limit place (MemberThen value rest) =
         if is_past limit place then ElementThen (more_json (suc (member_count rest))) NoElements
         else ElementThen (styled_json_of value) (styled_elements limit (suc place) rest)
@@ -46,4 +51,5 @@ module _ (style : Style) where
     pub styled_entries : Label → (place : ℕ) → Members → Entries
     styled_entries label place NoMembers = NoEntries
     styled_entries label place (AbsentThen rest) = styled_entries label (suc place) rest
-    styled_entries label place (MemberThen value rest) = EntryThen (key_of (member_name label place) place) (styled_json_of value) (styled_entries label (suc place) rest)
+    styled_entries label place (MemberThen value rest) = EntryThen (key_of (member_name label place) place)
+        (styled_json_of value) (styled_entries label (suc place) rest)

@@ -33,14 +33,16 @@ more_cells array from = bits_cell from ++ bits_cell (end_of array - start_of arr
 
 -- the line of the elements of an array from a place and a bit on
 abbrev pub more_leaf : (steps : List ℕ) (array : Value) (place from left : ℕ) → List ℕ
-more_leaf steps array place from left = steps ++ (more_step place ++ (more_cells array from ++ (codes "\t" ++ (more_text left ++ codes "\n"))))
+more_leaf steps array place from left =
+    steps ++ (more_step place ++ (more_cells array from ++ (codes "\t" ++ (more_text left ++ codes "\n"))))
 
 module _ (style : Style) where
   abbrev mutual
     -- the lines of a value to which steps lead: those of its parts or, if it has none, its own
     pub styled_leaves : (steps : List ℕ) → Value → List ℕ
     styled_leaves steps (Mapped label start end members) =
-        if is_parted label members then styled_branches (limit_of style label) steps (Mapped label start end members) 0 members
+        if is_parted label members
+        then styled_branches (limit_of style label) steps (Mapped label start end members) 0 members
         else styled_leaf style steps (Mapped label start end members)
 
     -- the lines of the present members of a value from a place on, up to the limit
@@ -51,7 +53,8 @@ module _ (style : Style) where
         else styled_branches limit steps owner (suc place) rest
     styled_branches limit steps owner place (MemberThen value rest) =
         if is_past limit place then more_leaf steps owner place (start_of value) (suc (member_count rest))
-        else styled_leaves (steps ++ step_text (label_of owner) place) value ++ styled_branches limit steps owner (suc place) rest
+        else styled_leaves (steps ++ step_text (label_of owner) place) value
+        ++ styled_branches limit steps owner (suc place) rest
 
 -- the whole output
 abbrev pub styled_part_lines : Style → Value → List ℕ

@@ -10,7 +10,8 @@ use Rattle.value_text.specs.ValueText.{suffix_of, type_word, integer_text, unit_
 -- the hexadecimal digits of a number below 16^most, without zeros before them
 abbrev pub hex_digits : (most : ℕ) → ℕ → List ℕ
 hex_digits zero number = []
-hex_digits (suc most) number = (if nat_lt number 16 then [] else hex_digits most (number / 16)) ++ hex_digit (number % 16) ∷ []
+hex_digits (suc most) number =
+    (if nat_lt number 16 then [] else hex_digits most (number / 16)) ++ hex_digit (number % 16) ∷ []
 
 -- those before the last one
 abbrev pub upper_digits : (most : ℕ) → ℕ → List ℕ
@@ -64,4 +65,5 @@ json_number Digits number = signed_decimal number
 
 -- the unit is in bits
 unfoldable pub json_offset_in : Numbers → (magnitude : ℤ) (unit : ℕ) → List ℕ
-json_offset_in numbers magnitude unit = codes "{\"magnitude\":" ++ (json_number numbers magnitude ++ (codes ",\"unit\":" ++ (decimal unit ++ codes "}")))
+json_offset_in numbers magnitude unit =
+    codes "{\"magnitude\":" ++ (json_number numbers magnitude ++ (codes ",\"unit\":" ++ (decimal unit ++ codes "}")))

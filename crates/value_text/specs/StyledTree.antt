@@ -30,7 +30,8 @@ module _ (style : Style) where
     pub styled_parts : (limit : Option ℕ) → (level : ℕ) → Label → (place : ℕ) → Members → List ℕ
     styled_parts limit level label place NoMembers = []
     styled_parts limit level label place (AbsentThen rest) =
-        if is_past limit place then more_line level (suc (member_count rest)) else styled_parts limit level label (suc place) rest
+        if is_past limit place then more_line level (suc (member_count rest))
+        else styled_parts limit level label (suc place) rest
     styled_parts limit level label place (MemberThen value rest) =
         if is_past limit place then more_line level (suc (member_count rest))
         else styled_lines level (prefix_text label place) value ++ styled_parts limit level label (suc place) rest

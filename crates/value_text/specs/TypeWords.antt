@@ -44,7 +44,8 @@ shape_word element (shape.Offset type unit) = offset_word type unit
 shape_word element shape.String = codes "string"
 shape_word element (shape.Array of bound) = element of ++ codes "[]"
 shape_word element (shape.Struct name pinned fields) = title_text (codes "struct") (letters_of name)
-shape_word element (shape.Integral name number fields) = title_text (codes "struct") (letters_of name) ++ (codes " " ++ integer_word number)
+shape_word element (shape.Integral name number fields) =
+    title_text (codes "struct") (letters_of name) ++ (codes " " ++ integer_word number)
 shape_word element (shape.Union name alternatives) = title_text (codes "union") (letters_of name)
 
 abbrev pub found_word : (element : ℕ → List ℕ) → Option Node → List ℕ
@@ -54,7 +55,8 @@ found_word element (Some node) = shape_word element node.shape
 -- the word of the type at a node, with at most so many levels of arrays inside one another
 unfoldable pub node_word : (levels : ℕ) → Known → (of : ℕ) → List ℕ
 node_word zero types of = codes ".."
-node_word (suc levels) types of = if is_letter types.letters of then codes "char" else found_word (node_word levels types) (slice_get types.nodes of)
+node_word (suc levels) types of =
+    if is_letter types.letters of then codes "char" else found_word (node_word levels types) (slice_get types.nodes of)
 
 abbrev pub some_word : Known → Option ℕ → List ℕ
 some_word types None = []

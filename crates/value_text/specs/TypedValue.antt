@@ -38,4 +38,5 @@ is_of_chars typed = has_chars (char_node_in (types_in typed)) (part_node_in type
 
 -- the value with its arrays of chars as texts
 abbrev pub typed_shown : Typed → Value
-typed_shown typed = with_texts (nodes_in (types_in typed)) (char_node_in (types_in typed)) (node_in typed) (mapped_in typed)
+typed_shown typed =
+    with_texts (nodes_in (types_in typed)) (char_node_in (types_in typed)) (node_in typed) (mapped_in typed)

@@ -99,16 +99,19 @@ abbrev mutual
   value_text (Mapped (TextLabel bytes) start end _) = string_text bytes
   value_text (Mapped ArrayLabel start end members) = codes "[" ++ (members_text ArrayLabel 0 true members ++ codes "]")
   value_text (Mapped (StructLabel name fields) start end members) =
-      title_text (codes "struct") name ++ (codes " {" ++ (members_text (StructLabel name fields) 0 true members ++ codes "}"))
+      title_text (codes "struct") name
+      ++ (codes " {" ++ (members_text (StructLabel name fields) 0 true members ++ codes "}"))
   value_text (Mapped (UnionLabel name index alternative) start end members) =
-      title_text (codes "union") name ++ (codes " {" ++ (members_text (UnionLabel name index alternative) 0 true members ++ codes "}"))
+      title_text (codes "union") name
+      ++ (codes " {" ++ (members_text (UnionLabel name index alternative) 0 true members ++ codes "}"))
 
   -- the present members from a place on, each after its name if it has one, joined by commas
   pub members_text : Label → (place : ℕ) (first : Bool) → Members → List ℕ
   members_text label place first NoMembers = []
   members_text label place first (AbsentThen rest) = members_text label (suc place) first rest
   members_text label place first (MemberThen value rest) =
-      (comma first ++ (name_text (member_name label place) ++ value_text value)) ++ members_text label (suc place) false rest
+      (comma first ++ (name_text (member_name label place) ++ value_text value))
+      ++ members_text label (suc place) false rest
 
 -- the whole output
 abbrev pub flat_text : Value → List ℕ

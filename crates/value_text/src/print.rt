@@ -45,7 +45,8 @@ use value_store::ValueRef;
 /// of them.
 pub fn print<W: Write>(value: ValueRef<'_>, mode: Mode, w: &mut W) -> Result<(), WriteFault>
     ensures ok { OnOk result (Appends (W.contents w.old) (W.contents w.new) (printed mode (value_shown value.entry))) }
-    ensures err { OnErr result (AppendsPart (W.contents w.old) (W.contents w.new) (printed mode (value_shown value.entry))) }
+    ensures err { OnErr result
+        (AppendsPart (W.contents w.old) (W.contents w.new) (printed mode (value_shown value.entry))) }
 {
     let types = Types::none();
     print_styled(Typed::new(value, &types, None), mode, Style::plain(), w)
@@ -60,7 +61,8 @@ pub fn print_styled<W: Write>(
     w: &mut W,
 ) -> Result<(), WriteFault>
     ensures ok { OnOk result (Appends (W.contents w.old) (W.contents w.new) (typed_printed style mode value.entry)) }
-    ensures err { OnErr result (AppendsPart (W.contents w.old) (W.contents w.new) (typed_printed style mode value.entry)) }
+    ensures err { OnErr result
+        (AppendsPart (W.contents w.old) (W.contents w.new) (typed_printed style mode value.entry)) }
 {
     let mut printer = Printer {
         writer: w,

@@ -257,7 +257,8 @@ pub fn bound_mode<'a>(
     choices: Choices<'a>,
     ties: Ties,
 ) -> Result<Arg<'a>, AllocError>
-    ensures { IfOk result (λ arg. ties ≡ Ties.Without → IsArg (chosen (option_rule (codes "mode")) choices.entry.modes) arg) }
+    ensures { IfOk result
+        (λ arg. ties ≡ Ties.Without → IsArg (chosen (option_rule (codes "mode")) choices.entry.modes) arg) }
 {
     let mode = option(alloc, "mode", "MODE")
         .help("With --text, in this mode alone [default: in any]")
@@ -271,7 +272,8 @@ pub fn bound_numbers<'a>(
     choices: Choices<'a>,
     ties: Ties,
 ) -> Result<Arg<'a>, AllocError>
-    ensures { IfOk result (λ arg. ties ≡ Ties.Without → IsArg (chosen (option_rule (codes "numbers")) choices.entry.numbers) arg) }
+    ensures { IfOk result
+        (λ arg. ties ≡ Ties.Without → IsArg (chosen (option_rule (codes "numbers")) choices.entry.numbers) arg) }
 {
     let numbers = option(alloc, "numbers", "FORM")
         .help("With --text, for numbers in this form [default: decimal]")
@@ -285,7 +287,8 @@ pub fn bound_chars<'a>(
     choices: Choices<'a>,
     ties: Ties,
 ) -> Result<Arg<'a>, AllocError>
-    ensures { IfOk result (λ arg. ties ≡ Ties.Without → IsArg (chosen (option_rule (codes "chars")) choices.entry.chars) arg) }
+    ensures { IfOk result
+        (λ arg. ties ≡ Ties.Without → IsArg (chosen (option_rule (codes "chars")) choices.entry.chars) arg) }
 {
     let chars = option(alloc, "chars", "FORM")
         .help("With --text, for arrays of char in this form [default: numbers]")

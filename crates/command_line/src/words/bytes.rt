@@ -16,9 +16,11 @@ use clap::ArgMatches;
 
 /// Where a mapping starts.
 pub fn start_of(found: &ArgMatches<'_>) -> Result<Start, WordFault>
-    ensures ok { IfOk result (NamesStart (first_value (found_of found.now) (codes "byte")) (word_in (found_of found.now) (codes "at"))) }
+    ensures ok { IfOk result
+        (NamesStart (first_value (found_of found.now) (codes "byte")) (word_in (found_of found.now) (codes "at"))) }
     ensures err { IfErr result (λ fault. fault ≡ Offset) }
-    ensures refused { OnErr result (IsNoStart (first_value (found_of found.now) (codes "byte")) (word_in (found_of found.now) (codes "at"))) }
+    ensures refused { OnErr result
+        (IsNoStart (first_value (found_of found.now) (codes "byte")) (word_in (found_of found.now) (codes "at"))) }
 {
     match found.get_str("byte") {
         Some(word) => byte_start(word.as_bytes()).ok_or(WordFault::Offset),
@@ -28,9 +30,11 @@ pub fn start_of(found: &ArgMatches<'_>) -> Result<Start, WordFault>
 
 /// The number of bytes that the argument `plain` is, or else the offset `name` names.
 pub fn bytes_in(found: &ArgMatches<'_>, plain: &str, name: &str) -> Result<u64, WordFault>
-    ensures ok { IfOk result (NamesBytes (first_value (found_of found.now) plain.now) (word_in (found_of found.now) name.now)) }
+    ensures ok { IfOk result
+        (NamesBytes (first_value (found_of found.now) plain.now) (word_in (found_of found.now) name.now)) }
     ensures err { IfErr result (λ fault. fault ≡ Offset) }
-    ensures refused { OnErr result (IsNoBytes (first_value (found_of found.now) plain.now) (word_in (found_of found.now) name.now)) }
+    ensures refused { OnErr result
+        (IsNoBytes (first_value (found_of found.now) plain.now) (word_in (found_of found.now) name.now)) }
 {
     match found.get_str(plain) {
         Some(word) => plain_bytes(word),

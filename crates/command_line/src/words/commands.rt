@@ -321,7 +321,8 @@ fn with_mapping<'a>(
     choices: Choices<'a>,
     ties: Ties,
 ) -> Result<Command<'a>, AllocError>
-    ensures { IfOk result (λ made. (app : App) (rule : Rule) → ties ≡ Ties.Without → IsApp app command.entry → IsArg rule get.entry
+    ensures { IfOk result
+        (λ made. (app : App) (rule : Rule) → ties ≡ Ties.Without → IsApp app command.entry → IsArg rule get.entry
         → IsApp (with_rules app (mapping_rules choices.entry rule)) made) }
 {
     command

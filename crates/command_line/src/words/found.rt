@@ -35,7 +35,8 @@ pub fn number_if_any(
     place: &str,
 ) -> Result<Option<u64>, WordFault>
     ensures ok { IfOk result (NumberIfAny (first_value (found_of found.now) name.now)) }
-    ensures err { IfErr result (λ fault. (fault ≡ Memory) ⊎ IsNoNumberIfAny (first_value (found_of found.now) name.now)) }
+    ensures err { IfErr result
+        (λ fault. (fault ≡ Memory) ⊎ IsNoNumberIfAny (first_value (found_of found.now) name.now)) }
     ensures fault { IfErr result (λ fault. fault ≢ WordFault.Offset) }
     ensures misread { IfErr result (FailsFor (IsNoNumberIfAny (first_value (found_of found.now) name.now)) ⊥) }
 {
@@ -54,7 +55,8 @@ pub fn number_of(
     default: u64,
 ) -> Result<u64, WordFault>
     ensures ok { IfOk result (NumberIn (first_value (found_of found.now) name.now) default) }
-    ensures err { IfErr result (λ fault. (fault ≡ Memory) ⊎ IsNoNumberIfAny (first_value (found_of found.now) name.now)) }
+    ensures err { IfErr result
+        (λ fault. (fault ≡ Memory) ⊎ IsNoNumberIfAny (first_value (found_of found.now) name.now)) }
     ensures fault { IfErr result (λ fault. fault ≢ WordFault.Offset) }
     ensures misread { IfErr result (FailsFor (IsNoNumberIfAny (first_value (found_of found.now) name.now)) ⊥) }
 {

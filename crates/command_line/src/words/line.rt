@@ -73,7 +73,8 @@ fn push_spelled(
     place: Place,
     word: &str,
 ) -> Result<(), AllocError>
-    ensures { OnOk result (map string_bytes line.new.items ≡ map string_bytes line.old.items ++ spelled place word.now) }
+    ensures { OnOk result
+        (map string_bytes line.new.items ≡ map string_bytes line.old.items ++ spelled place word.now) }
 {
     match place {
         Place::Options if word == BYTE => Ok(()),
@@ -84,7 +85,8 @@ fn push_spelled(
 
 // The value of `--byte`.
 fn push_value(alloc: Global, line: &mut Vec<String>, word: &str) -> Result<(), AllocError>
-    ensures { OnOk result (map string_bytes line.new.items ≡ map string_bytes line.old.items ++ spelled Place.Byte word.now) }
+    ensures { OnOk result
+        (map string_bytes line.new.items ≡ map string_bytes line.old.items ++ spelled Place.Byte word.now) }
 {
     if begins_with_minus(word) {
         let mut joined = String::from_str(alloc, "--byte=")?;

@@ -33,7 +33,8 @@ pub struct MappingWords {
 pub fn mapping_words(alloc: Global, found: &ArgMatches<'_>) -> Result<MappingWords, WordFault>
     ensures asks { IfOk result (AsksMappingOf (found_of found.now)) }
     ensures offset { IfErr result (λ fault. fault ≡ Offset → StartsNowhere (found_of found.now)) }
-    ensures misread { IfErr result (FailsFor (IsNoNumberIfAny (first_value (found_of found.now) (codes "limit"))) (StartsNowhere (found_of found.now))) }
+    ensures misread { IfErr result (FailsFor (IsNoNumberIfAny (first_value (found_of found.now) (codes "limit")))
+        (StartsNowhere (found_of found.now))) }
 {
     Ok(MappingWords {
         start: start_of(found)?,

@@ -155,7 +155,8 @@ fn rows_of(
 ) -> Result<Rows, WordFault>
     ensures ok { IfOk result (NamesRows (found_of found.now) pattern.now (map (λ word. word.now) words.now)) }
     ensures fault { IfErr result (λ fault. fault ≢ Offset) }
-    ensures misread { IfErr result (FailsFor (MisreadRows (found_of found.now) pattern.now (map (λ word. word.now) words.now)) ⊥) }
+    ensures misread { IfErr result
+        (FailsFor (MisreadRows (found_of found.now) pattern.now (map (λ word. word.now) words.now)) ⊥) }
 {
     let header = flag_of(found, "header");
     check_mode(alloc, word(found, "mode"), header)?;

@@ -24,9 +24,11 @@ pub fn style_of(
     most_elements: Option<u64>,
 ) -> Result<Style, WordFault>
     ensures style { IfOk result (NamesStyle (found_of found.now) most_elements) }
-    ensures usage { IfErr result (λ fault. (fault ≡ Memory) ⊎ IsNoElementsIfAny (first_value (found_of found.now) (codes "elements"))) }
+    ensures usage { IfErr result
+        (λ fault. (fault ≡ Memory) ⊎ IsNoElementsIfAny (first_value (found_of found.now) (codes "elements"))) }
     ensures fault { IfErr result (λ fault. fault ≢ Offset) }
-    ensures misread { IfErr result (FailsFor (IsNoElementsIfAny (first_value (found_of found.now) (codes "elements"))) ⊥) }
+    ensures misread { IfErr result
+        (FailsFor (IsNoElementsIfAny (first_value (found_of found.now) (codes "elements"))) ⊥) }
 {
     Ok(Style {
         numbers: numbers_of(word(found, "numbers")),

@@ -13,5 +13,6 @@ returns-then-eq-clause-other c = λ differs own.
     (λ same.
     false≢true
     (sym differs ∙ c.eq-then-eq.ensures
-    ∙ both_true (true_same the_type c.in-Fault.told.kind c.args.fault.kind (ap (λ (f : MapFault). f.kind) same)) (rw same (eqb_self c.args.fault.at))))
+    ∙ both_true (true_same the_type c.in-Fault.told.kind c.args.fault.kind (ap (λ (f : MapFault). f.kind) same))
+    (rw same (eqb_self c.args.fault.at))))
     own

@@ -8,7 +8,8 @@ use Rattle.fault_report.proofs.reasons_in.Goals as goal
 
 pub returns-clause-why : goal.returns-clause-why
 returns-clause-why g c =
-    let run = run_of (g.S.Space.view c.args.space.now) (g.S.Space.view c.again.new.space) c.args.mapping.ask.now c.args.terms.now c.args.outcome in
+    let run = run_of (g.S.Space.view c.args.space.now) (g.S.Space.view c.again.new.space) c.args.mapping.ask.now
+    c.args.terms.now c.args.outcome in
     let type = mapped_type c.args.mapping in
     let found = scene_type c.in_ok-scene.scene in
     let same : found ≡ type = rw (c.in_ok-scene.ensures.nodes, c.in_ok-scene.ensures.root) refl in
@@ -17,5 +18,6 @@ returns-clause-why g c =
       | in-Err+in_ok-text-in-Err w ↦
           let ended : c.in_ok-end.field-0.end ≡ Err w.in-Err.fault = (cc) in
           rw w.text-is
-          (told_again run type found c.in_ok-end.field-0 w.in-Err.fault _ same ended c.in_ok-end.ensures.fault c.in_ok-end.ensures.part c.in_ok-end.ensures.device (w.in_ok-text-in-Err.ensures.why run.space run.after))
+          (told_again run type found c.in_ok-end.field-0 w.in-Err.fault _ same ended c.in_ok-end.ensures.fault
+          c.in_ok-end.ensures.part c.in_ok-end.ensures.device (w.in_ok-text-in-Err.ensures.why run.space run.after))
     ]

@@ -79,7 +79,8 @@ pub fn find_start(
     ensures limit { meter.new.limit ≡ meter.old.limit }
     ensures made { meter.new.made ≡ meter.old.made }
     ensures steps { meter.old.steps ≤ meter.new.steps }
-    ensures is { (nodes : List TableNode) → FindsStart nodes meter.old meter.new store.now pinned label.now start behind result }
+    ensures is { (nodes : List TableNode) →
+        FindsStart nodes meter.old meter.new store.now pinned label.now start behind result }
 {
     if pinned {
         return Ok(u128::from(start));
@@ -119,7 +120,8 @@ fn labelled_start(e: &Resolved, store: &Store, start: u128, meter: &mut Meter) -
     ensures limit { meter.new.limit ≡ meter.old.limit }
     ensures made { meter.new.made ≡ meter.old.made }
     ensures steps { meter.old.steps ≤ meter.new.steps }
-    ensures is { (nodes : List TableNode) → TellsOf nodes meter.old meter.new store.now e.now start (behind_start start) result }
+    ensures is { (nodes : List TableNode) →
+        TellsOf nodes meter.old meter.new store.now e.now start (behind_start start) result }
 {
     behind_start(told(e, store, start, meter)?, start)
 }
@@ -136,7 +138,8 @@ fn evaluated_count(
     ensures limit { meter.new.limit ≡ meter.old.limit }
     ensures made { meter.new.made ≡ meter.old.made }
     ensures steps { meter.old.steps ≤ meter.new.steps }
-    ensures is { (nodes : List TableNode) → TellsOf nodes meter.old meter.new store.now e.now start (count_of start) result }
+    ensures is { (nodes : List TableNode) →
+        TellsOf nodes meter.old meter.new store.now e.now start (count_of start) result }
 {
     count_of(told(e, store, start, meter)?, start)
 }
@@ -153,7 +156,8 @@ fn evaluated_size(
     ensures limit { meter.new.limit ≡ meter.old.limit }
     ensures made { meter.new.made ≡ meter.old.made }
     ensures steps { meter.old.steps ≤ meter.new.steps }
-    ensures is { (nodes : List TableNode) → TellsOf nodes meter.old meter.new store.now e.now start (size_of start) result }
+    ensures is { (nodes : List TableNode) →
+        TellsOf nodes meter.old meter.new store.now e.now start (size_of start) result }
 {
     size_of(told(e, store, start, meter)?, start)
 }

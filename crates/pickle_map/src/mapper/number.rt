@@ -120,7 +120,8 @@ impl<W: Watch> Mapper<'_, W> {
         ensures frame { WorkFrame self.old self.new 1 result }
         ensures is { Places self.old self.new (IntegerOf number) digits start result }
         ensures more { PlacesMore self.old.store.now self.new.store.now }
-        ensures adds { OnOk result (IsPushed self.old.store.now self.new.store.now (Some (integer_value number digits start))) }
+        ensures adds { OnOk result
+            (IsPushed self.old.store.now self.new.store.now (Some (integer_value number digits start))) }
         ensures moves { OnOk result (Moves self.old.store.now self.new.store.now PlacesNumber) }
         ensures within { OnOk result (HoldsInRoom self.new.store.now) }
         ensures level { AddsToLevel self.old self.new result }
@@ -145,7 +146,8 @@ impl<W: Watch> Mapper<'_, W> {
         ensures frame { WorkFrame self.old self.new 1 result }
         ensures is { Places self.old self.new (OffsetOf number unit) digits start result }
         ensures more { PlacesMore self.old.store.now self.new.store.now }
-        ensures adds { OnOk result (IsPushed self.old.store.now self.new.store.now (Some (offset_value number unit digits start))) }
+        ensures adds { OnOk result
+            (IsPushed self.old.store.now self.new.store.now (Some (offset_value number unit digits start))) }
         ensures moves { OnOk result (Moves self.old.store.now self.new.store.now PlacesNumber) }
         ensures within { OnOk result (HoldsInRoom self.new.store.now) }
         ensures level { AddsToLevel self.old self.new result }
@@ -174,7 +176,8 @@ impl<W: Watch> Mapper<'_, W> {
         requires start { start < 2 ^ 63 }
         requires free { self.old.meter.now.made < self.old.meter.now.steps }
         ensures frame { WorkFrame self.old self.new 1 result }
-        ensures is { Places self.old self.new (integral_at self.old.nodes.now at number fields.now) digits start result }
+        ensures is { Places self.old self.new (integral_at self.old.nodes.now at number fields.now)
+            digits start result }
         ensures level { AddsToLevel self.old self.new result }
     {
         self.watch.open(at);

@@ -193,7 +193,8 @@ impl<W: Watch> Mapper<'_, W> {
         requires at { at < length self.old.nodes.now }
         requires scalar { IsScalar (type_of self.old.nodes.now at) }
         requires inside { start ≤ 8 * (S.view space.old).len }
-        requires room { array_vec_len row.old + bytes_for (number_bits (scalar_shape (type_of self.old.nodes.now at))) ≤ 512 }
+        requires room { array_vec_len row.old + bytes_for (number_bits (scalar_shape (type_of self.old.nodes.now at)))
+            ≤ 512 }
         ensures frame { Frame (S.view space.old) (S.view space.new) self.old self.new 0 result }
         ensures ends { IfOk result (IsEnd start (S.view space.old)) }
         ensures is { Maps (S.view space.old) self.old self.new (as_type at order start) result }
@@ -225,7 +226,8 @@ impl<W: Watch> Mapper<'_, W> {
         requires scalar { IsScalar (type_of self.old.nodes.now node) }
         requires sound { IsSoundClause (optional_term constraint.now) }
         requires inside { start ≤ 8 * (S.view space.old).len }
-        requires room { array_vec_len row.old + bytes_for (number_bits (scalar_shape (type_of self.old.nodes.now node))) ≤ 512 }
+        requires room { array_vec_len row.old + bytes_for (number_bits (scalar_shape (type_of self.old.nodes.now node)))
+            ≤ 512 }
         ensures frame { Frame (S.view space.old) (S.view space.new) self.old self.new 0 result }
         ensures ends { IfOk result (IsEnd start (S.view space.old)) }
         ensures is { Maps (S.view space.old) self.old self.new (as_checked node constraint.now order start) result }
@@ -266,7 +268,8 @@ impl<W: Watch> Mapper<'_, W> {
         ensures ends { IfOk result (IsEnd start (S.view space.old)) }
         ensures is { Fills (S.view space.old) self.old self.new (as_fields false fields.now order start) result }
         ensures more { PlacesMore self.old.store.now self.new.store.now }
-        ensures adds { IfOk result (λ end. AddsColumns self.old self.new fields.now start end row.old.items row.new.items) }
+        ensures adds { IfOk result
+            (λ end. AddsColumns self.old self.new fields.now start end row.old.items row.new.items) }
         ensures level { LevelStays self.old self.new }
     {
         let mut place = start;

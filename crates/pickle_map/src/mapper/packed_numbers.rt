@@ -95,7 +95,8 @@ impl<W: Watch> Mapper<'_, W> {
         space: &mut S,
     ) -> Result<u64, Stop>
         requires shape { PacksAs shape (type_of self.old.nodes.now element) self.old.store.now.room }
-        requires packing { IsPacking self.old.nodes.now self.old.store.now shape [] start (outer_of (levels self.old.nodes.now self.old.store.now)) }
+        requires packing { IsPacking self.old.nodes.now self.old.store.now shape [] start
+            (outer_of (levels self.old.nodes.now self.old.store.now)) }
         requires open { 1 < level_count self.old.store.now }
         requires inside { start ≤ 8 * (S.view space.old).len }
         requires free { self.old.meter.now.made < self.old.meter.now.steps }
@@ -123,7 +124,8 @@ impl<W: Watch> Mapper<'_, W> {
         space: &mut S,
     ) -> Result<u64, Stop>
         requires shape { PacksAs shape (type_of self.old.nodes.now element) self.old.store.now.room }
-        requires packing { IsPacking self.old.nodes.now self.old.store.now shape [] start (outer_of (levels self.old.nodes.now self.old.store.now)) }
+        requires packing { IsPacking self.old.nodes.now self.old.store.now shape [] start
+            (outer_of (levels self.old.nodes.now self.old.store.now)) }
         requires inside { start ≤ 8 * (S.view space.old).len }
         ensures frame { Frame (S.view space.old) (S.view space.new) self.old self.new 0 result }
         ensures ends { IfOk result (IsEnd start (S.view space.old)) }

@@ -63,7 +63,8 @@ fn draft_columns(
     requires few { struct_bytes (shapes_of (type_of nodes.now) fields.now) ≤ 512 }
     requires within { HoldsInRoom store.old }
     requires short { start < 2 ^ 63 }
-    ensures draft { OnOk result (Drafts nodes.now store.old store.new (shapes_of (type_of nodes.now) fields.now) start) }
+    ensures draft { OnOk result
+        (Drafts nodes.now store.old store.new (shapes_of (type_of nodes.now) fields.now) start) }
     ensures state { ComesTo store.old store.new (after_columns (length fields.now) (state_of store.old)) result }
     ensures room { KeepsRoom store.old store.new }
     ensures stays { framed.LevelStays nodes.now store.old store.new }
@@ -94,7 +95,8 @@ impl<W: Watch> Mapper<'_, W> {
         requires record { IsRecord self.old element fields.now }
         requires fields { All (IsFieldOf self.old.nodes.now (level_count self.old.store.now + 1)) fields.now }
         requires open { (1 < level_count self.old.store.now) × (level_count self.old.store.now ≤ 64) }
-        requires fresh { levels self.old.nodes.now self.old.store.now ≡ [] ∷ outer_of (levels self.old.nodes.now self.old.store.now) }
+        requires fresh { levels self.old.nodes.now self.old.store.now
+            ≡ [] ∷ outer_of (levels self.old.nodes.now self.old.store.now) }
         requires opened { IsOpened self.old.store.now }
         requires inside { start ≤ 8 * (S.view space.old).len }
         requires free { self.old.meter.now.made < self.old.meter.now.steps }
@@ -126,12 +128,14 @@ impl<W: Watch> Mapper<'_, W> {
         requires record { IsRecord self.old element fields.now }
         requires fields { All (IsFieldOf self.old.nodes.now (level_count self.old.store.now + 1)) fields.now }
         requires open { level_count self.old.store.now ≤ 64 }
-        requires fresh { levels self.old.nodes.now self.old.store.now ≡ [] ∷ outer_of (levels self.old.nodes.now self.old.store.now) }
+        requires fresh { levels self.old.nodes.now self.old.store.now
+            ≡ [] ∷ outer_of (levels self.old.nodes.now self.old.store.now) }
         requires opened { IsOpened self.old.store.now }
         requires inside { start ≤ 8 * (S.view space.old).len }
         ensures frame { Frame (S.view space.old) (S.view space.new) self.old self.new 0 result }
         ensures ends { IfOk result (IsEnd start (S.view space.old)) }
-        ensures is { PacksAll (S.view space.old) self.old self.new element fields.now start (as_elements element extent order start) result }
+        ensures is { PacksAll (S.view space.old) self.old self.new element fields.now start
+            (as_elements element extent order start) result }
         ensures level { LevelStays self.old self.new }
     {
         let bits = 8 * space.len();
@@ -181,7 +185,8 @@ impl<W: Watch> Mapper<'_, W> {
         requires inside { start ≤ 8 * (S.view space.old).len }
         ensures frame { Frame (S.view space.old) (S.view space.new) self.old self.new 0 result }
         ensures ends { IfOk result (IsEnd start (S.view space.old)) }
-        ensures is { PacksOne (S.view space.old) self.old self.new at fields.now start (as_record at fields.now order start) result }
+        ensures is { PacksOne (S.view space.old) self.old self.new at fields.now start
+            (as_record at fields.now order start) result }
         ensures level { LevelStays self.old self.new }
     {
         self.meter.tick()?;
@@ -214,7 +219,8 @@ impl<W: Watch> Mapper<'_, W> {
         requires free { self.old.meter.now.made < self.old.meter.now.steps }
         ensures frame { Frame (S.view space.old) (S.view space.new) self.old self.new 1 result }
         ensures ends { IfOk result (IsEnd start (S.view space.old)) }
-        ensures is { PacksOne (S.view space.old) self.old self.new at fields.now start (as_packed at fields.now order start) result }
+        ensures is { PacksOne (S.view space.old) self.old self.new at fields.now start
+            (as_packed at fields.now order start) result }
         ensures level { LevelStays self.old self.new }
     {
         self.store.open_level();
@@ -241,7 +247,8 @@ impl<W: Watch> Mapper<'_, W> {
         requires ends { end ≡ start + struct_bits (columns_of self.old fields.now) }
         requires stride { stride ≡ struct_bytes (columns_of self.old fields.now) }
         requires short { start < 2 ^ 63 }
-        requires within { IsWithin (in_frame (length fields.now) (state_of self.old.store.now)) self.old.store.now.capacity }
+        requires within { IsWithin (in_frame (length fields.now) (state_of self.old.store.now))
+            self.old.store.now.capacity }
         requires holds { HoldsInRoom self.old.store.now }
         ensures frame { StoreFrame self.old self.new }
         ensures opens { OnOk result (OpensArray self.old self.new at fields.now start) }
@@ -267,7 +274,8 @@ impl<W: Watch> Mapper<'_, W> {
         requires record { IsRecord self.old at fields.now }
         requires takes { TakesRow self.old at fields.now start end row.now }
         requires short { start < 2 ^ 63 }
-        requires within { IsWithin (in_frame (length fields.now) (state_of self.old.store.now)) self.old.store.now.capacity }
+        requires within { IsWithin (in_frame (length fields.now) (state_of self.old.store.now))
+            self.old.store.now.capacity }
         requires holds { HoldsInRoom self.old.store.now }
         ensures frame { StoreFrame self.old self.new }
         ensures adds { OnOk result (AddsRow self.old self.new at fields.now start row.now) }

@@ -27,7 +27,8 @@ pub fn read_digits<S: Space>(
     ensures steps { OnOk result (meter.new.steps ≡ meter.old.steps + 1) }
     ensures inside { OnOk result (start + width ≤ 8 * (S.view space.old).len) }
     ensures ok { IfOk result (λ n. MayRead (known_bits (S.view space.old)) order start width n) }
-    ensures err { IfErr result (StopsReading start (start + width) (S.view space.old) (S.view space.new) meter.old meter.new) }
+    ensures err { IfErr result
+        (StopsReading start (start + width) (S.view space.old) (S.view space.new) meter.old meter.new) }
 {
     match read_number(space, start, width, order, meter) {
         Ok(digits) => Ok(digits),

@@ -39,7 +39,8 @@ impl<W: Watch> Mapper<'_, W> {
     #[inline(never)]
     fn text_body<S: Space>(&mut self, start: u64, space: &mut S) -> Result<u64, Stop>
         requires inside { start ≤ 8 * (S.view space.old).len }
-        requires writing { IsWriting self.old.nodes.now self.old.store.now [] start (outer_of (levels self.old.nodes.now self.old.store.now)) }
+        requires writing { IsWriting self.old.nodes.now self.old.store.now [] start
+            (outer_of (levels self.old.nodes.now self.old.store.now)) }
         requires open { 1 < level_count self.old.store.now }
         requires free { self.old.meter.now.made < self.old.meter.now.steps }
         ensures frame { Frame (S.view space.old) (S.view space.new) self.old self.new 0 result }

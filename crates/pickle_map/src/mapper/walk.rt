@@ -200,8 +200,10 @@ impl<W: Watch> Mapper<'_, W> {
     ) -> Result<u64, Stop>
         requires table { IsTable self.old.nodes.now }
         requires element { element < length self.old.nodes.now }
-        requires open { (1 < level_count self.old.store.now) × (level_count self.old.store.now + depth (type_of self.old.nodes.now element) ≤ 65) }
-        requires fresh { levels self.old.nodes.now self.old.store.now ≡ [] ∷ outer_of (levels self.old.nodes.now self.old.store.now) }
+        requires open { (1 < level_count self.old.store.now)
+            × (level_count self.old.store.now + depth (type_of self.old.nodes.now element) ≤ 65) }
+        requires fresh { levels self.old.nodes.now self.old.store.now
+            ≡ [] ∷ outer_of (levels self.old.nodes.now self.old.store.now) }
         requires opened { IsOpened self.old.store.now }
         requires sound { AreLevels self.old.store.now.room self.old.store.now.frames self.old.store.now.slots }
         requires inside { start ≤ 8 * (S.view space.old).len }
@@ -232,8 +234,10 @@ impl<W: Watch> Mapper<'_, W> {
     ) -> Result<u64, Stop>
         requires table { IsTable self.old.nodes.now }
         requires element { element < length self.old.nodes.now }
-        requires open { (1 < level_count self.old.store.now) × (level_count self.old.store.now + depth (type_of self.old.nodes.now element) ≤ 65) }
-        requires fresh { levels self.old.nodes.now self.old.store.now ≡ [] ∷ outer_of (levels self.old.nodes.now self.old.store.now) }
+        requires open { (1 < level_count self.old.store.now)
+            × (level_count self.old.store.now + depth (type_of self.old.nodes.now element) ≤ 65) }
+        requires fresh { levels self.old.nodes.now self.old.store.now
+            ≡ [] ∷ outer_of (levels self.old.nodes.now self.old.store.now) }
         requires apart { StandApart (type_of self.old.nodes.now element) self.old.store.now.room }
         requires inside { start ≤ 8 * (S.view space.old).len }
         requires free { self.old.meter.now.made < self.old.meter.now.steps }
@@ -350,7 +354,8 @@ impl<W: Watch> Mapper<'_, W> {
         requires free { self.old.meter.now.made < self.old.meter.now.steps }
         ensures frame { Frame (S.view space.old) (S.view space.new) self.old self.new 1 result }
         ensures ends { IfOk result (IsEnd start (S.view space.old)) }
-        ensures is { Closes (S.view space.old) self.old self.new (as_struct_level at pinned fields.now order start) result }
+        ensures is { Closes (S.view space.old) self.old self.new
+            (as_struct_level at pinned fields.now order start) result }
         ensures level { LeavesLevel self.old self.new result }
     {
         let end = self.map_fields(pinned, fields, order, start, space)?;
@@ -429,7 +434,8 @@ impl<W: Watch> Mapper<'_, W> {
     ) -> Result<u64, Stop>
         requires table { IsTable self.old.nodes.now }
         requires at { at < length self.old.nodes.now }
-        requires alternatives { All (IsPartOf self.old.nodes.now (level_count self.old.store.now + 1)) alternatives.now }
+        requires alternatives { All
+            (IsPartOf self.old.nodes.now (level_count self.old.store.now + 1)) alternatives.now }
         requires few { length alternatives.now ≤ 2 ^ 16 }
         requires names { names_at self.old.nodes.now at ≡ map part_name alternatives.now }
         requires open { level_count self.old.store.now ≤ 64 }
@@ -463,12 +469,14 @@ impl<W: Watch> Mapper<'_, W> {
         requires few { length alternatives.now ≤ 2 ^ 16 }
         requires names { names_at self.old.nodes.now at ≡ map part_name alternatives.now }
         requires open { 1 < level_count self.old.store.now }
-        requires fresh { levels self.old.nodes.now self.old.store.now ≡ [] ∷ outer_of (levels self.old.nodes.now self.old.store.now) }
+        requires fresh { levels self.old.nodes.now self.old.store.now
+            ≡ [] ∷ outer_of (levels self.old.nodes.now self.old.store.now) }
         requires inside { start ≤ 8 * (S.view space.old).len }
         requires free { self.old.meter.now.made < self.old.meter.now.steps }
         ensures frame { Frame (S.view space.old) (S.view space.new) self.old self.new 1 result }
         ensures ends { IfOk result (IsEnd start (S.view space.old)) }
-        ensures is { Closes (S.view space.old) self.old self.new (as_union_level at alternatives.now order start) result }
+        ensures is { Closes (S.view space.old) self.old self.new
+            (as_union_level at alternatives.now order start) result }
         ensures level { LeavesLevel self.old self.new result }
     {
         let (index, end) = self.map_alternatives(alternatives, order, start, space)?;
@@ -488,7 +496,8 @@ impl<W: Watch> Mapper<'_, W> {
     ) -> Result<(usize, u64), Stop>
         requires table { IsTable self.old.nodes.now }
         requires alternatives { All (IsPartOf self.old.nodes.now (level_count self.old.store.now)) alternatives.now }
-        requires fresh { levels self.old.nodes.now self.old.store.now ≡ [] ∷ outer_of (levels self.old.nodes.now self.old.store.now) }
+        requires fresh { levels self.old.nodes.now self.old.store.now
+            ≡ [] ∷ outer_of (levels self.old.nodes.now self.old.store.now) }
         requires inside { start ≤ 8 * (S.view space.old).len }
         ensures frame { Frame (S.view space.old) (S.view space.new) self.old self.new 0 result }
         ensures ends { IfOk result (λ r. IsEnd start (S.view space.old) r.1 × (r.0 < length alternatives.now)) }

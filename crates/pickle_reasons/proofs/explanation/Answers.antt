@@ -10,4 +10,5 @@ pub returns-in-Ok : goal.returns-in-Ok
 returns-in-Ok c = unplaced c.in-Ok.ensures.ok.1
 
 pub returns : goal.returns
-returns c = placed_if c.args.pickle.now c.args.path.now refl (λ v. v.items) c.refusal_explanation.result c.refusal_explanation.ensures
+returns c = placed_if c.args.pickle.now c.args.path.now refl (λ v. v.items) c.refusal_explanation.result
+    c.refusal_explanation.ensures

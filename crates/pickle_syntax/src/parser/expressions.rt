@@ -126,7 +126,8 @@ fn with_suffix<'t>(
     suffix: Suffix<'t>,
 ) -> Result<FoundExpression<'t>, Stop>
     requires { left.depth < 255 }
-    ensures made { IfOk result (λ x. expression_tree x.expression ≡ After (expression_tree left.entry.expression) (suffix_tree suffix.entry)) }
+    ensures made { IfOk result
+        (λ x. expression_tree x.expression ≡ After (expression_tree left.entry.expression) (suffix_tree suffix.entry)) }
     ensures deep { IfOk result (λ x. x.depth ≡ left.entry.depth + 1) }
     ensures fails { IfErr result (λ e. e ≡ Memory) }
 {
@@ -151,7 +152,8 @@ fn infix<'a, 't>(
 ) -> Result<(FoundExpression<'t>, &'a [Kind<'t>]), Stop>
     requires room { room < 255 }
     requires left { left.depth ≤ room }
-    ensures read { ReadsExpression result (step_at (expression_at room) (expression_tree left.entry.expression) (tokens_of rest.now) (next.Infix op)) }
+    ensures read { ReadsExpression result
+        (step_at (expression_at room) (expression_tree left.entry.expression) (tokens_of rest.now) (next.Infix op)) }
     ensures low { IfOk result (λ x. x.0.depth ≤ room + 1) }
 {
     let (right, rest) = expression(alloc, room, level(op) + 1, rest)?;
@@ -176,7 +178,8 @@ fn choice<'a, 't>(
 ) -> Result<(FoundExpression<'t>, &'a [Kind<'t>]), Stop>
     requires room { room < 255 }
     requires left { left.depth ≤ room }
-    ensures read { ReadsExpression result (step_at (expression_at room) (expression_tree left.entry.expression) (tokens_of rest.now) next.Choice) }
+    ensures read { ReadsExpression result
+        (step_at (expression_at room) (expression_tree left.entry.expression) (tokens_of rest.now) next.Choice) }
     ensures low { IfOk result (λ x. x.0.depth ≤ room + 1) }
 {
     let (yes, rest) = expression(alloc, room, 1, rest)?;
@@ -203,7 +206,8 @@ fn index<'a, 't>(
 ) -> Result<(FoundExpression<'t>, &'a [Kind<'t>]), Stop>
     requires room { room < 255 }
     requires left { left.depth ≤ room }
-    ensures read { ReadsExpression result (step_at (expression_at room) (expression_tree left.entry.expression) (tokens_of rest.now) next.Index) }
+    ensures read { ReadsExpression result
+        (step_at (expression_at room) (expression_tree left.entry.expression) (tokens_of rest.now) next.Index) }
     ensures low { IfOk result (λ x. x.0.depth ≤ room + 1) }
 {
     let (index, rest) = expression(alloc, room, 1, rest)?;
@@ -229,7 +233,8 @@ fn step<'a, 't>(
 ) -> Result<(FoundExpression<'t>, &'a [Kind<'t>]), Stop>
     requires room { room < 255 }
     requires left { left.depth ≤ room }
-    ensures read { ReadsExpression result (step_at (expression_at room) (expression_tree left.entry.expression) (tokens_of rest.now) next) }
+    ensures read { ReadsExpression result
+        (step_at (expression_at room) (expression_tree left.entry.expression) (tokens_of rest.now) next) }
     ensures low { IfOk result (λ x. x.0.depth ≤ room + 1) }
 {
     match next {
@@ -272,7 +277,8 @@ fn chain<'a, 't>(
 ) -> Result<(FoundExpression<'t>, &'a [Kind<'t>]), Stop>
     requires room { room < 255 }
     requires left { left.depth ≤ room + 1 }
-    ensures read { ReadsExpression result (chain (expression_at room) room steps level (expression_tree left.entry.expression) (tokens_of tokens.now)) }
+    ensures read { ReadsExpression result
+        (chain (expression_at room) room steps level (expression_tree left.entry.expression) (tokens_of tokens.now)) }
     ensures low { IfOk result (λ x. x.0.depth ≤ room + 1) }
 {
     let mut left = left;

@@ -155,7 +155,8 @@ pub fn fields_at<'a, 't>(
     room: u8,
     tokens: &'a [Kind<'t>],
 ) -> Result<(FoundFields<'t>, &'a [Kind<'t>]), Stop>
-    ensures read { ReadsFields result (fields_at standard (form_at standard room) standard.fields (tokens_of tokens.now)) }
+    ensures read { ReadsFields result
+        (fields_at standard (form_at standard room) standard.fields (tokens_of tokens.now)) }
     ensures low { IfOk result (λ x. x.0.depth ≤ room) }
 {
     let mut fields = Vec::new(alloc);

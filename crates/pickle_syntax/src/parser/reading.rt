@@ -58,7 +58,8 @@ pub fn expect<'a, 't>(tokens: &'a [Kind<'t>], sign: Sign) -> Result<&'a [Kind<'t
 
 /// The tokens after this word, with which they must begin.
 pub fn expect_word<'a, 't>(tokens: &'a [Kind<'t>], word: Word) -> Result<&'a [Kind<'t>], Stop>
-    ensures { Gives (λ x. tokens_of x.now) result (needed (after_word word (tokens_of tokens.now)) (tokens_of tokens.now)) }
+    ensures { Gives (λ x. tokens_of x.now) result
+        (needed (after_word word (tokens_of tokens.now)) (tokens_of tokens.now)) }
 {
     match after_word(tokens, word) {
         Some(rest) => Ok(rest),

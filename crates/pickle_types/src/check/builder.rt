@@ -115,7 +115,8 @@ impl<'n> Builder<'n> {
         requires inside { found.node < length self.old.nodes }
         requires deep { found.depth ≡ Types.depth (type_of self.old.nodes found.node) }
         ensures ready { OnOk result (IsReady self.new) }
-        ensures known { OnOk result (known_types self.new ≡ known_types self.old ++ (word.now, type_of self.old.nodes found.node) ∷ []) }
+        ensures known { OnOk result
+            (known_types self.new ≡ known_types self.old ++ (word.now, type_of self.old.nodes found.node) ∷ []) }
         ensures nodes { self.new.nodes ≡ self.old.nodes }
         ensures err { IfErr result (λ e. e ≡ FaultKind.Memory) }
     {
@@ -187,9 +188,12 @@ impl<'n> Builder<'n> {
         requires within { AreDeclarationsWithin standard (map declaration_tree declarations.now) }
         requires space { HasRoom self.old (pickle_form_count (map declaration_tree declarations.now)) }
         ensures ready { OnOk result (IsReady self.new) }
-        ensures ok { OnOk result (declared (known_types self.old) (map declaration_tree declarations.now) ≡ Ok (known_types self.new)) }
-        ensures err { IfErr result (λ e. Fails e.kind (declared (known_types self.old) (map declaration_tree declarations.now))) }
-        ensures place { IfErr result (λ e. TellsPlace e.kind e.decl (first_wrong 1 (known_types self.old) (map declaration_tree declarations.now))) }
+        ensures ok { OnOk result
+            (declared (known_types self.old) (map declaration_tree declarations.now) ≡ Ok (known_types self.new)) }
+        ensures err { IfErr result
+            (λ e. Fails e.kind (declared (known_types self.old) (map declaration_tree declarations.now))) }
+        ensures place { IfErr result (λ e.
+            TellsPlace e.kind e.decl (first_wrong 1 (known_types self.old) (map declaration_tree declarations.now))) }
     {
         let mut roots = Vec::new(self.alloc);
         for (i, declaration) in declarations.iter().enumerate() {
@@ -234,7 +238,8 @@ impl<'n> Builder<'n> {
         requires table { IsTable self.now.nodes }
         requires names { AreNamed self.now.nodes self.now.names }
         requires seen { AreBelow (length self.now.nodes) levels self.now.seen }
-        ensures gives { Gives optional_term result (integer_expression (known_types self.now) (visible_in self.now) levels (borrowed_tree e.entry)) }
+        ensures gives { Gives optional_term result
+            (integer_expression (known_types self.now) (visible_in self.now) levels (borrowed_tree e.entry)) }
         ensures sound { IfOk result (λ c. IsSoundClause (optional_term c)) }
     {
         let Some(e) = e else {
@@ -256,7 +261,8 @@ impl<'n> Builder<'n> {
         requires table { IsTable self.now.nodes }
         requires names { AreNamed self.now.nodes self.now.names }
         requires seen { AreBelow (length self.now.nodes) levels self.now.seen }
-        ensures gives { Gives optional_term result (offset_expression (known_types self.now) (visible_in self.now) levels (borrowed_tree e.entry)) }
+        ensures gives { Gives optional_term result
+            (offset_expression (known_types self.now) (visible_in self.now) levels (borrowed_tree e.entry)) }
         ensures sound { IfOk result (λ c. IsSoundClause (optional_term c)) }
     {
         let Some(e) = e else {
@@ -280,7 +286,8 @@ impl<'n> Builder<'n> {
         requires table { IsTable self.now.nodes }
         requires names { AreNamed self.now.nodes self.now.names }
         requires seen { AreBelow (length self.now.nodes) levels self.now.seen }
-        ensures gives { Gives bound_of result (bound_expression (known_types self.now) (visible_in self.now) levels (boxed_tree e.now)) }
+        ensures gives { Gives bound_of result
+            (bound_expression (known_types self.now) (visible_in self.now) levels (boxed_tree e.now)) }
         ensures sound { IfOk result (λ b. IsSoundBound (bound_of b)) }
     {
         let Some(e) = e else {
@@ -344,9 +351,11 @@ impl<'n> Builder<'n> {
         requires few { levels < 64 }
         requires inside { found.node < length self.old.nodes }
         requires list { IsFieldList (words_in self.old.names) before.now }
-        ensures gives { AddsField self.old self.new place levels before.now.fields.items (field_tree written.now).parts (type_of self.old.nodes found.node) result }
+        ensures gives { AddsField self.old self.new place levels before.now.fields.items (field_tree written.now).parts
+            (type_of self.old.nodes found.node) result }
         ensures sound { IfOk result IsSoundField }
-        ensures fresh { IfOk result (λ _. fresh (field_tree written.now).parts.name (names_in before.now.fields.items) ≡ Ok tt) }
+        ensures fresh { IfOk result
+            (λ _. fresh (field_tree written.now).parts.name (names_in before.now.fields.items) ≡ Ok tt) }
         ensures node { IfOk result (λ field. field.node ≡ found.node) }
         ensures nodes { self.new.nodes ≡ self.old.nodes }
     {
@@ -481,7 +490,8 @@ impl<'n> Builder<'n> {
         requires names { AreNamed self.old.nodes self.old.names }
         requires some { 0 < room }
         requires space { HasRoom self.old 1 }
-        ensures builds { Builds self.old self.new result (plain room (known_types self.old) (reference_tree reference.now)) }
+        ensures builds { Builds self.old self.new result
+            (plain room (known_types self.old) (reference_tree reference.now)) }
         ensures few { OnOk result (AddsAtMost self.old self.new 1) }
         ensures low { IfOk result (λ found. found.depth ≤ room) }
     {
@@ -502,7 +512,8 @@ impl<'n> Builder<'n> {
         requires table { IsTable self.old.nodes }
         requires names { AreNamed self.old.nodes self.old.names }
         requires space { HasRoom self.old 1 }
-        ensures builds { Builds self.old self.new result (offset_type (known_types self.old) (reference_tree reference.now) unit) }
+        ensures builds { Builds self.old self.new result
+            (offset_type (known_types self.old) (reference_tree reference.now) unit) }
         ensures few { OnOk result (AddsAtMost self.old self.new 1) }
         ensures low { IfOk result (λ found. found.depth ≤ 1) }
     {
@@ -564,8 +575,10 @@ impl<'n> Builder<'n> {
         requires few { levels + room ≤ 64 }
         requires within { IsFormWithin standard (ArrayForm (form_tree element.now) (boxed_tree bound.now)) }
         requires space { HasRoom self.old (form_count (ArrayForm (form_tree element.now) (boxed_tree bound.now))) }
-        ensures builds { BuildsForm self.old self.new levels title.entry room (ArrayForm (form_tree element.now) (boxed_tree bound.now)) result }
-        ensures few { OnOk result (AddsAtMost self.old self.new (form_count (ArrayForm (form_tree element.now) (boxed_tree bound.now)))) }
+        ensures builds { BuildsForm self.old self.new levels title.entry room
+            (ArrayForm (form_tree element.now) (boxed_tree bound.now)) result }
+        ensures few { OnOk result
+            (AddsAtMost self.old self.new (form_count (ArrayForm (form_tree element.now) (boxed_tree bound.now)))) }
         ensures low { IfOk result (λ found. found.depth ≤ room) }
     {
         let title_of_element = Title {
@@ -612,8 +625,10 @@ impl<'n> Builder<'n> {
         requires few { levels + room ≤ 64 }
         requires within { IsFormWithin standard (StructForm pinned (fields_tree written.now)) }
         requires space { HasRoom self.old (form_count (StructForm pinned (fields_tree written.now))) }
-        ensures builds { BuildsForm self.old self.new levels title.entry room (StructForm pinned (fields_tree written.now)) result }
-        ensures few { OnOk result (AddsAtMost self.old self.new (form_count (StructForm pinned (fields_tree written.now)))) }
+        ensures builds { BuildsForm self.old self.new levels title.entry room
+            (StructForm pinned (fields_tree written.now)) result }
+        ensures few { OnOk result
+            (AddsAtMost self.old self.new (form_count (StructForm pinned (fields_tree written.now)))) }
         ensures low { IfOk result (λ found. found.depth ≤ room) }
     {
         let (fields, depth) = self.fields_at(struct_place(pinned), levels, room - 1, written)?;
@@ -646,10 +661,14 @@ impl<'n> Builder<'n> {
         requires seen { AreBelow (length self.old.nodes) levels self.old.seen }
         requires some { 0 < room }
         requires few { levels + room ≤ 64 }
-        requires within { IsFormWithin standard (IntegralForm (reference_tree reference.now) (fields_tree written.now)) }
-        requires space { HasRoom self.old (form_count (IntegralForm (reference_tree reference.now) (fields_tree written.now))) }
-        ensures builds { BuildsForm self.old self.new levels title.entry room (IntegralForm (reference_tree reference.now) (fields_tree written.now)) result }
-        ensures few { OnOk result (AddsAtMost self.old self.new (form_count (IntegralForm (reference_tree reference.now) (fields_tree written.now)))) }
+        requires within { IsFormWithin standard
+            (IntegralForm (reference_tree reference.now) (fields_tree written.now)) }
+        requires space { HasRoom self.old
+            (form_count (IntegralForm (reference_tree reference.now) (fields_tree written.now))) }
+        ensures builds { BuildsForm self.old self.new levels title.entry room
+            (IntegralForm (reference_tree reference.now) (fields_tree written.now)) result }
+        ensures few { OnOk result (AddsAtMost self.old self.new
+            (form_count (IntegralForm (reference_tree reference.now) (fields_tree written.now)))) }
         ensures low { IfOk result (λ found. found.depth ≤ room) }
     {
         let number = integer_referred(&self.names, &self.nodes, reference)?;
@@ -690,7 +709,8 @@ impl<'n> Builder<'n> {
         requires few { levels + room ≤ 64 }
         requires within { IsFormWithin standard (UnionForm (fields_tree written.now)) }
         requires space { HasRoom self.old (form_count (UnionForm (fields_tree written.now))) }
-        ensures builds { BuildsForm self.old self.new levels title.entry room (UnionForm (fields_tree written.now)) result }
+        ensures builds { BuildsForm self.old self.new levels title.entry room
+            (UnionForm (fields_tree written.now)) result }
         ensures few { OnOk result (AddsAtMost self.old self.new (form_count (UnionForm (fields_tree written.now)))) }
         ensures low { IfOk result (λ found. found.depth ≤ room) }
     {
@@ -726,10 +746,12 @@ impl<'n> Builder<'n> {
         requires list { IsFieldList (words_in self.old.names) before.now }
         requires within { IsFormWithin standard (field_tree written.now).form }
         requires space { HasRoom self.old (form_count (field_tree written.now).form) }
-        ensures builds { BuildsField self.old self.new place levels room before.now.fields.items (field_tree written.now) result }
+        ensures builds { BuildsField self.old self.new place levels room before.now.fields.items
+            (field_tree written.now) result }
         ensures few { OnOk result (AddsAtMost self.old self.new (form_count (field_tree written.now).form)) }
         ensures sound { IfOk result (λ x. IsSoundField x.0) }
-        ensures fresh { IfOk result (λ _. fresh (field_tree written.now).parts.name (names_in before.now.fields.items) ≡ Ok tt) }
+        ensures fresh { IfOk result
+            (λ _. fresh (field_tree written.now).parts.name (names_in before.now.fields.items) ≡ Ok tt) }
         ensures low { IfOk result (λ x. x.1 ≤ room) }
     {
         let found = self.type_at(

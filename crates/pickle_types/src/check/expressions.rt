@@ -81,7 +81,8 @@ fn text(alloc: Global, bytes: &[u8]) -> Result<Meant, FaultKind>
 #[inline(never)]
 fn name(seen: &Scopes, levels: u8, word: &[u8]) -> Result<Meant, FaultKind>
     requires below { (n : ℕ) × AreBelow n levels seen.now }
-    ensures gives { (nodes : List Node) → Gives (meant_of nodes) result (resolved (views_of nodes seen.now) levels word.now) }
+    ensures gives { (nodes : List Node) →
+        Gives (meant_of nodes) result (resolved (views_of nodes seen.now) levels word.now) }
     ensures sound { (nodes : List Node) → AreBelow (length nodes) levels seen.now → IfOk result (IsSoundMeant nodes) }
 {
     match seen.resolve(word) {
@@ -145,7 +146,8 @@ fn select(alloc: Global, nodes: &Nodes, z: Meant, x: Meant, y: Meant) -> Result<
     requires condition { IsSoundMeant nodes.now z }
     requires left { IsSoundMeant nodes.now x }
     requires right { IsSoundMeant nodes.now y }
-    ensures gives { Gives (meant_of nodes.now) result (selected (meant_of nodes.now z) (meant_of nodes.now x) (meant_of nodes.now y)) }
+    ensures gives { Gives (meant_of nodes.now) result
+        (selected (meant_of nodes.now z) (meant_of nodes.now x) (meant_of nodes.now y)) }
     ensures sound { IfOk result (IsSoundMeant nodes.now) }
 {
     match choice(operand_of(nodes, x.sort), operand_of(nodes, y.sort)) {
@@ -187,7 +189,8 @@ fn index(
     requires element { element < length nodes.now }
     requires left { IsSoundMeant nodes.now x }
     requires right { IsSoundMeant nodes.now y }
-    ensures gives { Gives (meant_of nodes.now) result (indexed (meant_of nodes.now x) (type_of nodes.now element) (meant_of nodes.now y)) }
+    ensures gives { Gives (meant_of nodes.now) result
+        (indexed (meant_of nodes.now x) (type_of nodes.now element) (meant_of nodes.now y)) }
     ensures sound { IfOk result (IsSoundMeant nodes.now) }
 {
     integer(nodes, y.sort)?;
@@ -281,7 +284,8 @@ fn convert(
     requires table { IsTable nodes.now }
     requires names { AreNamed nodes.now names.now }
     requires sound { IsSoundMeant nodes.now x }
-    ensures gives { Gives (meant_of nodes.now) result (conversion (names_of nodes.now names.now) (target_tree target.now) (meant_of nodes.now x)) }
+    ensures gives { Gives (meant_of nodes.now) result
+        (conversion (names_of nodes.now names.now) (target_tree target.now) (meant_of nodes.now x)) }
     ensures sound { IfOk result (IsSoundMeant nodes.now) }
 {
     let Some(from) = operand_of(nodes, x.sort).number() else {
@@ -318,7 +322,8 @@ fn suffix(
     requires table { IsTable nodes.now }
     requires names { AreNamed nodes.now names.now }
     requires sound { IsSoundMeant nodes.now x }
-    ensures gives { Gives (meant_of nodes.now) result (suffixed (names_of nodes.now names.now) path (suffix_tree suffix.now) (meant_of nodes.now x)) }
+    ensures gives { Gives (meant_of nodes.now) result
+        (suffixed (names_of nodes.now names.now) path (suffix_tree suffix.now) (meant_of nodes.now x)) }
     ensures sound { IfOk result (IsSoundMeant nodes.now) }
 {
     match suffix {

@@ -66,7 +66,8 @@ impl Nodes {
 
     /// The stored place of a node's field of that name.
     fn kept_place(&self, names: &Names, i: usize, word: &[u8]) -> Option<usize>
-        ensures { IfSome result (λ _. (node : Node) → slice_get self.now i ≡ Some node → AreDistinct (shape_names node.shape)) }
+        ensures { IfSome result
+            (λ _. (node : Node) → slice_get self.now i ≡ Some node → AreDistinct (shape_names node.shape)) }
     {
         let places = self.places.get(&i)?;
         let number = names.number_of(word)?;
@@ -75,7 +76,8 @@ impl Nodes {
 
     /// The place of a node's field of that name.
     pub fn place_of(&self, names: &Names, i: usize, word: &[u8]) -> Option<usize>
-        ensures { (node : Node) → slice_get self.now i ≡ Some node → result ≡ place_named word.now (shape_names node.shape) }
+        ensures { (node : Node) → slice_get self.now i ≡ Some node →
+            result ≡ place_named word.now (shape_names node.shape) }
     {
         let shape = &self.nodes.get(i)?.shape;
         if let Some(place) = self.kept_place(names, i, word) {

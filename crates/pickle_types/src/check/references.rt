@@ -38,7 +38,8 @@ fn operand_referred(
 ) -> Result<Operand, FaultKind>
     requires table { IsTable nodes.now }
     requires names { AreNamed nodes.now names.now }
-    ensures gives { Gives (λ o. o) result (operand_referred (names_of nodes.now names.now) (reference_tree reference.now)) }
+    ensures gives { Gives (λ o. o) result
+        (operand_referred (names_of nodes.now names.now) (reference_tree reference.now)) }
     ensures wide { IfOk result IsSoundOperand }
 {
     match reference {
@@ -59,7 +60,8 @@ pub fn integer_referred(
 ) -> Result<IntegerType, FaultKind>
     requires table { IsTable nodes.now }
     requires names { AreNamed nodes.now names.now }
-    ensures gives { Gives (λ t. t) result (integer_referred (names_of nodes.now names.now) (reference_tree reference.now)) }
+    ensures gives { Gives (λ t. t) result
+        (integer_referred (names_of nodes.now names.now) (reference_tree reference.now)) }
     ensures wide { IfOk result IsWidth }
 {
     let operand = operand_referred(names, nodes, reference)?;
@@ -96,7 +98,8 @@ pub fn offset_parts(
 ) -> Result<(IntegerType, u32), FaultKind>
     requires table { IsTable nodes.now }
     requires names { AreNamed nodes.now names.now }
-    ensures gives { Gives (λ x. Scalar.Offset x.0 x.1) result (offset_referred (names_of nodes.now names.now) (reference_tree reference.now) unit) }
+    ensures gives { Gives (λ x. Scalar.Offset x.0 x.1) result
+        (offset_referred (names_of nodes.now names.now) (reference_tree reference.now) unit) }
     ensures wide { IfOk result (λ x. IsWidth x.0) }
     ensures some { IfOk result (λ x. 1 ≤ x.1) }
 {
@@ -114,7 +117,8 @@ fn offset_referred(
 ) -> Result<Scalar, FaultKind>
     requires table { IsTable nodes.now }
     requires names { AreNamed nodes.now names.now }
-    ensures gives { Gives (λ s. s) result (offset_referred (names_of nodes.now names.now) (reference_tree reference.now) unit) }
+    ensures gives { Gives (λ s. s) result
+        (offset_referred (names_of nodes.now names.now) (reference_tree reference.now) unit) }
     ensures wide { IfOk result IsSoundScalar }
 {
     let (t, bits) = offset_parts(names, nodes, reference, unit)?;

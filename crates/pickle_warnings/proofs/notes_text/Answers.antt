@@ -7,4 +7,5 @@ loop-note-init c = no_notes c.args.pickle.now c.args.called.now c.new-text.ensur
 
 pub loop-note-preserved : goal.loop-note-preserved
 loop-note-preserved c =
-    one_more c.args.pickle.now c.args.called.now (c.in_ok-extend_from_slice.ensures.items ∙ ap (λ note. c.loop-note.text.items ++ note) c.as_slice.ensures.value) c.loop-note.invariant c.in_ok-lines.ensures
+    one_more c.args.pickle.now c.args.called.now (c.in_ok-extend_from_slice.ensures.items
+    ∙ ap (λ note. c.loop-note.text.items ++ note) c.as_slice.ensures.value) c.loop-note.invariant c.in_ok-lines.ensures

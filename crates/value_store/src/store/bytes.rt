@@ -20,7 +20,8 @@ impl Store {
         requires are { AreBytes shape bytes.now start }
         requires may { MayKeep self.old.room shape }
         requires some { AreSome shape bytes.now }
-        ensures slots { OnOk result (Regrown (record self.old { slots = with_bytes shape bytes.now start self.old.slots }) self.new) }
+        ensures slots { OnOk result
+            (Regrown (record self.old { slots = with_bytes shape bytes.now start self.old.slots }) self.new) }
         ensures levels { OnOk result (IsPushed self.old self.new (Some (bytes_value shape bytes.now start))) }
         ensures within { OnOk result (HoldsInRoom self.new) }
         ensures err { OnErr result (Regrown self.old self.new) }
@@ -69,7 +70,8 @@ impl Store {
     #[inline(always)]
     pub(super) fn append_byte(&mut self, shape: Shape, byte: u8) -> Result<(), Memory>
         requires { GoesOn self.old shape (byte ∷ []) }
-        ensures slots { OnOk result (Regrown (record self.old { slots = with_more (byte ∷ []) self.old.slots }) self.new) }
+        ensures slots { OnOk result
+            (Regrown (record self.old { slots = with_more (byte ∷ []) self.old.slots }) self.new) }
         ensures within { OnOk result (HoldsInRoom self.new) }
         ensures err { OnErr result (Regrown self.old self.new) }
         ensures room { KeepsRoom self.old self.new }

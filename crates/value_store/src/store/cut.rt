@@ -29,7 +29,8 @@ impl Store {
 
     /// Closes the innermost open value. Its parts become parts of the value around it.
     pub(crate) fn lift_level(&mut self)
-        ensures levels { (names : Names) → levels names self.new ≡ extended (outer_of (levels names self.old)) (top_of (levels names self.old)) }
+        ensures levels { (names : Names) →
+            levels names self.new ≡ extended (outer_of (levels names self.old)) (top_of (levels names self.old)) }
         ensures within { HoldsInRoom self.new }
         ensures room { KeepsRoom self.old self.new }
         ensures depth { level_count self.new ≡ max 1 (level_count self.old - 1) }

@@ -63,8 +63,10 @@ impl Store {
     #[inline(never)]
     pub(crate) fn element_number(&self, array: usize, index: usize) -> i128
         requires { IsPlace self.now.slots (Element array index) }
-        ensures is { result ≡ number_of (label_of (element_in self.now.slots (slice_get self.now.slots.nodes array) index)) }
-        ensures small { IsSmall (signed_of (label_of (element_in self.now.slots (slice_get self.now.slots.nodes array) index))) result }
+        ensures is { result
+            ≡ number_of (label_of (element_in self.now.slots (slice_get self.now.slots.nodes array) index)) }
+        ensures small { IsSmall
+            (signed_of (label_of (element_in self.now.slots (slice_get self.now.slots.nodes array) index))) result }
     {
         let node = self.node_at(array);
         let row = node.content as usize;

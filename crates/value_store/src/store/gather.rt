@@ -52,7 +52,8 @@ impl Store {
         requires nodes { length self.old.slots.nodes < self.old.capacity.nodes }
         requires texts { length self.old.slots.texts < self.old.capacity.texts }
         requires pending { (innermost self.old.frames).pending < self.old.capacity.pending }
-        ensures slots { HasSlots self.old self.new (with_records size stride [] start (innermost self.old.frames).pending self.old.slots) }
+        ensures slots { HasSlots self.old self.new
+            (with_records size stride [] start (innermost self.old.frames).pending self.old.slots) }
         ensures room { KeepsRoom self.old self.new }
         ensures within { HoldsInRoom self.new }
     {

@@ -132,8 +132,10 @@ impl Store {
     #[inline(always)]
     pub(super) fn place_family(&mut self, shape: Shape, start: u64, size: u64) -> Result<(), Memory>
         requires composite { IsComposite shape }
-        ensures slots { OnOk result (HasSlots self.old self.new (with_family shape start size (innermost self.old.frames).pending self.old.slots)) }
-        ensures ok { OnOk result (IsPlaced self.old self.new (λ names. composite_label names shape) start (start + size)) }
+        ensures slots { OnOk result (HasSlots self.old self.new
+            (with_family shape start size (innermost self.old.frames).pending self.old.slots)) }
+        ensures ok { OnOk result
+            (IsPlaced self.old self.new (λ names. composite_label names shape) start (start + size)) }
         ensures err { OnErr result (Regrown self.old self.new) }
         ensures room { KeepsRoom self.old self.new }
         ensures depth { level_count self.new ≡ level_count self.old }
@@ -243,7 +245,8 @@ impl Store {
     #[inline(always)]
     fn close(&mut self, shape: Shape, start: u64, size: u64) -> Result<(), Memory>
         requires composite { IsComposite shape }
-        ensures ok { OnOk result (IsClosed self.old self.new (λ names. composite_label names shape) start (start + size)) }
+        ensures ok { OnOk result
+            (IsClosed self.old self.new (λ names. composite_label names shape) start (start + size)) }
         ensures within { OnOk result (HoldsInRoom self.new) }
         ensures err { OnErr result (Regrown self.old self.new) }
         ensures room { KeepsRoom self.old self.new }

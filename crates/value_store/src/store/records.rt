@@ -47,8 +47,10 @@ impl Store {
     #[inline(never)]
     pub(crate) fn part_number(&self, array: usize, index: usize, node: usize) -> i128
         requires { IsPlace self.now.slots (Part array index node) }
-        ensures is { (names : Names) → result ≡ number_of (label_of (place_value names self.now.slots (Part array index node))) }
-        ensures small { (names : Names) → IsSmall (signed_of (label_of (place_value names self.now.slots (Part array index node)))) result }
+        ensures is { (names : Names) →
+            result ≡ number_of (label_of (place_value names self.now.slots (Part array index node))) }
+        ensures small { (names : Names) →
+            IsSmall (signed_of (label_of (place_value names self.now.slots (Part array index node)))) result }
     {
         let number = self.node_at(node);
         match number.shape {

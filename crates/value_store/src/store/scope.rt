@@ -45,7 +45,8 @@ impl Store {
     // The links of a frame's parts.
     fn level_links(&self, level: usize) -> &[Link]
         ensures parts { AreLinksAt self.now level result.now }
-        ensures below { (i : ℕ) → IfSome (unwrap_or (slice_get result.now i) None) (λ j. j < length self.now.slots.nodes) }
+        ensures below { (i : ℕ) →
+            IfSome (unwrap_or (slice_get result.now i) None) (λ j. j < length self.now.slots.nodes) }
         ensures count { (names : Names) → length result.now ≡ length (level_at (levels names self.now) level) }
     {
         &self.pending[self.frame(level).pending..self.end_of_level(level)]
@@ -53,7 +54,8 @@ impl Store {
 
     // The node of the part at a place of a frame; None where the part is absent or past the end.
     fn part_at(&self, level: usize, i: usize) -> Option<usize>
-        ensures part { (names : Names) → option_map (node_value names self.now.slots) result ≡ value_at (levels names self.now) level i }
+        ensures part { (names : Names) →
+            option_map (node_value names self.now.slots) result ≡ value_at (levels names self.now) level i }
         ensures below { IfSome result (λ j. j < length self.now.slots.nodes) }
     {
         match self.level_links(level).get(i) {

@@ -30,7 +30,8 @@ impl<W: Write> Printer<'_, W> {
 
     // Writes the elements of an array as chars in double quotes, without the zero bytes at its end.
     fn put_char_text(&mut self, escapes: Escapes, array: &Typed<'_>)
-        ensures { Puts W.contents self.old self.new (quoted_by escapes (trimmed (chars_in (members_of (mapped_in array.now))))) }
+        ensures { Puts W.contents self.old self.new
+            (quoted_by escapes (trimmed (chars_in (members_of (mapped_in array.now))))) }
     {
         self.put(b"\"");
         self.put_chars(escapes, array);
@@ -38,7 +39,8 @@ impl<W: Write> Printer<'_, W> {
     }
 
     fn put_chars(&mut self, escapes: Escapes, array: &Typed<'_>)
-        ensures { Puts W.contents self.old self.new (spelled_by escapes (trimmed (chars_in (members_of (mapped_in array.now))))) }
+        ensures { Puts W.contents self.old self.new
+            (spelled_by escapes (trimmed (chars_in (members_of (mapped_in array.now))))) }
     {
         let value = array.value();
         let elements = value.members();
@@ -54,7 +56,8 @@ impl<W: Write> Printer<'_, W> {
 // How many elements there are without the zero bytes at the end.
 fn trimmed_len(elements: Members<'_>) -> usize
     ensures most { result ≤ member_count (members_of (value_shown (owner_of elements.entry))) }
-    ensures text { let chars = chars_in (members_of (value_shown (owner_of elements.entry))) in take result chars ≡ trimmed chars }
+    ensures text { let chars = chars_in (members_of (value_shown (owner_of elements.entry))) in
+        take result chars ≡ trimmed chars }
 {
     let mut end = 0;
     for place in 0..elements.len() {

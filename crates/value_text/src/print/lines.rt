@@ -166,7 +166,8 @@ fn start_at(value: &Typed<'_>, place: usize) -> u64
 
 // The size of a value, in bits, without what is before a bit of it.
 fn size_from(value: &Typed<'_>, from: u64) -> u64
-    ensures { result ≡ end_of (typed_shown value.now) - start_of (typed_shown value.now) - (from - start_of (typed_shown value.now)) }
+    ensures { result ≡ end_of (typed_shown value.now) - start_of (typed_shown value.now)
+        - (from - start_of (typed_shown value.now)) }
 {
     value
         .size()

@@ -42,7 +42,8 @@ impl<W: Write> Printer<'_, W> {
     #[tactic(auto, using(crate::proofs::Puts::puts))]
     #[inline(always)]
     fn put_whole(&mut self, look: Look, value: Typed<'_>)
-        ensures { Puts W.contents self.old self.new (whole_text (look_at look value.entry) (node_in value.entry) (mapped_in value.entry)) }
+        ensures { Puts W.contents self.old self.new
+            (whole_text (look_at look value.entry) (node_in value.entry) (mapped_in value.entry)) }
     {
         self.put_margin(0, value.value());
         self.put_shown_rest(look, 0, false, value);
@@ -56,7 +57,8 @@ impl<W: Write> Printer<'_, W> {
     #[cycle(show)]
     fn put_shown_rest(&mut self, look: Look, level: u128, inner: bool, value: Typed<'_>)
         requires { level + rank_of (value_in value) ≤ 2 ^ 64 }
-        ensures { Puts W.contents self.old self.new (rest_text (look_at look value.entry) level inner (node_in value.entry) (mapped_in value.entry)) }
+        ensures { Puts W.contents self.old self.new
+            (rest_text (look_at look value.entry) level inner (node_in value.entry) (mapped_in value.entry)) }
     {
         self.put_type(look, inner, value);
         self.put_shown_body(look, level, value);
@@ -65,7 +67,8 @@ impl<W: Write> Printer<'_, W> {
     #[cycle(show)]
     fn put_shown_body(&mut self, look: Look, level: u128, value: Typed<'_>)
         requires { level + rank_of (value_in value) ≤ 2 ^ 64 }
-        ensures { Puts W.contents self.old self.new (body_text (look_at look value.entry) level (node_in value.entry) (mapped_in value.entry)) }
+        ensures { Puts W.contents self.old self.new
+            (body_text (look_at look value.entry) level (node_in value.entry) (mapped_in value.entry)) }
     {
         if is_inline(value.value()) {
             self.put_value_cell(look, value.value())
@@ -80,7 +83,8 @@ impl<W: Write> Printer<'_, W> {
     #[cycle(show)]
     fn put_shown_lines(&mut self, look: Look, level: u128, value: Typed<'_>)
         requires { level + rank_of (value_in value) ≤ 2 ^ 64 }
-        ensures { Puts W.contents self.old self.new (lines_text (look_at look value.entry) level (node_in value.entry) (mapped_in value.entry)) }
+        ensures { Puts W.contents self.old self.new
+            (lines_text (look_at look value.entry) level (node_in value.entry) (mapped_in value.entry)) }
     {
         if is_number_row(look.elements, value.value()) {
             self.put_row_cell(look.elements, value.value())
@@ -94,7 +98,8 @@ impl<W: Write> Printer<'_, W> {
     // Writes an array of bytes: as a text, or as a dump.
     fn put_bytes_body(&mut self, look: Look, level: u128, value: Typed<'_>)
         requires { level ≤ 2 ^ 64 }
-        ensures { Puts W.contents self.old self.new (bytes_at (look_at look value.entry) level (node_in value.entry) (mapped_in value.entry)) }
+        ensures { Puts W.contents self.old self.new
+            (bytes_at (look_at look value.entry) level (node_in value.entry) (mapped_in value.entry)) }
     {
         if is_text(look, value) {
             self.put_text_below(value.value())
@@ -121,7 +126,8 @@ impl<W: Write> Printer<'_, W> {
     #[cycle(show)]
     fn put_shown_below(&mut self, look: Look, level: u128, value: Typed<'_>)
         requires { level + rank_of (value_in value) ≤ 2 ^ 64 }
-        ensures { Puts W.contents self.old self.new (below_text (look_at look value.entry) level (node_in value.entry) (mapped_in value.entry)) }
+        ensures { Puts W.contents self.old self.new
+            (below_text (look_at look value.entry) level (node_in value.entry) (mapped_in value.entry)) }
     {
         self.put(b"\n");
         self.put_shown_parts(look, level, value);
@@ -131,7 +137,8 @@ impl<W: Write> Printer<'_, W> {
     #[cycle(show)]
     fn put_shown_parts(&mut self, look: Look, level: u128, value: Typed<'_>)
         requires { level + rank_of (value_in value) ≤ 2 ^ 64 }
-        ensures { Puts W.contents self.old self.new (all_parts_text (look_at look value.entry) level (node_in value.entry) (mapped_in value.entry)) }
+        ensures { Puts W.contents self.old self.new
+            (all_parts_text (look_at look value.entry) level (node_in value.entry) (mapped_in value.entry)) }
     {
         let parts = value.value().members();
         for place in 0..part_count(look, value.value()) {
@@ -157,7 +164,8 @@ impl<W: Write> Printer<'_, W> {
         part: ValueRef<'_>,
     )
         requires { level + rank_of part ≤ 2 ^ 64 }
-        ensures { Puts W.contents self.old self.new (lent_part (look_at look value.entry) level value.entry place part.entry) }
+        ensures { Puts W.contents self.old self.new
+            (lent_part (look_at look value.entry) level value.entry place part.entry) }
     {
         self.put_part_start(level, value.value(), place, part);
         self.put_shown_rest(
@@ -198,7 +206,8 @@ fn leaves_below(look: Look, level: u128, value: ValueRef<'_>) -> bool
 
 // Whether an array of bytes is shown as a text.
 fn is_text(look: Look, value: Typed<'_>) -> bool
-    ensures { let it = mapped_in value.entry in result ≡ is_text (look_at look value.entry) (node_in value.entry) (label_of it) (members_of it) }
+    ensures { let it = mapped_in value.entry in
+        result ≡ is_text (look_at look value.entry) (node_in value.entry) (label_of it) (members_of it) }
 {
     value.is_of_chars() && are_few(look.elements, value.value().len())
 }
@@ -215,7 +224,8 @@ fn are_few(most: Option<u64>, count: usize) -> bool
 
 // How many members aren't cut off.
 fn part_count(look: Look, value: ValueRef<'_>) -> usize
-    ensures { result ≡ at_most (cut_of look.elements (label_of (value_shown value.entry))) (member_count (members_of (value_shown value.entry))) }
+    ensures { result ≡ at_most (cut_of look.elements (label_of (value_shown value.entry)))
+        (member_count (members_of (value_shown value.entry))) }
 {
     match cut_of(look, value) {
         Some(most) => value.len().min(most as usize),

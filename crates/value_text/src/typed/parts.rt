@@ -64,7 +64,8 @@ impl<'a> Parts<'a> {
     #[inline(always)]
     pub fn get(&self, place: usize) -> Option<Typed<'a>>
         requires { place < member_count (members_of (typed_shown (whole_of self.now))) }
-        ensures member { option_map typed_shown result ≡ member_at (members_of (typed_shown (whole_of self.now))) place }
+        ensures member { option_map typed_shown result
+            ≡ member_at (members_of (typed_shown (whole_of self.now))) place }
         ensures below { IfSome result (λ part. rank_of (value_in part) < rank_of (value_in (whole_of self.now))) }
     {
         match self.members.get(place) {

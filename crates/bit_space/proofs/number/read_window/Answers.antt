@@ -10,4 +10,6 @@ in_order-requires-clause-fits g c =
 pub returns-clause-ok : goal.returns-clause-ok
 returns-clause-ok g c =
     let l = c.read_at.auto.into in
-    rw c.in_order.ensures (window_read _ c.args.order _ (c.args.pos / 8) _ (c.args.pos % 8) c.args.width c.args.pos c.cut_out-cut.result _ c.requires.some l c.requires.window.1 (omega arith) c.cut_out-cut.ensures refl c.in_ok-read_at.ensures.bytes)
+    rw c.in_order.ensures
+    (window_read _ c.args.order _ (c.args.pos / 8) _ (c.args.pos % 8) c.args.width c.args.pos c.cut_out-cut.result _
+    c.requires.some l c.requires.window.1 (omega arith) c.cut_out-cut.ensures refl c.in_ok-read_at.ensures.bytes)

@@ -9,11 +9,13 @@ returns-in_err-hash-clause-none c = rw c.from_residual.ensures (large_by_hash c.
 
 pub returns-in_err-magnitude-clause-none : goal.returns-in_err-magnitude-clause-none
 returns-in_err-magnitude-clause-none c =
-    rw c.from_residual-in_err-magnitude.ensures (large_by_magnitude c.args.word.now c.in_ok-hash.hash _ (search rules) c.in_err-magnitude.ensures)
+    rw c.from_residual-in_err-magnitude.ensures
+    (large_by_magnitude c.args.word.now c.in_ok-hash.hash _ (search rules) c.in_err-magnitude.ensures)
 
 pub returns-in_err-unit-clause-none : goal.returns-in_err-unit-clause-none
 returns-in_err-unit-clause-none c =
-    rw c.from_residual-in_err-unit.ensures (large_by_unit c.args.word.now c.in_ok-hash.hash _ (search rules) (rw take_rest at c.in_err-unit.ensures.none))
+    rw c.from_residual-in_err-unit.ensures
+    (large_by_unit c.args.word.now c.in_ok-hash.hash _ (search rules) (rw take_rest at c.in_err-unit.ensures.none))
 
 pub returns-clause-some : goal.returns-clause-some
 returns-clause-some c =

@@ -9,10 +9,13 @@ returns-then-is_empty-2-clause-none c = λ first last h.
     let nor : length c.args.end.now ≡ 0 = grind arith in
     let from = nothing_left c.args.from.now none in
     let end = nothing_left c.args.end.now nor in
-    no_places first last (subst (λ text. IsSpanText text first last) (ap (λ text. text ++ 58 ∷ c.args.end.now) from ∙ ap (λ text. 58 ∷ text) end) h)
+    no_places first last (subst (λ text. IsSpanText text first last)
+    (ap (λ text. text ++ 58 ∷ c.args.end.now) from ∙ ap (λ text. 58 ∷ text) end) h)
 
 pub returns-in-None-read_place-clause-none : goal.returns-in-None-read_place-clause-none
-returns-in-None-read_place-clause-none c = λ first last h. c.in-None-read_place.ensures.none last (span_places c.args.from.now c.args.end.now first last h).1
+returns-in-None-read_place-clause-none c =
+    λ first last h. c.in-None-read_place.ensures.none last (span_places c.args.from.now c.args.end.now first last h).1
 
 pub returns-in-None-clause-none : goal.returns-in-None-clause-none
-returns-in-None-clause-none c = λ first last h. c.in-None.ensures.none first (span_places c.args.from.now c.args.end.now first last h).0
+returns-in-None-clause-none c =
+    λ first last h. c.in-None.ensures.none first (span_places c.args.from.now c.args.end.now first last h).0

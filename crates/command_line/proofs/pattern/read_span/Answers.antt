@@ -6,5 +6,7 @@ use Rattle.command_line.proofs.pattern.read_span.Goals as goal
 
 pub returns-in-None-clause-none : goal.returns-in-None-clause-none
 returns-in-None-clause-none c =
-    let other : c.args.text.now ≢ codes "*" = λ e. not_from_Decides _ (bytes_eq-Decides c.args.text.now c.as_slice.result.now) (sym c.eq.ensures ∙ c.if-eq.false) (e ∙ sym c.as_slice.ensures) in
+    let other : c.args.text.now ≢ codes "*" = λ e.
+    not_from_Decides _ (bytes_eq-Decides c.args.text.now c.as_slice.result.now)
+    (sym c.eq.ensures ∙ c.if-eq.false) (e ∙ sym c.as_slice.ensures) in
     no_colon_no_span c.args.text.now c.in-None.ensures.none other

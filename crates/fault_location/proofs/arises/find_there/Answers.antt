@@ -10,7 +10,8 @@ pub follow-requires : goal.follow-requires
 follow-requires g c =
     let one = ap level_count c.requires.empty in
     let deep = c.args.table.now.sound.deep c.args.id.node c.requires.known in
-    let held : level_count c.args.store.now + depth (type_of c.args.table.now.nodes.items c.args.id.node) ≤ 65 = omega (arith, one, deep) in
+    let held : level_count c.args.store.now + depth (type_of c.args.table.now.nodes.items c.args.id.node) ≤ 65 =
+    omega (arith, one, deep) in
     let bare = c.bare_part.ensures in
     record {
       part = record {
@@ -24,5 +25,6 @@ pub returns-clause-is : goal.returns-clause-is
 returns-clause-is g c =
     λ yes bytes e.
     let none = none_kept c.args.table.now.nodes.items c.args.store.now c.requires.empty in
-    let found = rw (c.bare_part.ensures.inner_is, c.nodes.ensures, none, c.from.ensures) at (c.follow.ensures.is yes bytes e) in
+    let found =
+    rw (c.bare_part.ensures.inner_is, c.nodes.ensures, none, c.from.ensures) at (c.follow.ensures.is yes bytes e) in
     of_bare c.bare_part.ensures.clause_is found

@@ -10,11 +10,14 @@ pub returns-clause-is : goal.returns-clause-is
 returns-clause-is g c =
     λ bytes known f means.
     let none = none_kept c.args.table.now.nodes.items c.args.store.now c.requires.empty in
-    let grown = rw (c.nodes.ensures, none, c.from.ensures, c.new-path.ensures.items) at (c.in_ok-located.ensures.is bytes known) in
-    located (bits_of bytes) (type_named c.args.table.now c.args.id) c.args.order no_values c.args.start c.locate-located.new.path.items grown f means
+    let grown =
+    rw (c.nodes.ensures, none, c.from.ensures, c.new-path.ensures.items) at (c.in_ok-located.ensures.is bytes known) in
+    located (bits_of bytes) (type_named c.args.table.now c.args.id) c.args.order no_values c.args.start
+    c.locate-located.new.path.items grown f means
 
 pub returns-in_err-located-clause-ended : goal.returns-in_err-located-clause-ended
 returns-in_err-located-clause-ended g c =
     let p = err_from_is_err_and c.from_residual.result c.from_residual.ensures.1 in
     let none = none_kept c.args.table.now.nodes.items c.args.store.now c.requires.empty in
-    rw (p.1, p.2) (λ bytes known. rw (c.nodes.ensures, none, c.from.ensures) at (c.in_err-located.ensures.spends bytes known))
+    rw (p.1, p.2)
+    (λ bytes known. rw (c.nodes.ensures, none, c.from.ensures) at (c.in_err-located.ensures.spends bytes known))

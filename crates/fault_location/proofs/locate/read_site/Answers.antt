@@ -9,7 +9,8 @@ pub returns-in-Ok-clause-is : goal.returns-in-Ok-clause-is
 returns-in-Ok-clause-is g c =
     λ bytes e.
     let whole = g.met.S.Space.whole c.args.space.now bytes e in
-    let ends : c.args.inner.start + c.args.number.width ≤ length (bits_of bytes) = rw length-bits_of (omega (arith, whole, c.in-Ok.ensures.inside)) in
+    let ends : c.args.inner.start + c.args.number.width ≤ length (bits_of bytes) =
+    rw length-bits_of (omega (arith, whole, c.in-Ok.ensures.inside)) in
     (ends, c.in-Ok.ensures.ok.exact (bits_of bytes) (ap (option_map bits_of) e))
 
 pub returns-in_ok-_fault-in-Err-clause-is : goal.returns-in_ok-_fault-in-Err-clause-is
@@ -17,7 +18,8 @@ returns-in_ok-_fault-in-Err-clause-is g c =
     λ bytes e.
     let whole = g.met.S.Space.whole c.args.space.now bytes e in
     let stopped = rw c.in_ok-_fault-in-Err.ensures at c.in-Err.ensures.err in
-    let past : length (bits_of bytes) < c.args.inner.start + c.args.number.width = rw length-bits_of (omega (arith, whole, stopped.3)) in
+    let past : length (bits_of bytes) < c.args.inner.start + c.args.number.width =
+    rw length-bits_of (omega (arith, whole, stopped.3)) in
     past
 
 pub returns-in-Ok-clause-spends : goal.returns-in-Ok-clause-spends
@@ -32,4 +34,5 @@ returns-in_ok-_fault-in-Err-clause-spends g c =
 pub returns-in_err-_fault-in-Err-clause-spends : goal.returns-in_err-_fault-in-Err-clause-spends
 returns-in_err-_fault-in-Err-clause-spends g c =
     let p = err_from_is_err_and c.from_residual.result c.from_residual.ensures.1 in
-    λ bytes e. rw (p.1, p.2) (read_ends _ _ (g.S.Space.view c.args.space.now) (g.S.Space.view c.read_digits.new.space) c.args.meter.now c.read_digits.new.meter c.in-Err.stop _ c.in_err-_fault-in-Err.ensures c.in-Err.ensures.err)
+    λ bytes e. rw (p.1, p.2) (read_ends _ _ (g.S.Space.view c.args.space.now) (g.S.Space.view c.read_digits.new.space)
+    c.args.meter.now c.read_digits.new.meter c.in-Err.stop _ c.in_err-_fault-in-Err.ensures c.in-Err.ensures.err)

@@ -2,7 +2,8 @@ use Rattle.fault_report.specs.Why.{tells_part, shows_part, shows_none}
 use Rattle.fault_report.proofs.lines.fault_text.Goals as goal
 
 pub returns-in_default : goal.returns-in_default
-returns-in_default c = record { part = rw c.new.ensures (shows_none (rw c.in_default.is at c.in_ok-found.ensures.lacks)) }
+returns-in_default c =
+    record { part = rw c.new.ensures (shows_none (rw c.in_default.is at c.in_ok-found.ensures.lacks)) }
 
 pub returns : goal.returns
 returns c =

@@ -7,5 +7,7 @@ use Rattle.fault_report.proofs.way.walk.Given as goal
 
 abbrev pub invariant-loop-step : goal.invariant-loop-step
 invariant-loop-step l =
-    LeadsTo (type_of l.nodes l.root) (places_of (take l.step-index l.steps)) l.text.bytes.items (type_of l.nodes l.node) × (l.node < length l.nodes)
-    × (HasPart (type_of l.nodes l.root) (places_of l.steps) → HasPart (type_of l.nodes l.node) (places_of (drop l.step-index l.steps)))
+    LeadsTo (type_of l.nodes l.root) (places_of (take l.step-index l.steps)) l.text.bytes.items (type_of l.nodes l.node)
+    × (l.node < length l.nodes)
+    × (HasPart (type_of l.nodes l.root) (places_of l.steps) →
+    HasPart (type_of l.nodes l.node) (places_of (drop l.step-index l.steps)))

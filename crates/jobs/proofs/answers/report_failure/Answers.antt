@@ -9,4 +9,5 @@ pub returns-in-Write : goal.returns-in-Write
 returns-in-Write g c = left (ap outcome.Failed c.in-Write.is) (Keeps-refl _)
 
 pub returns-in_default : goal.returns-in_default
-returns-in_default g c = rw c.ending_of.ensures (report_ends _ _ c.put_report.result _ _ c.put_report.ensures.status c.put_report.ensures.ok c.put_report.ensures.err)
+returns-in_default g c = rw c.ending_of.ensures (report_ends _ _ c.put_report.result _ _ c.put_report.ensures.status
+    c.put_report.ensures.ok c.put_report.ensures.err)

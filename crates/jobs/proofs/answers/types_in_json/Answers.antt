@@ -10,9 +10,12 @@ returns-in-Refused-clause-ok g c = record {
   pickle = c.deref.result.now;
   given = rw c.deref.ensures.value c.in_ok-pickle.ensures.ok;
   ends = refused c.in-Refused.ensures
-      (subst (λ bytes. Refuses bytes c.in-Refused.refusal → EndsInJson (Answers bytes c.args.explains) (AnswersPart bytes c.args.explains) (g.O.Write.contents c.types_outcome.new.out) (g.O.Write.contents c.put_refusal-refused.new.w) c.ending_of.result)
+      (subst (λ bytes. Refuses bytes c.in-Refused.refusal →
+      EndsInJson (Answers bytes c.args.explains) (AnswersPart bytes c.args.explains)
+      (g.O.Write.contents c.types_outcome.new.out) (g.O.Write.contents c.put_refusal-refused.new.w) c.ending_of.result)
       (c.deref-in-Refused.ensures.value ∙ sym c.deref.ensures.value)
-      (λ refuses. rw c.ending_of.ensures (ends_in_json c.put_refusal-refused.result _ _ (c.put_refusal-refused.ensures.ok refuses) (c.put_refusal-refused.ensures.err refuses))));
+      (λ refuses. rw c.ending_of.ensures (ends_in_json c.put_refusal-refused.result _ _
+      (c.put_refusal-refused.ensures.ok refuses) (c.put_refusal-refused.ensures.err refuses))));
 }
 
 pub returns-in-Done-clause-ok : goal.returns-in-Done-clause-ok

@@ -17,27 +17,38 @@ loop-init g c = record {
 pub returns-then-not-branch : goal.returns-then-not-branch
 returns-then-not-branch g c =
     let keeps : Keeps (g.O.Write.contents c.loop.out) (g.O.Write.contents c.if-not-contains.out) =
-    elim c.if-not-contains.branch [ then-not-contains+in_ok-flush w ↦ rw w.out-is w.flush.ensures | else-not-contains w ↦ rw w.out-is (Keeps-refl _) ] in
+    elim c.if-not-contains.branch [
+      | then-not-contains+in_ok-flush w ↦ rw w.out-is w.flush.ensures
+      | else-not-contains w ↦ rw w.out-is (Keeps-refl _)
+    ] in
     record {
       ok = named_otherwise (g.P.Opener.gives c.args.opener.now) (every_of c.args.typed) _ _ _ _ c.loop.greatest
           (λ names read. record {
             list = reader_remaining g.L.Read.remaining c.in-Ok.list;
             rest = reader_remaining g.L.Read.remaining c.loop.list;
-            is = fresh_reader g.L.Read.remaining c.in-Ok.list c.args.list 8192 c.in-Ok.ensures.inner c.in-Ok.ensures.empty c.in-Ok.ensures.capacity refl;
+            is = fresh_reader g.L.Read.remaining c.in-Ok.list c.args.list 8192 c.in-Ok.ensures.inner
+                c.in-Ok.ensures.empty c.in-Ok.ensures.capacity refl;
             read = read;
             end = c.in_ok-read_name.ensures.end c.if-not-branch.true;
           })
-          (kept_written (g.P.Opener.gives c.args.opener.now) (every_of c.args.typed) _ _ _ _ c.loop.greatest c.loop.invariant.written keeps);
+          (kept_written (g.P.Opener.gives c.args.opener.now) (every_of c.args.typed) _ _ _ _ c.loop.greatest
+          c.loop.invariant.written keeps);
     }
 
 pub loop-preserved : goal.loop-preserved
 loop-preserved g c =
     let keeps : Keeps (g.O.Write.contents c.loop.out) (g.O.Write.contents c.if-not-contains.out) =
-    elim c.if-not-contains.branch [ then-not-contains+in_ok-flush w ↦ rw w.out-is w.flush.ensures | else-not-contains w ↦ rw w.out-is (Keeps-refl _) ] in
+    elim c.if-not-contains.branch [
+      | then-not-contains+in_ok-flush w ↦ rw w.out-is w.flush.ensures
+      | else-not-contains w ↦ rw w.out-is (Keeps-refl _)
+    ] in
     record {
       store = c.run_name.ensures.store;
-      written = rw c.greater-greatest.ensures (one_written (g.P.Opener.gives c.args.opener.now) (every_of c.args.typed) _ _ c.deref.result.now _ _ _ c.loop.greatest c.in_ok-status.status
-          (λ names read. one_read read (rw c.deref.ensures.value (c.in_ok-read_name.ensures.next c.if-not-branch.false)))
-          (kept_written (g.P.Opener.gives c.args.opener.now) (every_of c.args.typed) _ _ _ _ c.loop.greatest c.loop.invariant.written keeps)
+      written = rw c.greater-greatest.ensures (one_written (g.P.Opener.gives c.args.opener.now) (every_of c.args.typed)
+          _ _ c.deref.result.now _ _ _ c.loop.greatest c.in_ok-status.status
+          (λ names read.
+          one_read read (rw c.deref.ensures.value (c.in_ok-read_name.ensures.next c.if-not-branch.false)))
+          (kept_written (g.P.Opener.gives c.args.opener.now) (every_of c.args.typed) _ _ _ _ c.loop.greatest
+          c.loop.invariant.written keeps)
           c.in_ok-status.ensures.ok);
     }

@@ -8,7 +8,8 @@ use Rattle.jobs.proofs.each.run_words.Goals as goal
 pub loop-word-init : goal.loop-word-init
 loop-word-init g c = record {
   store = c.in_ok-kept.ensures;
-  written = none_written (g.P.Opener.gives c.args.opener.now) (every_of c.args.typed) (AreNamed (g.P.Opener.gives c.args.opener.now).is_name []) _ tt;
+  written = none_written (g.P.Opener.gives c.args.opener.now) (every_of c.args.typed)
+      (AreNamed (g.P.Opener.gives c.args.opener.now).is_name []) _ tt;
 }
 
 pub loop-word-preserved : goal.loop-word-preserved
@@ -17,11 +18,14 @@ loop-word-preserved g c =
     let name = c.deref-in-loop-word.result.now in
     let before = take c.loop-word.word-index c.args.words.now in
     let one_more : before ++ c.word-item.result ∷ [] ≡ take (c.loop-word.word-index + 1) c.args.words.now =
-    ap (λ word. before ++ word ∷ []) c.word-item.is ∙ sym (take_more c.args.words.now c.loop-word.word-index c.word-item.result (omega arith)) in
+    ap (λ word. before ++ word ∷ []) c.word-item.is
+    ∙ sym (take_more c.args.words.now c.loop-word.word-index c.word-item.result (omega arith)) in
     record {
       store = c.run_name.ensures.store;
-      written = rw c.greater-greatest.ensures (one_written gives (every_of c.args.typed) _ _ name _ _ _ c.loop-word.greatest c.in_ok-status.status
+      written = rw c.greater-greatest.ensures
+          (one_written gives (every_of c.args.typed) _ _ name _ _ _ c.loop-word.greatest c.in_ok-status.status
           (λ names are. subst (λ words. AreNamed gives.is_name words (names ++ name ∷ [])) one_more
-          (word_named gives.is_name before names c.word-item.result name (rw c.deref-in-loop-word.ensures.value (rw (sym c.deref.ensures) c.in_ok-name.ensures)) are))
+          (word_named gives.is_name before names c.word-item.result name
+          (rw c.deref-in-loop-word.ensures.value (rw (sym c.deref.ensures) c.in_ok-name.ensures)) are))
           c.loop-word.invariant.written c.in_ok-status.ensures.ok);
     }

@@ -10,7 +10,9 @@ pub returns-in_err-bytes-clause-err : goal.returns-in_err-bytes-clause-err
 returns-in_err-bytes-clause-err g c =
     let p = err_from_is_err_and c.from_residual.result c.from_residual.ensures.1 in
     rw (p.1, p.2) (not_opened
-    (subst (λ path. (g.P.Opener.gives c.args.opener.now).is_unopened path c.args.typed.mapping.spool c.in_err-bytes.field-0.0) c.in-Ok.ensures.cases.0 c.in_err-bytes.ensures.err))
+    (subst
+    (λ path. (g.P.Opener.gives c.args.opener.now).is_unopened path c.args.typed.mapping.spool c.in_err-bytes.field-0.0)
+    c.in-Ok.ensures.cases.0 c.in_err-bytes.ensures.err))
 
 pub returns-in_err-new-clause-err : goal.returns-in_err-new-clause-err
 returns-in_err-new-clause-err g c =

@@ -11,9 +11,11 @@ returns g c =
     let Runs = RunsFile (g.P.Opener.gives c.args.opener.now) every c.args.name.now in
     record {
       ok = run_kept Runs every c.args.name.now _ _ _ c.in_ok-status.status
-          (unmapped_written {E = Unit {0}} Runs every c.args.name.now (outcome.Failed c.failure.result) c.deref.result.now (Ok c.in_ok-status.status) _ _
+          (unmapped_written {E = Unit {0}} Runs every c.args.name.now (outcome.Failed c.failure.result)
+          c.deref.result.now (Ok c.in_ok-status.status) _ _
           (λ e. rw c.deref.ensures.value (c.unopened_lines-lines.ensures.quiet e))
-          (rw c.failure.ensures (fails_run (g.P.Opener.gives c.args.opener.now) every c.args.name.now c.args.fault c.requires.fails))
+          (rw c.failure.ensures
+          (fails_run (g.P.Opener.gives c.args.opener.now) every c.args.name.now c.args.fault c.requires.fails))
           c.in_ok-status.ensures.status c.in_ok-status.ensures.ok)
           c.in_ok-tell_reasons.ensures;
     }

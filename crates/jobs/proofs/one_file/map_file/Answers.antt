@@ -39,5 +39,8 @@ returns-clause-ok g c = record {
   opened = rw c.in_ok-space.ensures c.in_ok-bytes.ensures.ok;
   told = g.O.Write.contents c.map_outcome-outcome.new.out;
   ends = maps c.in-Some.ask _ (rw c.in-Some.is at c.ask_in.ensures.some) c.map_outcome-outcome.ensures.ends;
-  more = elim c.if-why.branch [ then-why w ↦ adds_where _ _ _ w.if-why.true (rw w.out-is w.explain_run.ensures) | else-why w ↦ rw w.out-is (adds_none _ _) ];
+  more = elim c.if-why.branch [
+    | then-why w ↦ adds_where _ _ _ w.if-why.true (rw w.out-is w.explain_run.ensures)
+    | else-why w ↦ rw w.out-is (adds_none _ _)
+  ];
 }

@@ -14,11 +14,16 @@ returns c =
     let b = to_z-of_z w128 c.args.b.number (small_fits c.args.b.of.signed c.args.b.number c.requires.right.1) in
     let fx : SFits w128 c.converted-x.result = search rules in
     let fy : SFits w128 c.converted-y.result = search rules in
-    let x = to_z-of_z w128 c.converted-x.result fx ∙ c.converted-x.ensures.is ∙ ap (converted c.common-number.result) a in
-    let y = to_z-of_z w128 c.converted-y.result fy ∙ c.converted-y.ensures.is ∙ ap (converted c.common-number.result) b in
+    let x =
+    to_z-of_z w128 c.converted-x.result fx ∙ c.converted-x.ensures.is ∙ ap (converted c.common-number.result) a in
+    let y =
+    to_z-of_z w128 c.converted-y.result fy ∙ c.converted-y.ensures.is ∙ ap (converted c.common-number.result) b in
     let common_is = c.common-number.ensures.is in
     rw (common_order c.args.op c.args.a.number c.args.a.of c.args.b.number c.args.b.of c.requires.comparison)
     (c.in_order.ensures (common c.args.a.of c.args.b.of)
     ∙ ap (λ n. on_common c.args.op (common c.args.a.of c.args.b.of) n (to_z w128 (of_z w128 c.converted-y.result))) x
-    ∙ ap (λ n. on_common c.args.op (common c.args.a.of c.args.b.of) (converted c.common-number.result c.args.a.number) n) y
-    ∙ ap (λ t. on_common c.args.op (common c.args.a.of c.args.b.of) (converted t c.args.a.number) (converted t c.args.b.number)) common_is)
+    ∙ ap
+    (λ n. on_common c.args.op (common c.args.a.of c.args.b.of) (converted c.common-number.result c.args.a.number) n) y
+    ∙ ap (λ t.
+    on_common c.args.op (common c.args.a.of c.args.b.of) (converted t c.args.a.number) (converted t c.args.b.number))
+    common_is)

@@ -10,4 +10,5 @@ pub returns-in-Number-clause-is : goal.returns-in-Number-clause-is
 unfolding evaluation
 returns-in-Number-clause-is c nodes =
     let fits : SFits w128 c.from.result = search rules in
-    rw (c.in-Number.is, to_z-of_z w128 c.from.result fits, c.from.ensures) (Plain (IntegerLabel (pos c.in-Number.value) c.in-Number.of), refl, refl, refl)
+    rw (c.in-Number.is, to_z-of_z w128 c.from.result fits, c.from.ensures)
+    (Plain (IntegerLabel (pos c.in-Number.value) c.in-Number.of), refl, refl, refl)

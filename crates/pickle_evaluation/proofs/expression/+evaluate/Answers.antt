@@ -39,133 +39,213 @@ takes_step (resolved.ToInteger' type p x) levels = omega arith
 takes_step (resolved.ToOffset' type unit p x) levels = omega arith
 takes_step (resolved.InUnit' unit p x) levels = omega arith
 
-no_step : (nodes : List Node) (limit before after : ℕ) (e : Resolved) (levels : Levels) → after ≡ before → after ≡ limit → Evaluated nodes limit before after (Err Limit) (evaluation (term_of e) levels)
+no_step : (nodes : List Node) (limit before after : ℕ) (e : Resolved) (levels : Levels) → after ≡ before →
+    after ≡ limit → Evaluated nodes limit before after (Err Limit) (evaluation (term_of e) levels)
 no_step nodes limit b z e levels same last = let s = takes_step e levels in (last, omega (arith, same, last, s))
 
 pub evaluate-returns-in_err-tick-clause-is : goal.evaluate-returns-in_err-tick-clause-is
 evaluate-returns-in_err-tick-clause-is t c nodes =
     let p = err_from_is_err_and c.from_residual.result c.from_residual.ensures.1 in
-    rw (p.1, p.2) (no_step nodes c.args.meter.now.limit c.args.meter.now.steps c.tick.new.self.steps c.args.e.now (levels nodes c.args.store.now) c.in_err-tick.ensures.err (c.in_err-tick.ensures.err ∙ c.in_err-tick.ensures.refused.0 refl))
+    rw (p.1, p.2) (no_step nodes c.args.meter.now.limit c.args.meter.now.steps c.tick.new.self.steps c.args.e.now
+    (levels nodes c.args.store.now) c.in_err-tick.ensures.err
+    (c.in_err-tick.ensures.err ∙ c.in_err-tick.ensures.refused.0 refl))
 
 pub applied-returns-in_err-x-in-Prefix-clause-is : goal.applied-returns-in_err-x-in-Prefix-clause-is
 unfolding evaluation
 applied-returns-in_err-x-in-Prefix-clause-is t c nodes before after_step =
     let p = err_from_is_err_and c.from_residual.result c.from_residual.ensures.1 in
     rw (p.1, p.2, c.in-Prefix.is, ← c.deref.ensures)
-    (seen_arm_stops nodes c.args.meter.now.limit before c.args.meter.now.steps c.look.new.meter.steps c.in_err-x-in-Prefix.field-0.0 (evaluation (term_of c.deref.result.now) (levels nodes c.args.store.now)) (λ x. gives (prefixed c.in-Prefix.op (operand_label x))) after_step (c.in_err-x-in-Prefix.ensures.is nodes))
+    (seen_arm_stops nodes c.args.meter.now.limit before c.args.meter.now.steps c.look.new.meter.steps
+    c.in_err-x-in-Prefix.field-0.0 (evaluation (term_of c.deref.result.now) (levels nodes c.args.store.now))
+    (λ x. gives (prefixed c.in-Prefix.op (operand_label x))) after_step (c.in_err-x-in-Prefix.ensures.is nodes))
 
 pub applied-returns-in_err-prefixed-in-Prefix-clause-is : goal.applied-returns-in_err-prefixed-in-Prefix-clause-is
 unfolding evaluation
 applied-returns-in_err-prefixed-in-Prefix-clause-is t c nodes before after_step =
-    let p = err_from_is_err_and c.from_residual-in_err-prefixed-in-Prefix.result c.from_residual-in_err-prefixed-in-Prefix.ensures.1 in
+    let p = err_from_is_err_and c.from_residual-in_err-prefixed-in-Prefix.result
+    c.from_residual-in_err-prefixed-in-Prefix.ensures.1 in
     rw (p.1, p.2, c.in-Prefix.is, ← c.deref.ensures)
-    (seen_arm_faults nodes c.args.meter.now.limit before c.args.meter.now.steps c.look.new.meter.steps c.in_ok-x-in-Prefix.x c.in_err-prefixed-in-Prefix.field-0.0 (evaluation (term_of c.deref.result.now) (levels nodes c.args.store.now)) (prefixed c.in-Prefix.op) after_step (c.in_ok-x-in-Prefix.ensures.is nodes) c.in_err-prefixed-in-Prefix.ensures.is)
+    (seen_arm_faults nodes c.args.meter.now.limit before c.args.meter.now.steps c.look.new.meter.steps
+    c.in_ok-x-in-Prefix.x c.in_err-prefixed-in-Prefix.field-0.0
+    (evaluation (term_of c.deref.result.now) (levels nodes c.args.store.now)) (prefixed c.in-Prefix.op) after_step
+    (c.in_ok-x-in-Prefix.ensures.is nodes) c.in_err-prefixed-in-Prefix.ensures.is)
 
 pub applied-returns-in_ok-prefixed-in-Prefix-clause-is : goal.applied-returns-in_ok-prefixed-in-Prefix-clause-is
 unfolding evaluation
 applied-returns-in_ok-prefixed-in-Prefix-clause-is t c nodes before after_step =
     rw (c.in-Prefix.is, ← c.deref.ensures)
-    (seen_arm_computes nodes c.args.meter.now.limit before c.args.meter.now.steps c.look.new.meter.steps c.in_ok-x-in-Prefix.x c.in_ok-prefixed-in-Prefix.field-0 (evaluation (term_of c.deref.result.now) (levels nodes c.args.store.now)) (prefixed c.in-Prefix.op) after_step (c.in_ok-x-in-Prefix.ensures.is nodes) c.in_ok-prefixed-in-Prefix.ensures.is)
+    (seen_arm_computes nodes c.args.meter.now.limit before c.args.meter.now.steps c.look.new.meter.steps
+    c.in_ok-x-in-Prefix.x c.in_ok-prefixed-in-Prefix.field-0
+    (evaluation (term_of c.deref.result.now) (levels nodes c.args.store.now)) (prefixed c.in-Prefix.op) after_step
+    (c.in_ok-x-in-Prefix.ensures.is nodes) c.in_ok-prefixed-in-Prefix.ensures.is)
 
 pub applied-returns-in_err-x-in-ToInteger-clause-is : goal.applied-returns-in_err-x-in-ToInteger-clause-is
 unfolding evaluation
 applied-returns-in_err-x-in-ToInteger-clause-is t c nodes before after_step =
-    let p = err_from_is_err_and c.from_residual-in_err-x-in-ToInteger.result c.from_residual-in_err-x-in-ToInteger.ensures.1 in
+    let p =
+    err_from_is_err_and c.from_residual-in_err-x-in-ToInteger.result c.from_residual-in_err-x-in-ToInteger.ensures.1 in
     rw (p.1, p.2, c.in-ToInteger.is, ← c.deref-in-ToInteger.ensures)
-    (seen_arm_stops nodes c.args.meter.now.limit before c.args.meter.now.steps c.look-in-ToInteger.new.meter.steps c.in_err-x-in-ToInteger.field-0.0 (evaluation (term_of c.deref-in-ToInteger.result.now) (levels nodes c.args.store.now)) (λ x. gives (to_integer c.in-ToInteger.number (operand_label x))) after_step (c.in_err-x-in-ToInteger.ensures.is nodes))
+    (seen_arm_stops nodes c.args.meter.now.limit before c.args.meter.now.steps c.look-in-ToInteger.new.meter.steps
+    c.in_err-x-in-ToInteger.field-0.0
+    (evaluation (term_of c.deref-in-ToInteger.result.now) (levels nodes c.args.store.now))
+    (λ x. gives (to_integer c.in-ToInteger.number (operand_label x))) after_step
+    (c.in_err-x-in-ToInteger.ensures.is nodes))
 
-pub applied-returns-in_err-to_integer-in-ToInteger-clause-is : goal.applied-returns-in_err-to_integer-in-ToInteger-clause-is
+pub applied-returns-in_err-to_integer-in-ToInteger-clause-is :
+    goal.applied-returns-in_err-to_integer-in-ToInteger-clause-is
 unfolding evaluation
 applied-returns-in_err-to_integer-in-ToInteger-clause-is t c nodes before after_step =
-    let p = err_from_is_err_and c.from_residual-in_err-to_integer-in-ToInteger.result c.from_residual-in_err-to_integer-in-ToInteger.ensures.1 in
+    let p = err_from_is_err_and c.from_residual-in_err-to_integer-in-ToInteger.result
+    c.from_residual-in_err-to_integer-in-ToInteger.ensures.1 in
     rw (p.1, p.2, c.in-ToInteger.is, ← c.deref-in-ToInteger.ensures)
-    (seen_arm_faults nodes c.args.meter.now.limit before c.args.meter.now.steps c.look-in-ToInteger.new.meter.steps c.in_ok-x-in-ToInteger.x c.in_err-to_integer-in-ToInteger.field-0.0 (evaluation (term_of c.deref-in-ToInteger.result.now) (levels nodes c.args.store.now)) (to_integer c.in-ToInteger.number) after_step (c.in_ok-x-in-ToInteger.ensures.is nodes) c.in_err-to_integer-in-ToInteger.ensures.is)
+    (seen_arm_faults nodes c.args.meter.now.limit before c.args.meter.now.steps c.look-in-ToInteger.new.meter.steps
+    c.in_ok-x-in-ToInteger.x c.in_err-to_integer-in-ToInteger.field-0.0
+    (evaluation (term_of c.deref-in-ToInteger.result.now) (levels nodes c.args.store.now))
+    (to_integer c.in-ToInteger.number) after_step (c.in_ok-x-in-ToInteger.ensures.is nodes)
+    c.in_err-to_integer-in-ToInteger.ensures.is)
 
-pub applied-returns-in_ok-to_integer-in-ToInteger-clause-is : goal.applied-returns-in_ok-to_integer-in-ToInteger-clause-is
+pub applied-returns-in_ok-to_integer-in-ToInteger-clause-is :
+    goal.applied-returns-in_ok-to_integer-in-ToInteger-clause-is
 unfolding evaluation
 applied-returns-in_ok-to_integer-in-ToInteger-clause-is t c nodes before after_step =
     rw (c.in-ToInteger.is, ← c.deref-in-ToInteger.ensures)
-    (seen_arm_computes nodes c.args.meter.now.limit before c.args.meter.now.steps c.look-in-ToInteger.new.meter.steps c.in_ok-x-in-ToInteger.x c.in_ok-to_integer-in-ToInteger.field-0 (evaluation (term_of c.deref-in-ToInteger.result.now) (levels nodes c.args.store.now)) (to_integer c.in-ToInteger.number) after_step (c.in_ok-x-in-ToInteger.ensures.is nodes) c.in_ok-to_integer-in-ToInteger.ensures.is)
+    (seen_arm_computes nodes c.args.meter.now.limit before c.args.meter.now.steps c.look-in-ToInteger.new.meter.steps
+    c.in_ok-x-in-ToInteger.x c.in_ok-to_integer-in-ToInteger.field-0
+    (evaluation (term_of c.deref-in-ToInteger.result.now) (levels nodes c.args.store.now))
+    (to_integer c.in-ToInteger.number) after_step (c.in_ok-x-in-ToInteger.ensures.is nodes)
+    c.in_ok-to_integer-in-ToInteger.ensures.is)
 
 pub applied-returns-in_err-x-in-ToOffset-clause-is : goal.applied-returns-in_err-x-in-ToOffset-clause-is
 unfolding evaluation
 applied-returns-in_err-x-in-ToOffset-clause-is t c nodes before after_step =
-    let p = err_from_is_err_and c.from_residual-in_err-x-in-ToOffset.result c.from_residual-in_err-x-in-ToOffset.ensures.1 in
+    let p =
+    err_from_is_err_and c.from_residual-in_err-x-in-ToOffset.result c.from_residual-in_err-x-in-ToOffset.ensures.1 in
     rw (p.1, p.2, c.in-ToOffset.is, ← c.deref-in-ToOffset.ensures)
-    (seen_arm_stops nodes c.args.meter.now.limit before c.args.meter.now.steps c.look-in-ToOffset.new.meter.steps c.in_err-x-in-ToOffset.field-0.0 (evaluation (term_of c.deref-in-ToOffset.result.now) (levels nodes c.args.store.now)) (λ x. gives (to_offset c.in-ToOffset.number c.in-ToOffset.unit (operand_label x))) after_step (c.in_err-x-in-ToOffset.ensures.is nodes))
+    (seen_arm_stops nodes c.args.meter.now.limit before c.args.meter.now.steps c.look-in-ToOffset.new.meter.steps
+    c.in_err-x-in-ToOffset.field-0.0
+    (evaluation (term_of c.deref-in-ToOffset.result.now) (levels nodes c.args.store.now))
+    (λ x. gives (to_offset c.in-ToOffset.number c.in-ToOffset.unit (operand_label x))) after_step
+    (c.in_err-x-in-ToOffset.ensures.is nodes))
 
 pub applied-returns-in_err-to_offset-in-ToOffset-clause-is : goal.applied-returns-in_err-to_offset-in-ToOffset-clause-is
 unfolding evaluation
 applied-returns-in_err-to_offset-in-ToOffset-clause-is t c nodes before after_step =
-    let p = err_from_is_err_and c.from_residual-in_err-to_offset-in-ToOffset.result c.from_residual-in_err-to_offset-in-ToOffset.ensures.1 in
+    let p = err_from_is_err_and c.from_residual-in_err-to_offset-in-ToOffset.result
+    c.from_residual-in_err-to_offset-in-ToOffset.ensures.1 in
     rw (p.1, p.2, c.in-ToOffset.is, ← c.deref-in-ToOffset.ensures)
-    (seen_arm_faults nodes c.args.meter.now.limit before c.args.meter.now.steps c.look-in-ToOffset.new.meter.steps c.in_ok-x-in-ToOffset.x c.in_err-to_offset-in-ToOffset.field-0.0 (evaluation (term_of c.deref-in-ToOffset.result.now) (levels nodes c.args.store.now)) (to_offset c.in-ToOffset.number c.in-ToOffset.unit) after_step (c.in_ok-x-in-ToOffset.ensures.is nodes) c.in_err-to_offset-in-ToOffset.ensures.is)
+    (seen_arm_faults nodes c.args.meter.now.limit before c.args.meter.now.steps c.look-in-ToOffset.new.meter.steps
+    c.in_ok-x-in-ToOffset.x c.in_err-to_offset-in-ToOffset.field-0.0
+    (evaluation (term_of c.deref-in-ToOffset.result.now) (levels nodes c.args.store.now))
+    (to_offset c.in-ToOffset.number c.in-ToOffset.unit) after_step (c.in_ok-x-in-ToOffset.ensures.is nodes)
+    c.in_err-to_offset-in-ToOffset.ensures.is)
 
 pub applied-returns-in_ok-to_offset-in-ToOffset-clause-is : goal.applied-returns-in_ok-to_offset-in-ToOffset-clause-is
 unfolding evaluation
 applied-returns-in_ok-to_offset-in-ToOffset-clause-is t c nodes before after_step =
     rw (c.in-ToOffset.is, ← c.deref-in-ToOffset.ensures)
-    (seen_arm_computes nodes c.args.meter.now.limit before c.args.meter.now.steps c.look-in-ToOffset.new.meter.steps c.in_ok-x-in-ToOffset.x c.in_ok-to_offset-in-ToOffset.field-0 (evaluation (term_of c.deref-in-ToOffset.result.now) (levels nodes c.args.store.now)) (to_offset c.in-ToOffset.number c.in-ToOffset.unit) after_step (c.in_ok-x-in-ToOffset.ensures.is nodes) c.in_ok-to_offset-in-ToOffset.ensures.is)
+    (seen_arm_computes nodes c.args.meter.now.limit before c.args.meter.now.steps c.look-in-ToOffset.new.meter.steps
+    c.in_ok-x-in-ToOffset.x c.in_ok-to_offset-in-ToOffset.field-0
+    (evaluation (term_of c.deref-in-ToOffset.result.now) (levels nodes c.args.store.now))
+    (to_offset c.in-ToOffset.number c.in-ToOffset.unit) after_step (c.in_ok-x-in-ToOffset.ensures.is nodes)
+    c.in_ok-to_offset-in-ToOffset.ensures.is)
 
 pub applied-returns-in_err-x-in-InUnit-clause-is : goal.applied-returns-in_err-x-in-InUnit-clause-is
 unfolding evaluation
 applied-returns-in_err-x-in-InUnit-clause-is t c nodes before after_step =
-    let p = err_from_is_err_and c.from_residual-in_err-x-in-InUnit.result c.from_residual-in_err-x-in-InUnit.ensures.1 in
+    let p =
+    err_from_is_err_and c.from_residual-in_err-x-in-InUnit.result c.from_residual-in_err-x-in-InUnit.ensures.1 in
     rw (p.1, p.2, c.in-InUnit.is, ← c.deref-in-InUnit.ensures)
-    (seen_arm_stops nodes c.args.meter.now.limit before c.args.meter.now.steps c.look-in-InUnit.new.meter.steps c.in_err-x-in-InUnit.field-0.0 (evaluation (term_of c.deref-in-InUnit.result.now) (levels nodes c.args.store.now)) (λ x. gives (in_unit c.in-InUnit.unit (operand_label x))) after_step (c.in_err-x-in-InUnit.ensures.is nodes))
+    (seen_arm_stops nodes c.args.meter.now.limit before c.args.meter.now.steps c.look-in-InUnit.new.meter.steps
+    c.in_err-x-in-InUnit.field-0.0 (evaluation (term_of c.deref-in-InUnit.result.now) (levels nodes c.args.store.now))
+    (λ x. gives (in_unit c.in-InUnit.unit (operand_label x))) after_step (c.in_err-x-in-InUnit.ensures.is nodes))
 
 pub applied-returns-in_err-in_unit-in-InUnit-clause-is : goal.applied-returns-in_err-in_unit-in-InUnit-clause-is
 unfolding evaluation
 applied-returns-in_err-in_unit-in-InUnit-clause-is t c nodes before after_step =
-    let p = err_from_is_err_and c.from_residual-in_err-in_unit-in-InUnit.result c.from_residual-in_err-in_unit-in-InUnit.ensures.1 in
+    let p = err_from_is_err_and c.from_residual-in_err-in_unit-in-InUnit.result
+    c.from_residual-in_err-in_unit-in-InUnit.ensures.1 in
     rw (p.1, p.2, c.in-InUnit.is, ← c.deref-in-InUnit.ensures)
-    (seen_arm_faults nodes c.args.meter.now.limit before c.args.meter.now.steps c.look-in-InUnit.new.meter.steps c.in_ok-x-in-InUnit.x c.in_err-in_unit-in-InUnit.field-0.0 (evaluation (term_of c.deref-in-InUnit.result.now) (levels nodes c.args.store.now)) (in_unit c.in-InUnit.unit) after_step (c.in_ok-x-in-InUnit.ensures.is nodes) c.in_err-in_unit-in-InUnit.ensures.is)
+    (seen_arm_faults nodes c.args.meter.now.limit before c.args.meter.now.steps c.look-in-InUnit.new.meter.steps
+    c.in_ok-x-in-InUnit.x c.in_err-in_unit-in-InUnit.field-0.0
+    (evaluation (term_of c.deref-in-InUnit.result.now) (levels nodes c.args.store.now)) (in_unit c.in-InUnit.unit)
+    after_step (c.in_ok-x-in-InUnit.ensures.is nodes) c.in_err-in_unit-in-InUnit.ensures.is)
 
 pub applied-returns-in_ok-in_unit-in-InUnit-clause-is : goal.applied-returns-in_ok-in_unit-in-InUnit-clause-is
 unfolding evaluation
 applied-returns-in_ok-in_unit-in-InUnit-clause-is t c nodes before after_step =
     rw (c.in-InUnit.is, ← c.deref-in-InUnit.ensures)
-    (seen_arm_computes nodes c.args.meter.now.limit before c.args.meter.now.steps c.look-in-InUnit.new.meter.steps c.in_ok-x-in-InUnit.x c.in_ok-in_unit-in-InUnit.field-0 (evaluation (term_of c.deref-in-InUnit.result.now) (levels nodes c.args.store.now)) (in_unit c.in-InUnit.unit) after_step (c.in_ok-x-in-InUnit.ensures.is nodes) c.in_ok-in_unit-in-InUnit.ensures.is)
+    (seen_arm_computes nodes c.args.meter.now.limit before c.args.meter.now.steps c.look-in-InUnit.new.meter.steps
+    c.in_ok-x-in-InUnit.x c.in_ok-in_unit-in-InUnit.field-0
+    (evaluation (term_of c.deref-in-InUnit.result.now) (levels nodes c.args.store.now)) (in_unit c.in-InUnit.unit)
+    after_step (c.in_ok-x-in-InUnit.ensures.is nodes) c.in_ok-in_unit-in-InUnit.ensures.is)
 
 pub applied-returns-in_err-x-in-Attribute-clause-is : goal.applied-returns-in_err-x-in-Attribute-clause-is
 unfolding evaluation
 applied-returns-in_err-x-in-Attribute-clause-is t c nodes before after_step =
-    let p = err_from_is_err_and c.from_residual-in_err-x-in-Attribute.result c.from_residual-in_err-x-in-Attribute.ensures.1 in
+    let p =
+    err_from_is_err_and c.from_residual-in_err-x-in-Attribute.result c.from_residual-in_err-x-in-Attribute.ensures.1 in
     rw (p.1, p.2, c.in-Attribute.is, ← c.deref-in-Attribute.ensures)
-    (arm_stops nodes c.args.meter.now.limit c.args.meter.now.limit before c.args.meter.now.steps c.evaluate-in-Attribute.new.meter.steps c.in_err-x-in-Attribute.field-0.0 (evaluation (term_of c.deref-in-Attribute.result.now) (levels nodes c.args.store.now)) (λ p. gives (attribute_of c.in-Attribute.attribute p)) refl after_step (c.in_err-x-in-Attribute.ensures.is nodes))
+    (arm_stops nodes c.args.meter.now.limit c.args.meter.now.limit before c.args.meter.now.steps
+    c.evaluate-in-Attribute.new.meter.steps c.in_err-x-in-Attribute.field-0.0
+    (evaluation (term_of c.deref-in-Attribute.result.now) (levels nodes c.args.store.now))
+    (λ p. gives (attribute_of c.in-Attribute.attribute p)) refl after_step (c.in_err-x-in-Attribute.ensures.is nodes))
 
-pub applied-returns-in_err-attribute_of-in-Attribute-clause-is : goal.applied-returns-in_err-attribute_of-in-Attribute-clause-is
+pub applied-returns-in_err-attribute_of-in-Attribute-clause-is :
+    goal.applied-returns-in_err-attribute_of-in-Attribute-clause-is
 unfolding evaluation
 applied-returns-in_err-attribute_of-in-Attribute-clause-is t c nodes before after_step =
-    let p = err_from_is_err_and c.from_residual-in_err-attribute_of-in-Attribute.result c.from_residual-in_err-attribute_of-in-Attribute.ensures.1 in
+    let p = err_from_is_err_and c.from_residual-in_err-attribute_of-in-Attribute.result
+    c.from_residual-in_err-attribute_of-in-Attribute.ensures.1 in
     rw (p.1, p.2, c.in-Attribute.is, ← c.deref-in-Attribute.ensures)
-    (arm_faults nodes c.args.meter.now.limit c.args.meter.now.limit before c.args.meter.now.steps c.evaluate-in-Attribute.new.meter.steps c.in_ok-x-in-Attribute.x c.in_err-attribute_of-in-Attribute.field-0.0 (evaluation (term_of c.deref-in-Attribute.result.now) (levels nodes c.args.store.now)) (λ p. attribute_of c.in-Attribute.attribute p) refl after_step (c.in_ok-x-in-Attribute.ensures.is nodes) (c.in_err-attribute_of-in-Attribute.ensures.is nodes))
+    (arm_faults nodes c.args.meter.now.limit c.args.meter.now.limit before c.args.meter.now.steps
+    c.evaluate-in-Attribute.new.meter.steps c.in_ok-x-in-Attribute.x c.in_err-attribute_of-in-Attribute.field-0.0
+    (evaluation (term_of c.deref-in-Attribute.result.now) (levels nodes c.args.store.now))
+    (λ p. attribute_of c.in-Attribute.attribute p) refl after_step (c.in_ok-x-in-Attribute.ensures.is nodes)
+    (c.in_err-attribute_of-in-Attribute.ensures.is nodes))
 
-pub applied-returns-in_ok-attribute_of-in-Attribute-clause-is : goal.applied-returns-in_ok-attribute_of-in-Attribute-clause-is
+pub applied-returns-in_ok-attribute_of-in-Attribute-clause-is :
+    goal.applied-returns-in_ok-attribute_of-in-Attribute-clause-is
 unfolding evaluation
 applied-returns-in_ok-attribute_of-in-Attribute-clause-is t c nodes before after_step =
     rw (c.in-Attribute.is, ← c.deref-in-Attribute.ensures)
-    (arm_computes nodes c.args.meter.now.limit c.args.meter.now.limit before c.args.meter.now.steps c.evaluate-in-Attribute.new.meter.steps c.in_ok-x-in-Attribute.x c.in_ok-attribute_of-in-Attribute.field-0 (evaluation (term_of c.deref-in-Attribute.result.now) (levels nodes c.args.store.now)) (λ p. attribute_of c.in-Attribute.attribute p) refl after_step (c.in_ok-x-in-Attribute.ensures.is nodes) (c.in_ok-attribute_of-in-Attribute.ensures.is nodes))
+    (arm_computes nodes c.args.meter.now.limit c.args.meter.now.limit before c.args.meter.now.steps
+    c.evaluate-in-Attribute.new.meter.steps c.in_ok-x-in-Attribute.x c.in_ok-attribute_of-in-Attribute.field-0
+    (evaluation (term_of c.deref-in-Attribute.result.now) (levels nodes c.args.store.now))
+    (λ p. attribute_of c.in-Attribute.attribute p) refl after_step (c.in_ok-x-in-Attribute.ensures.is nodes)
+    (c.in_ok-attribute_of-in-Attribute.ensures.is nodes))
 
 pub applied-returns-in_err-x-in-Select-clause-is : goal.applied-returns-in_err-x-in-Select-clause-is
 unfolding evaluation
 applied-returns-in_err-x-in-Select-clause-is t c nodes before after_step =
-    let p = err_from_is_err_and c.from_residual-in_err-x-in-Select.result c.from_residual-in_err-x-in-Select.ensures.1 in
+    let p =
+    err_from_is_err_and c.from_residual-in_err-x-in-Select.result c.from_residual-in_err-x-in-Select.ensures.1 in
     rw (p.1, p.2, c.in-Select.is, ← c.deref-in-Select.ensures)
-    (arm_stops nodes c.args.meter.now.limit c.args.meter.now.limit before c.args.meter.now.steps c.evaluate.new.meter.steps c.in_err-x-in-Select.field-0.0 (evaluation (term_of c.deref-in-Select.result.now) (levels nodes c.args.store.now)) (λ p. leads_to (present (selected p c.in-Select.place))) refl after_step (c.in_err-x-in-Select.ensures.is nodes))
+    (arm_stops nodes c.args.meter.now.limit c.args.meter.now.limit before c.args.meter.now.steps
+    c.evaluate.new.meter.steps c.in_err-x-in-Select.field-0.0
+    (evaluation (term_of c.deref-in-Select.result.now) (levels nodes c.args.store.now))
+    (λ p. leads_to (present (selected p c.in-Select.place))) refl after_step (c.in_err-x-in-Select.ensures.is nodes))
 
 pub applied-returns-in_err-selected-in-Select-clause-is : goal.applied-returns-in_err-selected-in-Select-clause-is
 unfolding evaluation
 applied-returns-in_err-selected-in-Select-clause-is t c nodes before after_step =
-    let p = err_from_is_err_and c.from_residual-in_err-selected-in-Select.result c.from_residual-in_err-selected-in-Select.ensures.1 in
+    let p = err_from_is_err_and c.from_residual-in_err-selected-in-Select.result
+    c.from_residual-in_err-selected-in-Select.ensures.1 in
     rw (p.1, p.2, c.in-Select.is, ← c.deref-in-Select.ensures)
-    (arm_leads_not nodes c.args.meter.now.limit c.args.meter.now.limit before c.args.meter.now.steps c.evaluate.new.meter.steps c.in_ok-x-in-Select.x c.in_err-selected-in-Select.field-0.0 (evaluation (term_of c.deref-in-Select.result.now) (levels nodes c.args.store.now)) (λ p. present (selected p c.in-Select.place)) refl after_step (c.in_ok-x-in-Select.ensures.is nodes) (c.in_err-selected-in-Select.ensures.is nodes))
+    (arm_leads_not nodes c.args.meter.now.limit c.args.meter.now.limit before c.args.meter.now.steps
+    c.evaluate.new.meter.steps c.in_ok-x-in-Select.x c.in_err-selected-in-Select.field-0.0
+    (evaluation (term_of c.deref-in-Select.result.now) (levels nodes c.args.store.now))
+    (λ p. present (selected p c.in-Select.place)) refl after_step (c.in_ok-x-in-Select.ensures.is nodes)
+    (c.in_err-selected-in-Select.ensures.is nodes))
 
 pub applied-returns-in_ok-selected-in-Select-clause-is : goal.applied-returns-in_ok-selected-in-Select-clause-is
 unfolding evaluation
 applied-returns-in_ok-selected-in-Select-clause-is t c nodes before after_step =
     rw (c.in-Select.is, ← c.deref-in-Select.ensures)
-    (arm_leads nodes c.args.meter.now.limit c.args.meter.now.limit before c.args.meter.now.steps c.evaluate.new.meter.steps c.in_ok-x-in-Select.x c.in_ok-selected-in-Select.field-0 (evaluation (term_of c.deref-in-Select.result.now) (levels nodes c.args.store.now)) (λ p. present (selected p c.in-Select.place)) refl after_step (c.in_ok-x-in-Select.ensures.is nodes) (c.in_ok-selected-in-Select.ensures.is nodes))
+    (arm_leads nodes c.args.meter.now.limit c.args.meter.now.limit before c.args.meter.now.steps
+    c.evaluate.new.meter.steps c.in_ok-x-in-Select.x c.in_ok-selected-in-Select.field-0
+    (evaluation (term_of c.deref-in-Select.result.now) (levels nodes c.args.store.now))
+    (λ p. present (selected p c.in-Select.place)) refl after_step (c.in_ok-x-in-Select.ensures.is nodes)
+    (c.in_ok-selected-in-Select.ensures.is nodes))
 
 pub evaluate-returns-in-Number-clause-is : goal.evaluate-returns-in-Number-clause-is
 unfolding evaluation
@@ -185,121 +265,278 @@ unfolding evaluation
 evaluate-returns-in-Some-clause-is t c nodes =
     let v = sym (c.in-Some.ensures nodes) in
     rw c.in-Name.is
-    (arm_is nodes c.args.meter.now.limit c.tick.new.self.limit c.args.meter.now.steps c.tick.new.self.steps c.tick.new.self.steps (Ok (computing.Value c.in-Some.value)) (leads_to (present (value_at (levels nodes c.args.store.now) c.in-Name.level c.in-Name.place))) c.in_ok-tick.ensures.limit c.in_ok-tick.ensures.ok
-    (leads nodes c.tick.new.self.limit c.tick.new.self.steps (computing.Value c.in-Some.value) (present (value_at (levels nodes c.args.store.now) c.in-Name.level c.in-Name.place)) (is_led _ _ v)))
+    (arm_is nodes c.args.meter.now.limit c.tick.new.self.limit c.args.meter.now.steps c.tick.new.self.steps
+    c.tick.new.self.steps (Ok (computing.Value c.in-Some.value))
+    (leads_to (present (value_at (levels nodes c.args.store.now) c.in-Name.level c.in-Name.place)))
+    c.in_ok-tick.ensures.limit c.in_ok-tick.ensures.ok
+    (leads nodes c.tick.new.self.limit c.tick.new.self.steps (computing.Value c.in-Some.value)
+    (present (value_at (levels nodes c.args.store.now) c.in-Name.level c.in-Name.place)) (is_led _ _ v)))
 
 pub evaluate-returns-in-None-clause-is : goal.evaluate-returns-in-None-clause-is
 unfolding evaluation
 evaluate-returns-in-None-clause-is t c nodes =
     let v = sym (c.in-None.ensures nodes) in
     rw c.in-Name.is
-    (arm_is nodes c.args.meter.now.limit c.tick.new.self.limit c.args.meter.now.steps c.tick.new.self.steps c.tick.new.self.steps (Err (Fault fault.Absent)) (leads_to (present (value_at (levels nodes c.args.store.now) c.in-Name.level c.in-Name.place))) c.in_ok-tick.ensures.limit c.in_ok-tick.ensures.ok
-    (leads_not nodes c.tick.new.self.limit c.tick.new.self.steps fault.Absent (present (value_at (levels nodes c.args.store.now) c.in-Name.level c.in-Name.place)) (is_not_led _ v)))
+    (arm_is nodes c.args.meter.now.limit c.tick.new.self.limit c.args.meter.now.steps c.tick.new.self.steps
+    c.tick.new.self.steps (Err (Fault fault.Absent))
+    (leads_to (present (value_at (levels nodes c.args.store.now) c.in-Name.level c.in-Name.place)))
+    c.in_ok-tick.ensures.limit c.in_ok-tick.ensures.ok
+    (leads_not nodes c.tick.new.self.limit c.tick.new.self.steps fault.Absent
+    (present (value_at (levels nodes c.args.store.now) c.in-Name.level c.in-Name.place)) (is_not_led _ v)))
 
 pub evaluate-returns-in-Bracket-clause-is : goal.evaluate-returns-in-Bracket-clause-is
 unfolding evaluation
 evaluate-returns-in-Bracket-clause-is t c nodes =
     rw (c.in-Bracket.is, ← c.deref-in-Bracket.ensures)
-    (arm_is nodes c.args.meter.now.limit c.tick.new.self.limit c.args.meter.now.steps c.tick.new.self.steps c.evaluate.new.meter.steps c.evaluate.result (evaluation (term_of c.deref-in-Bracket.result.now) (levels nodes c.args.store.now)) c.in_ok-tick.ensures.limit c.in_ok-tick.ensures.ok (c.evaluate.ensures.is nodes))
+    (arm_is nodes c.args.meter.now.limit c.tick.new.self.limit c.args.meter.now.steps c.tick.new.self.steps
+    c.evaluate.new.meter.steps c.evaluate.result
+    (evaluation (term_of c.deref-in-Bracket.result.now) (levels nodes c.args.store.now)) c.in_ok-tick.ensures.limit
+    c.in_ok-tick.ensures.ok (c.evaluate.ensures.is nodes))
 
 pub evaluate-returns-in_err-infix-in-Infix-clause-is : goal.evaluate-returns-in_err-infix-in-Infix-clause-is
 unfolding evaluation
 evaluate-returns-in_err-infix-in-Infix-clause-is t c nodes =
-    let p = err_from_is_err_and c.from_residual-in_err-infix-in-Infix.result c.from_residual-in_err-infix-in-Infix.ensures.1 in
+    let p =
+    err_from_is_err_and c.from_residual-in_err-infix-in-Infix.result c.from_residual-in_err-infix-in-Infix.ensures.1 in
     rw (p.1, p.2, c.in-Infix.is, ← c.deref-in-Infix.ensures, ← c.deref-in-Infix-2.ensures)
-    (arm_is nodes c.args.meter.now.limit c.tick.new.self.limit c.args.meter.now.steps c.tick.new.self.steps c.infix.new.meter.steps (Err c.in_err-infix-in-Infix.field-0.0) (infix_part c.in-Infix.op (term_of c.deref-in-Infix.result.now) (term_of c.deref-in-Infix-2.result.now) (levels nodes c.args.store.now)) c.in_ok-tick.ensures.limit c.in_ok-tick.ensures.ok (c.in_err-infix-in-Infix.ensures.is nodes))
+    (arm_is nodes c.args.meter.now.limit c.tick.new.self.limit c.args.meter.now.steps c.tick.new.self.steps
+    c.infix.new.meter.steps (Err c.in_err-infix-in-Infix.field-0.0) (infix_part c.in-Infix.op
+    (term_of c.deref-in-Infix.result.now) (term_of c.deref-in-Infix-2.result.now) (levels nodes c.args.store.now))
+    c.in_ok-tick.ensures.limit c.in_ok-tick.ensures.ok (c.in_err-infix-in-Infix.ensures.is nodes))
 
 pub evaluate-returns-in_ok-infix-in-Infix-clause-is : goal.evaluate-returns-in_ok-infix-in-Infix-clause-is
 unfolding evaluation
 evaluate-returns-in_ok-infix-in-Infix-clause-is t c nodes =
     rw (c.in-Infix.is, ← c.deref-in-Infix.ensures, ← c.deref-in-Infix-2.ensures)
-    (arm_is nodes c.args.meter.now.limit c.tick.new.self.limit c.args.meter.now.steps c.tick.new.self.steps c.infix.new.meter.steps (Ok (computing.Scalar c.in_ok-infix-in-Infix.field-0)) (infix_part c.in-Infix.op (term_of c.deref-in-Infix.result.now) (term_of c.deref-in-Infix-2.result.now) (levels nodes c.args.store.now)) c.in_ok-tick.ensures.limit c.in_ok-tick.ensures.ok (c.in_ok-infix-in-Infix.ensures.is nodes))
+    (arm_is nodes c.args.meter.now.limit c.tick.new.self.limit c.args.meter.now.steps c.tick.new.self.steps
+    c.infix.new.meter.steps (Ok (computing.Scalar c.in_ok-infix-in-Infix.field-0)) (infix_part c.in-Infix.op
+    (term_of c.deref-in-Infix.result.now) (term_of c.deref-in-Infix-2.result.now) (levels nodes c.args.store.now))
+    c.in_ok-tick.ensures.limit c.in_ok-tick.ensures.ok (c.in_ok-infix-in-Infix.ensures.is nodes))
 
 pub evaluate-returns-in-Choice-clause-is : goal.evaluate-returns-in-Choice-clause-is
 unfolding evaluation
 evaluate-returns-in-Choice-clause-is t c nodes =
     rw (c.in-Choice.is, ← c.deref-in-Choice.ensures, ← c.deref-in-Choice-2.ensures, ← c.deref-in-Choice-3.ensures)
-    (arm_is nodes c.args.meter.now.limit c.tick.new.self.limit c.args.meter.now.steps c.tick.new.self.steps c.choice.new.meter.steps c.choice.result (choice_part c.in-Choice.common (term_of c.deref-in-Choice.result.now) (term_of c.deref-in-Choice-2.result.now) (term_of c.deref-in-Choice-3.result.now) (levels nodes c.args.store.now)) c.in_ok-tick.ensures.limit c.in_ok-tick.ensures.ok (c.choice.ensures.is nodes))
+    (arm_is nodes c.args.meter.now.limit c.tick.new.self.limit c.args.meter.now.steps c.tick.new.self.steps
+    c.choice.new.meter.steps c.choice.result (choice_part c.in-Choice.common (term_of c.deref-in-Choice.result.now)
+    (term_of c.deref-in-Choice-2.result.now) (term_of c.deref-in-Choice-3.result.now) (levels nodes c.args.store.now))
+    c.in_ok-tick.ensures.limit c.in_ok-tick.ensures.ok (c.choice.ensures.is nodes))
 
 pub evaluate-returns-in-Index-clause-is : goal.evaluate-returns-in-Index-clause-is
 unfolding evaluation
 evaluate-returns-in-Index-clause-is t c nodes =
     rw (c.in-Index.is, ← c.deref-in-Index.ensures, ← c.deref-in-Index-2.ensures)
-    (arm_is nodes c.args.meter.now.limit c.tick.new.self.limit c.args.meter.now.steps c.tick.new.self.steps c.index.new.meter.steps c.index.result (index_part (term_of c.deref-in-Index.result.now) (term_of c.deref-in-Index-2.result.now) (levels nodes c.args.store.now)) c.in_ok-tick.ensures.limit c.in_ok-tick.ensures.ok (c.index.ensures.is nodes))
+    (arm_is nodes c.args.meter.now.limit c.tick.new.self.limit c.args.meter.now.steps c.tick.new.self.steps
+    c.index.new.meter.steps c.index.result (index_part (term_of c.deref-in-Index.result.now)
+    (term_of c.deref-in-Index-2.result.now) (levels nodes c.args.store.now))
+    c.in_ok-tick.ensures.limit c.in_ok-tick.ensures.ok (c.index.ensures.is nodes))
 
 pub choice-returns-in_err-t-clause-is : goal.choice-returns-in_err-t-clause-is
 choice-returns-in_err-t-clause-is t c nodes =
     let p = err_from_is_err_and c.from_residual.result c.from_residual.ensures.1 in
-    rw (p.1, p.2) (seen_stops nodes c.args.meter.now.limit c.args.meter.now.steps c.look.new.meter.steps c.in_err-t.field-0.0 (evaluation (term_of c.args.c.now) (levels nodes c.args.store.now)) (λ t. and_operand (chosen (truth_of (operand_label t)) (evaluation (term_of c.args.x.now) (levels nodes c.args.store.now)) (evaluation (term_of c.args.y.now) (levels nodes c.args.store.now))) (λ z. gives (as_common c.args.common.now (operand_label z)))) (c.in_err-t.ensures.is nodes))
+    rw (p.1, p.2) (seen_stops nodes c.args.meter.now.limit c.args.meter.now.steps c.look.new.meter.steps
+    c.in_err-t.field-0.0 (evaluation (term_of c.args.c.now) (levels nodes c.args.store.now)) (λ t.
+    and_operand (chosen (truth_of (operand_label t)) (evaluation (term_of c.args.x.now) (levels nodes c.args.store.now))
+    (evaluation (term_of c.args.y.now) (levels nodes c.args.store.now)))
+    (λ z. gives (as_common c.args.common.now (operand_label z)))) (c.in_err-t.ensures.is nodes))
 
 pub choice-returns-in_err-truth_of-clause-is : goal.choice-returns-in_err-truth_of-clause-is
 choice-returns-in_err-truth_of-clause-is t c nodes =
     let p = err_from_is_err_and c.from_residual-in_err-truth_of.result c.from_residual-in_err-truth_of.ensures.1 in
-    rw (p.1, p.2) (seen_goes_on nodes c.args.meter.now.limit c.args.meter.now.steps c.look.new.meter.steps c.look.new.meter.steps c.in_ok-t.t (Err (Fault c.in_err-truth_of.field-0.0)) (evaluation (term_of c.args.c.now) (levels nodes c.args.store.now)) (λ t. and_operand (chosen (truth_of (operand_label t)) (evaluation (term_of c.args.x.now) (levels nodes c.args.store.now)) (evaluation (term_of c.args.y.now) (levels nodes c.args.store.now))) (λ z. gives (as_common c.args.common.now (operand_label z)))) (c.in_ok-t.ensures.is nodes)
-    (λ t held. not_chosen nodes c.args.meter.now.limit c.look.new.meter.steps (truth_of (operand_label t)) c.in_err-truth_of.field-0.0 (evaluation (term_of c.args.x.now) (levels nodes c.args.store.now)) (evaluation (term_of c.args.y.now) (levels nodes c.args.store.now)) (λ z. gives (as_common c.args.common.now (operand_label z))) (sym (c.in_err-truth_of.ensures (operand_label t) held))))
+    rw (p.1, p.2) (seen_goes_on nodes c.args.meter.now.limit c.args.meter.now.steps c.look.new.meter.steps
+    c.look.new.meter.steps c.in_ok-t.t (Err (Fault c.in_err-truth_of.field-0.0))
+    (evaluation (term_of c.args.c.now) (levels nodes c.args.store.now)) (λ t.
+    and_operand (chosen (truth_of (operand_label t)) (evaluation (term_of c.args.x.now) (levels nodes c.args.store.now))
+    (evaluation (term_of c.args.y.now) (levels nodes c.args.store.now)))
+    (λ z. gives (as_common c.args.common.now (operand_label z)))) (c.in_ok-t.ensures.is nodes)
+    (λ t held. not_chosen nodes c.args.meter.now.limit c.look.new.meter.steps (truth_of (operand_label t))
+    c.in_err-truth_of.field-0.0 (evaluation (term_of c.args.x.now) (levels nodes c.args.store.now))
+    (evaluation (term_of c.args.y.now) (levels nodes c.args.store.now))
+    (λ z. gives (as_common c.args.common.now (operand_label z)))
+    (sym (c.in_err-truth_of.ensures (operand_label t) held))))
 
 pub choice-returns-then-branch-clause-is : goal.choice-returns-then-branch-clause-is
 choice-returns-then-branch-clause-is t c nodes =
-    seen_goes_on nodes c.args.meter.now.limit c.args.meter.now.steps c.look.new.meter.steps c.evaluate.new.meter.steps c.in_ok-t.t c.chosen.result (evaluation (term_of c.args.c.now) (levels nodes c.args.store.now)) (λ t. and_operand (chosen (truth_of (operand_label t)) (evaluation (term_of c.args.x.now) (levels nodes c.args.store.now)) (evaluation (term_of c.args.y.now) (levels nodes c.args.store.now))) (λ z. gives (as_common c.args.common.now (operand_label z)))) (c.in_ok-t.ensures.is nodes)
-    (λ t held. left_chosen nodes c.args.meter.now.limit c.look.new.meter.steps c.evaluate.new.meter.steps c.chosen.result (truth_of (operand_label t)) (evaluation (term_of c.args.x.now) (levels nodes c.args.store.now)) (evaluation (term_of c.args.y.now) (levels nodes c.args.store.now)) (λ z. gives (as_common c.args.common.now (operand_label z))) (sym (c.in_ok-truth_of.ensures (operand_label t) held) ∙ ap Ok c.if-branch.true)
-    (c.chosen.ensures.is nodes c.args.meter.now.limit c.look.new.meter.steps c.evaluate.new.meter.steps (evaluation (term_of c.args.x.now) (levels nodes c.args.store.now)) (at_limit nodes c.look.new.meter.limit c.args.meter.now.limit c.look.new.meter.steps c.evaluate.new.meter.steps c.evaluate.result (evaluation (term_of c.args.x.now) (levels nodes c.args.store.now)) c.look.ensures.limit (c.evaluate.ensures.is nodes))))
+    seen_goes_on nodes c.args.meter.now.limit c.args.meter.now.steps c.look.new.meter.steps c.evaluate.new.meter.steps
+    c.in_ok-t.t c.chosen.result (evaluation (term_of c.args.c.now) (levels nodes c.args.store.now)) (λ t.
+    and_operand (chosen (truth_of (operand_label t)) (evaluation (term_of c.args.x.now) (levels nodes c.args.store.now))
+    (evaluation (term_of c.args.y.now) (levels nodes c.args.store.now)))
+    (λ z. gives (as_common c.args.common.now (operand_label z)))) (c.in_ok-t.ensures.is nodes)
+    (λ t held. left_chosen nodes c.args.meter.now.limit c.look.new.meter.steps c.evaluate.new.meter.steps
+    c.chosen.result (truth_of (operand_label t)) (evaluation (term_of c.args.x.now) (levels nodes c.args.store.now))
+    (evaluation (term_of c.args.y.now) (levels nodes c.args.store.now))
+    (λ z. gives (as_common c.args.common.now (operand_label z)))
+    (sym (c.in_ok-truth_of.ensures (operand_label t) held) ∙ ap Ok c.if-branch.true)
+    (c.chosen.ensures.is nodes c.args.meter.now.limit c.look.new.meter.steps c.evaluate.new.meter.steps
+    (evaluation (term_of c.args.x.now) (levels nodes c.args.store.now))
+    (at_limit nodes c.look.new.meter.limit c.args.meter.now.limit c.look.new.meter.steps c.evaluate.new.meter.steps
+    c.evaluate.result (evaluation (term_of c.args.x.now) (levels nodes c.args.store.now)) c.look.ensures.limit
+    (c.evaluate.ensures.is nodes))))
 
 pub choice-returns-else-branch-clause-is : goal.choice-returns-else-branch-clause-is
 choice-returns-else-branch-clause-is t c nodes =
-    seen_goes_on nodes c.args.meter.now.limit c.args.meter.now.steps c.look.new.meter.steps c.evaluate-else-branch.new.meter.steps c.in_ok-t.t c.chosen-else-branch.result (evaluation (term_of c.args.c.now) (levels nodes c.args.store.now)) (λ t. and_operand (chosen (truth_of (operand_label t)) (evaluation (term_of c.args.x.now) (levels nodes c.args.store.now)) (evaluation (term_of c.args.y.now) (levels nodes c.args.store.now))) (λ z. gives (as_common c.args.common.now (operand_label z)))) (c.in_ok-t.ensures.is nodes)
-    (λ t held. right_chosen nodes c.args.meter.now.limit c.look.new.meter.steps c.evaluate-else-branch.new.meter.steps c.chosen-else-branch.result (truth_of (operand_label t)) (evaluation (term_of c.args.x.now) (levels nodes c.args.store.now)) (evaluation (term_of c.args.y.now) (levels nodes c.args.store.now)) (λ z. gives (as_common c.args.common.now (operand_label z))) (sym (c.in_ok-truth_of.ensures (operand_label t) held) ∙ ap Ok c.if-branch.false)
-    (c.chosen-else-branch.ensures.is nodes c.args.meter.now.limit c.look.new.meter.steps c.evaluate-else-branch.new.meter.steps (evaluation (term_of c.args.y.now) (levels nodes c.args.store.now)) (at_limit nodes c.look.new.meter.limit c.args.meter.now.limit c.look.new.meter.steps c.evaluate-else-branch.new.meter.steps c.evaluate-else-branch.result (evaluation (term_of c.args.y.now) (levels nodes c.args.store.now)) c.look.ensures.limit (c.evaluate-else-branch.ensures.is nodes))))
+    seen_goes_on nodes c.args.meter.now.limit c.args.meter.now.steps c.look.new.meter.steps
+    c.evaluate-else-branch.new.meter.steps c.in_ok-t.t c.chosen-else-branch.result
+    (evaluation (term_of c.args.c.now) (levels nodes c.args.store.now)) (λ t.
+    and_operand (chosen (truth_of (operand_label t)) (evaluation (term_of c.args.x.now) (levels nodes c.args.store.now))
+    (evaluation (term_of c.args.y.now) (levels nodes c.args.store.now)))
+    (λ z. gives (as_common c.args.common.now (operand_label z)))) (c.in_ok-t.ensures.is nodes)
+    (λ t held. right_chosen nodes c.args.meter.now.limit c.look.new.meter.steps c.evaluate-else-branch.new.meter.steps
+    c.chosen-else-branch.result (truth_of (operand_label t))
+    (evaluation (term_of c.args.x.now) (levels nodes c.args.store.now))
+    (evaluation (term_of c.args.y.now) (levels nodes c.args.store.now))
+    (λ z. gives (as_common c.args.common.now (operand_label z)))
+    (sym (c.in_ok-truth_of.ensures (operand_label t) held) ∙ ap Ok c.if-branch.false)
+    (c.chosen-else-branch.ensures.is nodes c.args.meter.now.limit c.look.new.meter.steps
+    c.evaluate-else-branch.new.meter.steps (evaluation (term_of c.args.y.now) (levels nodes c.args.store.now)) (at_limit
+    nodes c.look.new.meter.limit c.args.meter.now.limit c.look.new.meter.steps c.evaluate-else-branch.new.meter.steps
+    c.evaluate-else-branch.result (evaluation (term_of c.args.y.now) (levels nodes c.args.store.now))
+    c.look.ensures.limit (c.evaluate-else-branch.ensures.is nodes))))
 
 pub index-returns-in_err-p-clause-is : goal.index-returns-in_err-p-clause-is
 index-returns-in_err-p-clause-is t c nodes =
     let p = err_from_is_err_and c.from_residual.result c.from_residual.ensures.1 in
-    rw (p.1, p.2) (first_stops nodes c.args.meter.now.limit c.args.meter.now.steps c.evaluate.new.meter.steps c.in_err-p.field-0.0 (evaluation (term_of c.args.e.now) (levels nodes c.args.store.now)) (λ p. and_operand (evaluation (term_of c.args.i.now) (levels nodes c.args.store.now)) (λ n. leads_to (element p (operand_label n)))) (c.in_err-p.ensures.is nodes))
+    rw (p.1, p.2) (first_stops nodes c.args.meter.now.limit c.args.meter.now.steps c.evaluate.new.meter.steps
+    c.in_err-p.field-0.0 (evaluation (term_of c.args.e.now) (levels nodes c.args.store.now)) (λ p. and_operand
+    (evaluation (term_of c.args.i.now) (levels nodes c.args.store.now)) (λ n. leads_to (element p (operand_label n))))
+    (c.in_err-p.ensures.is nodes))
 
 pub index-returns-in_err-n-clause-is : goal.index-returns-in_err-n-clause-is
 index-returns-in_err-n-clause-is t c nodes =
     let p = err_from_is_err_and c.from_residual-in_err-n.result c.from_residual-in_err-n.ensures.1 in
-    rw (p.1, p.2) (goes_on nodes c.args.meter.now.limit c.args.meter.now.steps c.evaluate.new.meter.steps c.look.new.meter.steps c.in_ok-p.p (Err c.in_err-n.field-0.0) (evaluation (term_of c.args.e.now) (levels nodes c.args.store.now)) (λ p. and_operand (evaluation (term_of c.args.i.now) (levels nodes c.args.store.now)) (λ n. leads_to (element p (operand_label n)))) (c.in_ok-p.ensures.is nodes)
-    (seen_stops nodes c.args.meter.now.limit c.evaluate.new.meter.steps c.look.new.meter.steps c.in_err-n.field-0.0 (evaluation (term_of c.args.i.now) (levels nodes c.args.store.now)) (λ n. leads_to (element (operand_of nodes c.in_ok-p.p) (operand_label n))) (seen_at nodes c.args.meter.now.limit c.evaluate.new.meter.limit c.evaluate.new.meter.steps c.look.new.meter.steps (Err c.in_err-n.field-0.0) (evaluation (term_of c.args.i.now) (levels nodes c.args.store.now)) c.evaluate.ensures.limit (c.in_err-n.ensures.is nodes))))
+    rw (p.1, p.2)
+    (goes_on nodes c.args.meter.now.limit c.args.meter.now.steps c.evaluate.new.meter.steps c.look.new.meter.steps
+    c.in_ok-p.p (Err c.in_err-n.field-0.0) (evaluation (term_of c.args.e.now) (levels nodes c.args.store.now)) (λ p.
+    and_operand (evaluation (term_of c.args.i.now) (levels nodes c.args.store.now))
+    (λ n. leads_to (element p (operand_label n)))) (c.in_ok-p.ensures.is nodes)
+    (seen_stops nodes c.args.meter.now.limit c.evaluate.new.meter.steps c.look.new.meter.steps c.in_err-n.field-0.0
+    (evaluation (term_of c.args.i.now) (levels nodes c.args.store.now))
+    (λ n. leads_to (element (operand_of nodes c.in_ok-p.p) (operand_label n)))
+    (seen_at nodes c.args.meter.now.limit c.evaluate.new.meter.limit c.evaluate.new.meter.steps c.look.new.meter.steps
+    (Err c.in_err-n.field-0.0) (evaluation (term_of c.args.i.now) (levels nodes c.args.store.now))
+    c.evaluate.ensures.limit (c.in_err-n.ensures.is nodes))))
 
 pub index-returns-in_err-element-clause-is : goal.index-returns-in_err-element-clause-is
 index-returns-in_err-element-clause-is t c nodes =
     let p = err_from_is_err_and c.from_residual-in_err-element.result c.from_residual-in_err-element.ensures.1 in
-    rw (p.1, p.2) (goes_on nodes c.args.meter.now.limit c.args.meter.now.steps c.evaluate.new.meter.steps c.look.new.meter.steps c.in_ok-p.p (Err (Fault c.in_err-element.field-0.0)) (evaluation (term_of c.args.e.now) (levels nodes c.args.store.now)) (λ p. and_operand (evaluation (term_of c.args.i.now) (levels nodes c.args.store.now)) (λ n. leads_to (element p (operand_label n)))) (c.in_ok-p.ensures.is nodes)
-    (seen_goes_on nodes c.args.meter.now.limit c.evaluate.new.meter.steps c.look.new.meter.steps c.look.new.meter.steps c.in_ok-n.n (Err (Fault c.in_err-element.field-0.0)) (evaluation (term_of c.args.i.now) (levels nodes c.args.store.now)) (λ n. leads_to (element (operand_of nodes c.in_ok-p.p) (operand_label n))) (seen_at nodes c.args.meter.now.limit c.evaluate.new.meter.limit c.evaluate.new.meter.steps c.look.new.meter.steps (Ok c.in_ok-n.n) (evaluation (term_of c.args.i.now) (levels nodes c.args.store.now)) c.evaluate.ensures.limit (c.in_ok-n.ensures.is nodes))
-    (λ n held. leads_not nodes c.args.meter.now.limit c.look.new.meter.steps c.in_err-element.field-0.0 (element (operand_of nodes c.in_ok-p.p) (operand_label n)) (c.in_err-element.ensures.is nodes (operand_label n) held))))
+    rw (p.1, p.2) (goes_on nodes c.args.meter.now.limit c.args.meter.now.steps c.evaluate.new.meter.steps
+    c.look.new.meter.steps c.in_ok-p.p (Err (Fault c.in_err-element.field-0.0))
+    (evaluation (term_of c.args.e.now) (levels nodes c.args.store.now)) (λ p. and_operand
+    (evaluation (term_of c.args.i.now) (levels nodes c.args.store.now)) (λ n. leads_to (element p (operand_label n))))
+    (c.in_ok-p.ensures.is nodes)
+    (seen_goes_on nodes c.args.meter.now.limit c.evaluate.new.meter.steps c.look.new.meter.steps c.look.new.meter.steps
+    c.in_ok-n.n (Err (Fault c.in_err-element.field-0.0))
+    (evaluation (term_of c.args.i.now) (levels nodes c.args.store.now))
+    (λ n. leads_to (element (operand_of nodes c.in_ok-p.p) (operand_label n)))
+    (seen_at nodes c.args.meter.now.limit c.evaluate.new.meter.limit c.evaluate.new.meter.steps c.look.new.meter.steps
+    (Ok c.in_ok-n.n) (evaluation (term_of c.args.i.now) (levels nodes c.args.store.now)) c.evaluate.ensures.limit
+    (c.in_ok-n.ensures.is nodes))
+    (λ n held. leads_not nodes c.args.meter.now.limit c.look.new.meter.steps c.in_err-element.field-0.0
+    (element (operand_of nodes c.in_ok-p.p) (operand_label n))
+    (c.in_err-element.ensures.is nodes (operand_label n) held))))
 
 pub index-returns-clause-is : goal.index-returns-clause-is
 index-returns-clause-is t c nodes =
-    goes_on nodes c.args.meter.now.limit c.args.meter.now.steps c.evaluate.new.meter.steps c.look.new.meter.steps c.in_ok-p.p (Ok c.in_ok-element.field-0) (evaluation (term_of c.args.e.now) (levels nodes c.args.store.now)) (λ p. and_operand (evaluation (term_of c.args.i.now) (levels nodes c.args.store.now)) (λ n. leads_to (element p (operand_label n)))) (c.in_ok-p.ensures.is nodes)
-    (seen_goes_on nodes c.args.meter.now.limit c.evaluate.new.meter.steps c.look.new.meter.steps c.look.new.meter.steps c.in_ok-n.n (Ok c.in_ok-element.field-0) (evaluation (term_of c.args.i.now) (levels nodes c.args.store.now)) (λ n. leads_to (element (operand_of nodes c.in_ok-p.p) (operand_label n))) (seen_at nodes c.args.meter.now.limit c.evaluate.new.meter.limit c.evaluate.new.meter.steps c.look.new.meter.steps (Ok c.in_ok-n.n) (evaluation (term_of c.args.i.now) (levels nodes c.args.store.now)) c.evaluate.ensures.limit (c.in_ok-n.ensures.is nodes))
-    (λ n held. leads nodes c.args.meter.now.limit c.look.new.meter.steps c.in_ok-element.field-0 (element (operand_of nodes c.in_ok-p.p) (operand_label n)) (c.in_ok-element.ensures.is nodes (operand_label n) held)))
+    goes_on nodes c.args.meter.now.limit c.args.meter.now.steps c.evaluate.new.meter.steps c.look.new.meter.steps
+    c.in_ok-p.p (Ok c.in_ok-element.field-0) (evaluation (term_of c.args.e.now) (levels nodes c.args.store.now)) (λ p.
+    and_operand (evaluation (term_of c.args.i.now) (levels nodes c.args.store.now))
+    (λ n. leads_to (element p (operand_label n)))) (c.in_ok-p.ensures.is nodes)
+    (seen_goes_on nodes c.args.meter.now.limit c.evaluate.new.meter.steps c.look.new.meter.steps c.look.new.meter.steps
+    c.in_ok-n.n (Ok c.in_ok-element.field-0) (evaluation (term_of c.args.i.now) (levels nodes c.args.store.now))
+    (λ n. leads_to (element (operand_of nodes c.in_ok-p.p) (operand_label n)))
+    (seen_at nodes c.args.meter.now.limit c.evaluate.new.meter.limit c.evaluate.new.meter.steps c.look.new.meter.steps
+    (Ok c.in_ok-n.n) (evaluation (term_of c.args.i.now) (levels nodes c.args.store.now)) c.evaluate.ensures.limit
+    (c.in_ok-n.ensures.is nodes))
+    (λ n held. leads nodes c.args.meter.now.limit c.look.new.meter.steps c.in_ok-element.field-0
+    (element (operand_of nodes c.in_ok-p.p) (operand_label n))
+    (c.in_ok-element.ensures.is nodes (operand_label n) held)))
 
 pub infix-returns-in_err-left-clause-is : goal.infix-returns-in_err-left-clause-is
 infix-returns-in_err-left-clause-is t c nodes =
     let p = err_from_is_err_and c.from_residual.result c.from_residual.ensures.1 in
-    rw (p.1, p.2) (seen_stops nodes c.args.meter.now.limit c.args.meter.now.steps c.look.new.meter.steps c.in_err-left.field-0.0 (evaluation (term_of c.args.a.now) (levels nodes c.args.store.now)) (λ x. unless_settled (settled c.args.op (truth_of (operand_label x))) (and_operand (evaluation (term_of c.args.b.now) (levels nodes c.args.store.now)) (λ y. between c.args.op (literal_length (term_of c.args.a.now) + literal_length (term_of c.args.b.now)) (operand_label x) (operand_label y)))) (c.in_err-left.ensures.is nodes))
+    rw (p.1, p.2) (seen_stops nodes c.args.meter.now.limit c.args.meter.now.steps c.look.new.meter.steps
+    c.in_err-left.field-0.0 (evaluation (term_of c.args.a.now) (levels nodes c.args.store.now)) (λ x.
+    unless_settled (settled c.args.op (truth_of (operand_label x)))
+    (and_operand (evaluation (term_of c.args.b.now) (levels nodes c.args.store.now)) (λ y.
+    between c.args.op (literal_length (term_of c.args.a.now) + literal_length (term_of c.args.b.now)) (operand_label x)
+    (operand_label y))))
+    (c.in_err-left.ensures.is nodes))
 
 pub infix-returns-in-Some-clause-is : goal.infix-returns-in-Some-clause-is
 infix-returns-in-Some-clause-is t c nodes =
-    seen_goes_on nodes c.args.meter.now.limit c.args.meter.now.steps c.look.new.meter.steps c.look.new.meter.steps c.in_ok-left.left (Ok (computing.Scalar c.truth.result)) (evaluation (term_of c.args.a.now) (levels nodes c.args.store.now)) (λ x. unless_settled (settled c.args.op (truth_of (operand_label x))) (and_operand (evaluation (term_of c.args.b.now) (levels nodes c.args.store.now)) (λ y. between c.args.op (literal_length (term_of c.args.a.now) + literal_length (term_of c.args.b.now)) (operand_label x) (operand_label y)))) (c.in_ok-left.ensures.is nodes)
-    (λ x held. settles nodes c.args.meter.now.limit c.look.new.meter.steps (settled c.args.op (truth_of (operand_label x))) c.in-Some.holds c.truth.result (and_operand (evaluation (term_of c.args.b.now) (levels nodes c.args.store.now)) (λ y. between c.args.op (literal_length (term_of c.args.a.now) + literal_length (term_of c.args.b.now)) (operand_label x) (operand_label y))) (ap (settled c.args.op) (sym (c.truth_of.ensures (operand_label x) held)) ∙ sym c.settled.ensures ∙ c.in-Some.is) c.truth.ensures.is)
+    seen_goes_on nodes c.args.meter.now.limit c.args.meter.now.steps c.look.new.meter.steps c.look.new.meter.steps
+    c.in_ok-left.left (Ok (computing.Scalar c.truth.result))
+    (evaluation (term_of c.args.a.now) (levels nodes c.args.store.now)) (λ x.
+    unless_settled (settled c.args.op (truth_of (operand_label x)))
+    (and_operand (evaluation (term_of c.args.b.now) (levels nodes c.args.store.now)) (λ y.
+    between c.args.op (literal_length (term_of c.args.a.now) + literal_length (term_of c.args.b.now)) (operand_label x)
+    (operand_label y))))
+    (c.in_ok-left.ensures.is nodes)
+    (λ x held.
+    settles nodes c.args.meter.now.limit c.look.new.meter.steps (settled c.args.op (truth_of (operand_label x)))
+    c.in-Some.holds c.truth.result (and_operand (evaluation (term_of c.args.b.now) (levels nodes c.args.store.now))
+    (λ y. between c.args.op (literal_length (term_of c.args.a.now) + literal_length (term_of c.args.b.now))
+    (operand_label x) (operand_label y)))
+    (ap (settled c.args.op) (sym (c.truth_of.ensures (operand_label x) held)) ∙ sym c.settled.ensures ∙ c.in-Some.is)
+    c.truth.ensures.is)
 
 pub infix-returns-in_err-right-clause-is : goal.infix-returns-in_err-right-clause-is
 infix-returns-in_err-right-clause-is t c nodes =
     let p = err_from_is_err_and c.from_residual-in_err-right.result c.from_residual-in_err-right.ensures.1 in
-    rw (p.1, p.2) (seen_goes_on nodes c.args.meter.now.limit c.args.meter.now.steps c.look.new.meter.steps c.look-2.new.meter.steps c.in_ok-left.left (Err c.in_err-right.field-0.0) (evaluation (term_of c.args.a.now) (levels nodes c.args.store.now)) (λ x. unless_settled (settled c.args.op (truth_of (operand_label x))) (and_operand (evaluation (term_of c.args.b.now) (levels nodes c.args.store.now)) (λ y. between c.args.op (literal_length (term_of c.args.a.now) + literal_length (term_of c.args.b.now)) (operand_label x) (operand_label y)))) (c.in_ok-left.ensures.is nodes)
-    (λ x held. settles_not nodes c.args.meter.now.limit c.look.new.meter.steps c.look-2.new.meter.steps (Err c.in_err-right.field-0.0) (settled c.args.op (truth_of (operand_label x))) (and_operand (evaluation (term_of c.args.b.now) (levels nodes c.args.store.now)) (λ y. between c.args.op (literal_length (term_of c.args.a.now) + literal_length (term_of c.args.b.now)) (operand_label x) (operand_label y))) (ap (settled c.args.op) (sym (c.truth_of.ensures (operand_label x) held)) ∙ sym c.settled.ensures ∙ c.in_default.is)
-    (seen_stops nodes c.args.meter.now.limit c.look.new.meter.steps c.look-2.new.meter.steps c.in_err-right.field-0.0 (evaluation (term_of c.args.b.now) (levels nodes c.args.store.now)) (λ y. between c.args.op (literal_length (term_of c.args.a.now) + literal_length (term_of c.args.b.now)) (operand_label x) (operand_label y)) (seen_at nodes c.args.meter.now.limit c.look.new.meter.limit c.look.new.meter.steps c.look-2.new.meter.steps (Err c.in_err-right.field-0.0) (evaluation (term_of c.args.b.now) (levels nodes c.args.store.now)) c.look.ensures.limit (c.in_err-right.ensures.is nodes)))))
+    rw (p.1, p.2)
+    (seen_goes_on nodes c.args.meter.now.limit c.args.meter.now.steps c.look.new.meter.steps c.look-2.new.meter.steps
+    c.in_ok-left.left (Err c.in_err-right.field-0.0) (evaluation (term_of c.args.a.now) (levels nodes c.args.store.now))
+    (λ x. unless_settled (settled c.args.op (truth_of (operand_label x)))
+    (and_operand (evaluation (term_of c.args.b.now) (levels nodes c.args.store.now)) (λ y.
+    between c.args.op (literal_length (term_of c.args.a.now) + literal_length (term_of c.args.b.now)) (operand_label x)
+    (operand_label y))))
+    (c.in_ok-left.ensures.is nodes)
+    (λ x held. settles_not nodes c.args.meter.now.limit c.look.new.meter.steps c.look-2.new.meter.steps
+    (Err c.in_err-right.field-0.0) (settled c.args.op (truth_of (operand_label x)))
+    (and_operand (evaluation (term_of c.args.b.now) (levels nodes c.args.store.now)) (λ y.
+    between c.args.op (literal_length (term_of c.args.a.now) + literal_length (term_of c.args.b.now)) (operand_label x)
+    (operand_label y)))
+    (ap (settled c.args.op) (sym (c.truth_of.ensures (operand_label x) held)) ∙ sym c.settled.ensures ∙ c.in_default.is)
+    (seen_stops nodes c.args.meter.now.limit c.look.new.meter.steps c.look-2.new.meter.steps c.in_err-right.field-0.0
+    (evaluation (term_of c.args.b.now) (levels nodes c.args.store.now)) (λ y. between c.args.op
+    (literal_length (term_of c.args.a.now) + literal_length (term_of c.args.b.now)) (operand_label x) (operand_label y))
+    (seen_at nodes c.args.meter.now.limit c.look.new.meter.limit c.look.new.meter.steps c.look-2.new.meter.steps
+    (Err c.in_err-right.field-0.0) (evaluation (term_of c.args.b.now) (levels nodes c.args.store.now))
+    c.look.ensures.limit (c.in_err-right.ensures.is nodes)))))
 
 pub infix-returns-clause-is : goal.infix-returns-clause-is
 infix-returns-clause-is t c nodes =
-    let n : c.literal_length.result + c.literal_length-2.result ≡ (literal_length (term_of c.args.a.now) + literal_length (term_of c.args.b.now)) = rw (c.literal_length.ensures.is, c.literal_length-2.ensures.is) refl in
+    let n : c.literal_length.result + c.literal_length-2.result
+    ≡ (literal_length (term_of c.args.a.now) + literal_length (term_of c.args.b.now)) =
+    rw (c.literal_length.ensures.is, c.literal_length-2.ensures.is) refl in
     let l : c.look-2.new.meter.limit ≡ c.args.meter.now.limit = c.look-2.ensures.limit ∙ c.look.ensures.limit in
-    seen_goes_on nodes c.args.meter.now.limit c.args.meter.now.steps c.look.new.meter.steps c.between.new.meter.steps c.in_ok-left.left (computed_operand c.between.result) (evaluation (term_of c.args.a.now) (levels nodes c.args.store.now)) (λ x. unless_settled (settled c.args.op (truth_of (operand_label x))) (and_operand (evaluation (term_of c.args.b.now) (levels nodes c.args.store.now)) (λ y. between c.args.op (literal_length (term_of c.args.a.now) + literal_length (term_of c.args.b.now)) (operand_label x) (operand_label y)))) (c.in_ok-left.ensures.is nodes)
-    (λ x held. settles_not nodes c.args.meter.now.limit c.look.new.meter.steps c.between.new.meter.steps (computed_operand c.between.result) (settled c.args.op (truth_of (operand_label x))) (and_operand (evaluation (term_of c.args.b.now) (levels nodes c.args.store.now)) (λ y. between c.args.op (literal_length (term_of c.args.a.now) + literal_length (term_of c.args.b.now)) (operand_label x) (operand_label y))) (ap (settled c.args.op) (sym (c.truth_of.ensures (operand_label x) held)) ∙ sym c.settled.ensures ∙ c.in_default.is)
-    (seen_goes_on nodes c.args.meter.now.limit c.look.new.meter.steps c.look-2.new.meter.steps c.between.new.meter.steps c.in_ok-right.right (computed_operand c.between.result) (evaluation (term_of c.args.b.now) (levels nodes c.args.store.now)) (λ y. between c.args.op (literal_length (term_of c.args.a.now) + literal_length (term_of c.args.b.now)) (operand_label x) (operand_label y)) (seen_at nodes c.args.meter.now.limit c.look.new.meter.limit c.look.new.meter.steps c.look-2.new.meter.steps (Ok c.in_ok-right.right) (evaluation (term_of c.args.b.now) (levels nodes c.args.store.now)) c.look.ensures.limit (c.in_ok-right.ensures.is nodes))
-    (λ y is_y. subst (λ (k : ℕ). Evaluated nodes c.args.meter.now.limit c.look-2.new.meter.steps c.between.new.meter.steps (computed_operand c.between.result) (between c.args.op k (operand_label x) (operand_label y))) n
-    (at_limit nodes c.look-2.new.meter.limit c.args.meter.now.limit c.look-2.new.meter.steps c.between.new.meter.steps (computed_operand c.between.result) (between c.args.op (c.literal_length.result + c.literal_length-2.result) (operand_label x) (operand_label y)) l
+    seen_goes_on nodes c.args.meter.now.limit c.args.meter.now.steps c.look.new.meter.steps c.between.new.meter.steps
+    c.in_ok-left.left (computed_operand c.between.result)
+    (evaluation (term_of c.args.a.now) (levels nodes c.args.store.now)) (λ x.
+    unless_settled (settled c.args.op (truth_of (operand_label x)))
+    (and_operand (evaluation (term_of c.args.b.now) (levels nodes c.args.store.now)) (λ y.
+    between c.args.op (literal_length (term_of c.args.a.now) + literal_length (term_of c.args.b.now)) (operand_label x)
+    (operand_label y))))
+    (c.in_ok-left.ensures.is nodes)
+    (λ x held. settles_not nodes c.args.meter.now.limit c.look.new.meter.steps c.between.new.meter.steps
+    (computed_operand c.between.result) (settled c.args.op (truth_of (operand_label x)))
+    (and_operand (evaluation (term_of c.args.b.now) (levels nodes c.args.store.now)) (λ y.
+    between c.args.op (literal_length (term_of c.args.a.now) + literal_length (term_of c.args.b.now)) (operand_label x)
+    (operand_label y)))
+    (ap (settled c.args.op) (sym (c.truth_of.ensures (operand_label x) held)) ∙ sym c.settled.ensures ∙ c.in_default.is)
+    (seen_goes_on nodes c.args.meter.now.limit c.look.new.meter.steps c.look-2.new.meter.steps c.between.new.meter.steps
+    c.in_ok-right.right (computed_operand c.between.result)
+    (evaluation (term_of c.args.b.now) (levels nodes c.args.store.now)) (λ y. between c.args.op
+    (literal_length (term_of c.args.a.now) + literal_length (term_of c.args.b.now)) (operand_label x) (operand_label y))
+    (seen_at nodes c.args.meter.now.limit c.look.new.meter.limit c.look.new.meter.steps c.look-2.new.meter.steps
+    (Ok c.in_ok-right.right) (evaluation (term_of c.args.b.now) (levels nodes c.args.store.now)) c.look.ensures.limit
+    (c.in_ok-right.ensures.is nodes))
+    (λ y is_y.
+    subst (λ (k : ℕ). Evaluated nodes c.args.meter.now.limit c.look-2.new.meter.steps c.between.new.meter.steps
+    (computed_operand c.between.result) (between c.args.op k (operand_label x) (operand_label y))) n
+    (at_limit nodes c.look-2.new.meter.limit c.args.meter.now.limit c.look-2.new.meter.steps c.between.new.meter.steps
+    (computed_operand c.between.result)
+    (between c.args.op (c.literal_length.result + c.literal_length-2.result) (operand_label x) (operand_label y)) l
     (c.between.ensures.is nodes (operand_label x) (operand_label y) held is_y)))))
 
 pub look-returns-in_err-tick-clause-is : goal.look-returns-in_err-tick-clause-is
@@ -313,7 +550,8 @@ look-returns-in_err-tick-clause-is t c nodes =
 pub look-returns-in-Some-clause-is : goal.look-returns-in-Some-clause-is
 look-returns-in-Some-clause-is t c nodes =
     let one = c.in-Some.ensures.is nodes in
-    let n = to_z-of_z w128 c.in-Some.n.number (small_fits c.in-Some.n.of.signed c.in-Some.n.number c.in-Some.ensures.width.1) in
+    let n =
+    to_z-of_z w128 c.in-Some.n.number (small_fits c.in-Some.n.of.signed c.in-Some.n.number c.in-Some.ensures.width.1) in
     rw (n, one.3) (one.0, one.1, one.2, c.in_ok-tick.ensures.ok)
 
 pub look-returns-in_err-take_steps-clause-is : goal.look-returns-in_err-take_steps-clause-is
@@ -325,34 +563,51 @@ look-returns-in_err-take_steps-clause-is t c nodes =
 pub look-returns-in-Some-comparison-clause-is : goal.look-returns-in-Some-comparison-clause-is
 look-returns-in-Some-comparison-clause-is t c nodes =
     let found = c.in-Some-comparison.ensures nodes in
-    let same : truth_label c.in-Some-comparison.holds ≡ scalar_label c.truth.result = let e = c.truth.ensures.is in cc in
+    let same : truth_label c.in-Some-comparison.holds ≡ scalar_label c.truth.result =
+    let e = c.truth.ensures.is in cc in
     rw found.3 (found.0, found.1, found.2 ∙ same, c.in_ok-take_steps.ensures.ok)
 
 pub look-returns-in_err-tick-in-Infix-clause-is : goal.look-returns-in_err-tick-in-Infix-clause-is
 look-returns-in_err-tick-in-Infix-clause-is t c nodes =
-    let p = err_from_is_err_and c.from_residual-in_err-tick-in-Infix.result c.from_residual-in_err-tick-in-Infix.ensures.1 in
-    rw (p.1, p.2) (no_step nodes c.args.meter.now.limit c.args.meter.now.steps c.tick-in-Infix.new.self.steps c.args.e.now (levels nodes c.args.store.now) c.in_err-tick-in-Infix.ensures.err (c.in_err-tick-in-Infix.ensures.err ∙ c.in_err-tick-in-Infix.ensures.refused.0 refl))
+    let p =
+    err_from_is_err_and c.from_residual-in_err-tick-in-Infix.result c.from_residual-in_err-tick-in-Infix.ensures.1 in
+    rw (p.1, p.2) (no_step nodes c.args.meter.now.limit c.args.meter.now.steps c.tick-in-Infix.new.self.steps
+    c.args.e.now (levels nodes c.args.store.now) c.in_err-tick-in-Infix.ensures.err
+    (c.in_err-tick-in-Infix.ensures.err ∙ c.in_err-tick-in-Infix.ensures.refused.0 refl))
 
 pub look-returns-in_err-infix-in-Infix-clause-is : goal.look-returns-in_err-infix-in-Infix-clause-is
 unfolding evaluation
 look-returns-in_err-infix-in-Infix-clause-is t c nodes =
-    let p = err_from_is_err_and c.from_residual-in_err-infix-in-Infix.result c.from_residual-in_err-infix-in-Infix.ensures.1 in
+    let p =
+    err_from_is_err_and c.from_residual-in_err-infix-in-Infix.result c.from_residual-in_err-infix-in-Infix.ensures.1 in
     rw (p.1, p.2, c.in-Infix.is, ← c.deref.ensures, ← c.deref-in-Infix.ensures)
-    (stops_seen nodes c.args.meter.now.limit c.args.meter.now.steps c.tick-in-Infix.new.self.steps c.infix.new.meter.steps c.in_err-infix-in-Infix.field-0.0 (infix_part c.in-Infix.op (term_of c.deref.result.now) (term_of c.deref-in-Infix.result.now) (levels nodes c.args.store.now)) c.in_ok-tick-in-Infix.ensures.ok
-    (at_limit nodes c.tick-in-Infix.new.self.limit c.args.meter.now.limit c.tick-in-Infix.new.self.steps c.infix.new.meter.steps (Err c.in_err-infix-in-Infix.field-0.0) (infix_part c.in-Infix.op (term_of c.deref.result.now) (term_of c.deref-in-Infix.result.now) (levels nodes c.args.store.now)) c.in_ok-tick-in-Infix.ensures.limit (c.in_err-infix-in-Infix.ensures.is nodes)))
+    (stops_seen nodes c.args.meter.now.limit c.args.meter.now.steps c.tick-in-Infix.new.self.steps
+    c.infix.new.meter.steps c.in_err-infix-in-Infix.field-0.0 (infix_part c.in-Infix.op (term_of c.deref.result.now)
+    (term_of c.deref-in-Infix.result.now) (levels nodes c.args.store.now)) c.in_ok-tick-in-Infix.ensures.ok
+    (at_limit nodes c.tick-in-Infix.new.self.limit c.args.meter.now.limit c.tick-in-Infix.new.self.steps
+    c.infix.new.meter.steps (Err c.in_err-infix-in-Infix.field-0.0) (infix_part c.in-Infix.op
+    (term_of c.deref.result.now) (term_of c.deref-in-Infix.result.now) (levels nodes c.args.store.now))
+    c.in_ok-tick-in-Infix.ensures.limit (c.in_err-infix-in-Infix.ensures.is nodes)))
 
 pub look-returns-in_ok-infix-in-Infix-clause-is : goal.look-returns-in_ok-infix-in-Infix-clause-is
 unfolding evaluation
 look-returns-in_ok-infix-in-Infix-clause-is t c nodes =
     rw (c.in-Infix.is, ← c.deref.ensures, ← c.deref-in-Infix.ensures)
-    (computed_seen nodes c.args.meter.now.limit c.args.meter.now.steps c.tick-in-Infix.new.self.steps c.infix.new.meter.steps c.in_ok-infix-in-Infix.field-0 (infix_part c.in-Infix.op (term_of c.deref.result.now) (term_of c.deref-in-Infix.result.now) (levels nodes c.args.store.now)) c.in_ok-tick-in-Infix.ensures.ok
-    (at_limit nodes c.tick-in-Infix.new.self.limit c.args.meter.now.limit c.tick-in-Infix.new.self.steps c.infix.new.meter.steps (Ok (computing.Scalar c.in_ok-infix-in-Infix.field-0)) (infix_part c.in-Infix.op (term_of c.deref.result.now) (term_of c.deref-in-Infix.result.now) (levels nodes c.args.store.now)) c.in_ok-tick-in-Infix.ensures.limit (c.in_ok-infix-in-Infix.ensures.is nodes)))
+    (computed_seen nodes c.args.meter.now.limit c.args.meter.now.steps c.tick-in-Infix.new.self.steps
+    c.infix.new.meter.steps c.in_ok-infix-in-Infix.field-0 (infix_part c.in-Infix.op (term_of c.deref.result.now)
+    (term_of c.deref-in-Infix.result.now) (levels nodes c.args.store.now)) c.in_ok-tick-in-Infix.ensures.ok
+    (at_limit nodes c.tick-in-Infix.new.self.limit c.args.meter.now.limit c.tick-in-Infix.new.self.steps
+    c.infix.new.meter.steps (Ok (computing.Scalar c.in_ok-infix-in-Infix.field-0)) (infix_part c.in-Infix.op
+    (term_of c.deref.result.now) (term_of c.deref-in-Infix.result.now) (levels nodes c.args.store.now))
+    c.in_ok-tick-in-Infix.ensures.limit (c.in_ok-infix-in-Infix.ensures.is nodes)))
 
 pub look-returns-in_err-tick-in-Bracket-clause-is : goal.look-returns-in_err-tick-in-Bracket-clause-is
 look-returns-in_err-tick-in-Bracket-clause-is t c nodes =
-    let p = err_from_is_err_and c.from_residual-in_err-tick-in-Bracket.result c.from_residual-in_err-tick-in-Bracket.ensures.1 in
+    let p = err_from_is_err_and c.from_residual-in_err-tick-in-Bracket.result
+    c.from_residual-in_err-tick-in-Bracket.ensures.1 in
     let same = c.in_err-tick-in-Bracket.ensures.err in
-    rw (p.1, p.2) (no_step nodes c.args.meter.now.limit c.args.meter.now.steps c.tick-in-Bracket.new.self.steps c.args.e.now (levels nodes c.args.store.now) same (same ∙ c.in_err-tick-in-Bracket.ensures.refused.0 refl))
+    rw (p.1, p.2) (no_step nodes c.args.meter.now.limit c.args.meter.now.steps c.tick-in-Bracket.new.self.steps
+    c.args.e.now (levels nodes c.args.store.now) same (same ∙ c.in_err-tick-in-Bracket.ensures.refused.0 refl))
 
 pub look-returns-in_ok-tick-in-Bracket-clause-is : goal.look-returns-in_ok-tick-in-Bracket-clause-is
 unfolding evaluation
@@ -360,8 +615,10 @@ look-returns-in_ok-tick-in-Bracket-clause-is t c nodes =
     let inside = evaluation (term_of c.deref-in-Bracket.result.now) (levels nodes c.args.store.now) in
     let middle = c.tick-in-Bracket.new.self.steps in
     rw (c.in-Bracket.is, ← c.deref-in-Bracket.ensures)
-    (stepped_seen nodes c.args.meter.now.limit c.args.meter.now.steps middle c.look.new.meter.steps c.look.result inside c.in_ok-tick-in-Bracket.ensures.ok
-    (seen_at nodes c.args.meter.now.limit c.tick-in-Bracket.new.self.limit middle c.look.new.meter.steps c.look.result inside c.in_ok-tick-in-Bracket.ensures.limit (c.look.ensures.is nodes)))
+    (stepped_seen nodes c.args.meter.now.limit c.args.meter.now.steps middle c.look.new.meter.steps c.look.result inside
+    c.in_ok-tick-in-Bracket.ensures.ok
+    (seen_at nodes c.args.meter.now.limit c.tick-in-Bracket.new.self.limit middle c.look.new.meter.steps c.look.result
+    inside c.in_ok-tick-in-Bracket.ensures.limit (c.look.ensures.is nodes)))
 
 pub look-returns-in_ok-evaluate-in_default-e-clause-is : goal.look-returns-in_ok-evaluate-in_default-e-clause-is
 look-returns-in_ok-evaluate-in_default-e-clause-is t c nodes =

@@ -19,17 +19,25 @@ returns-in_err-element-in-Value-Scalar-Integer-clause-is c nodes x held =
     let p = err_from_is_err_and c.from_residual.result c.from_residual.ensures.1 in
     let fits : SFits w128 c.in-Value-Scalar-Integer.i = search rules in
     let a : c.args.p ≡ computing.Value c.in-Value-Scalar-Integer.value = cc in
-    let b : c.args.n ≡ content.Scalar (scalar.Integer c.in-Value-Scalar-Integer.i c.in-Value-Scalar-Integer._number) = cc in
-    let h : x ≡ IntegerLabel c.in-Value-Scalar-Integer.i c.in-Value-Scalar-Integer._number = subst (λ (n : Content). IsHeld n x) b held in
+    let b : c.args.n ≡ content.Scalar (scalar.Integer c.in-Value-Scalar-Integer.i c.in-Value-Scalar-Integer._number) =
+    cc in
+    let h : x ≡ IntegerLabel c.in-Value-Scalar-Integer.i c.in-Value-Scalar-Integer._number =
+    subst (λ (n : Content). IsHeld n x) b held in
     rw (p.1, p.2, a, h)
-    (ap (λ r. (leads_to r).outcome) (ap (λ i. element (AtPath (value_of nodes c.in-Value-Scalar-Integer.value)) (IntegerLabel i c.in-Value-Scalar-Integer._number)) (sym (to_z-of_z w128 c.in-Value-Scalar-Integer.i fits)) ∙ sym (c.in_err-element-in-Value-Scalar-Integer.ensures nodes c.in-Value-Scalar-Integer._number)))
+    (ap (λ r. (leads_to r).outcome) (ap (λ i. element (AtPath (value_of nodes c.in-Value-Scalar-Integer.value))
+    (IntegerLabel i c.in-Value-Scalar-Integer._number)) (sym (to_z-of_z w128 c.in-Value-Scalar-Integer.i fits))
+    ∙ sym (c.in_err-element-in-Value-Scalar-Integer.ensures nodes c.in-Value-Scalar-Integer._number)))
 
 pub returns-in_ok-element-in-Value-Scalar-Integer-clause-is :
     goal.returns-in_ok-element-in-Value-Scalar-Integer-clause-is
 returns-in_ok-element-in-Value-Scalar-Integer-clause-is c nodes x held =
     let fits : SFits w128 c.in-Value-Scalar-Integer.i = search rules in
     let a : c.args.p ≡ computing.Value c.in-Value-Scalar-Integer.value = cc in
-    let b : c.args.n ≡ content.Scalar (scalar.Integer c.in-Value-Scalar-Integer.i c.in-Value-Scalar-Integer._number) = cc in
-    let h : x ≡ IntegerLabel c.in-Value-Scalar-Integer.i c.in-Value-Scalar-Integer._number = subst (λ (n : Content). IsHeld n x) b held in
+    let b : c.args.n ≡ content.Scalar (scalar.Integer c.in-Value-Scalar-Integer.i c.in-Value-Scalar-Integer._number) =
+    cc in
+    let h : x ≡ IntegerLabel c.in-Value-Scalar-Integer.i c.in-Value-Scalar-Integer._number =
+    subst (λ (n : Content). IsHeld n x) b held in
     rw (a, h)
-    (ap (λ r. (leads_to r).outcome) (ap (λ i. element (AtPath (value_of nodes c.in-Value-Scalar-Integer.value)) (IntegerLabel i c.in-Value-Scalar-Integer._number)) (sym (to_z-of_z w128 c.in-Value-Scalar-Integer.i fits)) ∙ sym (c.in_ok-element-in-Value-Scalar-Integer.ensures nodes c.in-Value-Scalar-Integer._number)))
+    (ap (λ r. (leads_to r).outcome) (ap (λ i. element (AtPath (value_of nodes c.in-Value-Scalar-Integer.value))
+    (IntegerLabel i c.in-Value-Scalar-Integer._number)) (sym (to_z-of_z w128 c.in-Value-Scalar-Integer.i fits))
+    ∙ sym (c.in_ok-element-in-Value-Scalar-Integer.ensures nodes c.in-Value-Scalar-Integer._number)))

@@ -14,4 +14,5 @@ unfolding on_common
 returns-clause-is c =
     let fits = quotient_fits _ c.args.x c.args.y c.requires.left in
     rw (some_bits c.args.y c.if-y-eq0.false)
-    (c.brought_integer.ensures.is ∙ ap (brought_integer c.args.number) (quot_is w128 c.args.x c.args.y c.ranges.x c.ranges.y fits))
+    (c.brought_integer.ensures.is
+    ∙ ap (brought_integer c.args.number) (quot_is w128 c.args.x c.args.y c.ranges.x c.ranges.y fits))

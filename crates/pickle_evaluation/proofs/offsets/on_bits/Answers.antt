@@ -9,5 +9,6 @@ pub returns-in-Divide-clause-is : goal.returns-in-Divide-clause-is
 returns-in-Divide-clause-is c =
     rw c.in-Divide.is
     (c.quotient_of_bits.ensures.is c.args.unit
-    ∙ ap (λ x. on_bits Divide c.args.number c.args.unit x (to_z w128 (of_z w128 c.args.y))) (to_z-of_z w128 c.args.x c.ranges.x)
+    ∙ ap (λ x. on_bits Divide c.args.number c.args.unit x (to_z w128 (of_z w128 c.args.y)))
+    (to_z-of_z w128 c.args.x c.ranges.x)
     ∙ ap (λ y. on_bits Divide c.args.number c.args.unit c.args.x y) (to_z-of_z w128 c.args.y c.ranges.y))

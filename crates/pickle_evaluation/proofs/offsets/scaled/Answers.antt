@@ -11,14 +11,22 @@ use Rattle.pickle_evaluation.proofs.offsets.scaled.Goals.{then-left-via-then-lef
 
 pub returns-then-left-clause-is : goal.returns-then-left-clause-is
 returns-then-left-clause-is c =
-    let one : (c.args.left ≡ true) ⊎ (c.args.right ≡ true) = elim c.then-left.branch [ then-left-via-then-left w ↦ inl w.if-left.true | then-left-via-else-left+then-right w ↦ inr w.if-right.true ] in
+    let one : (c.args.left ≡ true) ⊎ (c.args.right ≡ true) = elim c.then-left.branch [
+      | then-left-via-then-left w ↦ inl w.if-left.true
+      | then-left-via-else-left+then-right w ↦ inr w.if-right.true
+    ] in
     let fits = mixed_fits c.args.left c.args.right c.args.x c.args.y c.requires.left c.requires.right one in
-    passed_product (brought_offset c.args.number c.args.unit) c.args.x c.args.y _ c.ranges.x c.ranges.y fits c.brought_offset.ensures.is
+    passed_product (brought_offset c.args.number c.args.unit) c.args.x c.args.y _ c.ranges.x c.ranges.y fits
+    c.brought_offset.ensures.is
 
 pub returns-clause-is : goal.returns-clause-is
 returns-clause-is c =
-    let whole = c.low_digits.ensures.is ∙ ap (λ n. n % 2 ^ c.args.number.width) (rw (to_z-of_z w128 c.args.x c.ranges.x, to_z-of_z w128 c.args.y c.ranges.y) refl) in
+    let whole = c.low_digits.ensures.is
+    ∙ ap (λ n. n % 2 ^ c.args.number.width)
+    (rw (to_z-of_z w128 c.args.x c.ranges.x, to_z-of_z w128 c.args.y c.ranges.y) refl) in
     let fits : SFits w128 c.from.result = search rules in
     let plain : c.args.number.signed ≡ false = c.requires.signed ∙ rw c.if-left.false refl in
-    let product = unsigned_scaled c.args.number c.args.unit c.args.x c.args.y c.low_digits.result plain (rw c.if-left.false at c.requires.left) (rw c.if-right.false at c.requires.right) whole in
-    ap (λ z. Ok (OffsetLabel z c.args.number c.args.unit)) (to_z-of_z w128 c.from.result fits ∙ c.from.ensures) ∙ product
+    let product = unsigned_scaled c.args.number c.args.unit c.args.x c.args.y c.low_digits.result plain
+    (rw c.if-left.false at c.requires.left) (rw c.if-right.false at c.requires.right) whole in
+    ap (λ z. Ok (OffsetLabel z c.args.number c.args.unit)) (to_z-of_z w128 c.from.result fits ∙ c.from.ensures)
+    ∙ product

@@ -5,8 +5,10 @@ use Rattle.pickle_json.proofs.check.put_acceptance.Goals as goal
 
 pub returns-in_err-put_accepted-clause-err : goal.returns-in_err-put_accepted-clause-err
 returns-in_err-put_accepted-clause-err g c =
-    on_err c.from_residual.result (accepted_part _ _ _ c.args._table.now _ _ c.requires (λ off. c.as_slice.ensures.value ∙ c.notes_if-notes.ensures off) c.in_err-put_accepted.ensures.err)
+    on_err c.from_residual.result (accepted_part _ _ _ c.args._table.now _ _ c.requires
+    (λ off. c.as_slice.ensures.value ∙ c.notes_if-notes.ensures off) c.in_err-put_accepted.ensures.err)
 
 pub returns-clause-ok : goal.returns-clause-ok
 returns-clause-ok g c =
-    accepted_whole _ _ _ c.args._table.now _ _ c.requires (λ off. c.as_slice.ensures.value ∙ c.notes_if-notes.ensures off) c.in_ok-put_accepted.ensures.ok
+    accepted_whole _ _ _ c.args._table.now _ _ c.requires
+    (λ off. c.as_slice.ensures.value ∙ c.notes_if-notes.ensures off) c.in_ok-put_accepted.ensures.ok

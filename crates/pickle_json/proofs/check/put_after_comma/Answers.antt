@@ -4,7 +4,9 @@ use Rattle.text_output.proofs.Parts.{part_first, part_next}
 use Rattle.pickle_json.proofs.check.put_after_comma.Goals as goal
 
 pub returns-in_err-put-clause-err : goal.returns-in_err-put-clause-err
-returns-in_err-put-clause-err g c = on_err c.from_residual.result (part_first _ _ (codes ",") _ c.in_err-put.ensures.err)
+returns-in_err-put-clause-err g c =
+    on_err c.from_residual.result (part_first _ _ (codes ",") _ c.in_err-put.ensures.err)
 
 pub returns-in_err-put_note-clause-err : goal.returns-in_err-put_note-clause-err
-returns-in_err-put_note-clause-err g c = on_err c.from_residual-in_err-put_note.result (part_next _ _ _ (codes ",") _ c.in_ok-put.ensures.ok c.in_err-put_note.ensures.err)
+returns-in_err-put_note-clause-err g c = on_err c.from_residual-in_err-put_note.result
+    (part_next _ _ _ (codes ",") _ c.in_ok-put.ensures.ok c.in_err-put_note.ensures.err)

@@ -4,13 +4,19 @@ use Rattle.text_output.proofs.Parts.{part_first, part_next}
 use Rattle.pickle_json.proofs.check.put_refused.Goals as goal
 
 pub returns-in_err-put-clause-err : goal.returns-in_err-put-clause-err
-returns-in_err-put-clause-err g c = on_err c.from_residual.result (part_first _ _ (codes "{") _ c.in_err-put.ensures.err)
+returns-in_err-put-clause-err g c =
+    on_err c.from_residual.result (part_first _ _ (codes "{") _ c.in_err-put.ensures.err)
 
 pub returns-in_err-put_members-clause-err : goal.returns-in_err-put_members-clause-err
-returns-in_err-put_members-clause-err g c = on_err c.from_residual-in_err-put_members.result (part_next _ _ _ (codes "{") _ c.in_ok-put.ensures.ok (part_first _ _ _ _ c.in_err-put_members.ensures.err))
+returns-in_err-put_members-clause-err g c = on_err c.from_residual-in_err-put_members.result
+    (part_next _ _ _ (codes "{") _ c.in_ok-put.ensures.ok (part_first _ _ _ _ c.in_err-put_members.ensures.err))
 
 pub returns-in_err-put_more-clause-err : goal.returns-in_err-put_more-clause-err
-returns-in_err-put_more-clause-err g c = on_err c.from_residual-in_err-put_more.result (part_next _ _ _ (codes "{") _ c.in_ok-put.ensures.ok (part_next _ _ _ _ _ c.in_ok-put_members.ensures.ok (part_first _ _ _ _ c.in_err-put_more.ensures.err)))
+returns-in_err-put_more-clause-err g c =
+    on_err c.from_residual-in_err-put_more.result (part_next _ _ _ (codes "{") _ c.in_ok-put.ensures.ok
+    (part_next _ _ _ _ _ c.in_ok-put_members.ensures.ok (part_first _ _ _ _ c.in_err-put_more.ensures.err)))
 
 pub returns-in_err-put-2-clause-err : goal.returns-in_err-put-2-clause-err
-returns-in_err-put-2-clause-err g c = on_err c.from_residual-in_err-put-2.result (part_next _ _ _ (codes "{") _ c.in_ok-put.ensures.ok (part_next _ _ _ _ _ c.in_ok-put_members.ensures.ok (part_next _ _ _ _ _ c.in_ok-put_more.ensures.ok c.in_err-put-2.ensures.err)))
+returns-in_err-put-2-clause-err g c =
+    on_err c.from_residual-in_err-put-2.result (part_next _ _ _ (codes "{") _ c.in_ok-put.ensures.ok (part_next _ _ _ _
+    _ c.in_ok-put_members.ensures.ok (part_next _ _ _ _ _ c.in_ok-put_more.ensures.ok c.in_err-put-2.ensures.err)))

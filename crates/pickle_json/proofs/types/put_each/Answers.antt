@@ -7,7 +7,8 @@ pub loop-first-init : goal.loop-first-init
 loop-first-init g c = (omega arith, no_fields _)
 
 pub loop-first-preserved : goal.loop-first-preserved
-loop-first-preserved g c = (omega arith, field_more _ _ _ c.loop-first.place c.of.result c.loop-first.invariant.1 c.in_ok-put_field.ensures.ok)
+loop-first-preserved g c =
+    (omega arith, field_more _ _ _ c.loop-first.place c.of.result c.loop-first.invariant.1 c.in_ok-put_field.ensures.ok)
 
 pub returns-in_err-put_field-clause-err : goal.returns-in_err-put_field-clause-err
 returns-in_err-put_field-clause-err g c =

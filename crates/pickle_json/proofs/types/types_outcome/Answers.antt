@@ -13,7 +13,8 @@ returns-in-Err g c = line_ends _ (Refused c.in-Err.refusal) _ (refused_types c.i
 
 pub returns-in-Ok-declared_types : goal.returns-in-Ok-declared_types
 returns-in-Ok-declared_types g c =
-    objects_end c.args.pickle.now c.in-Ok.ensures.ok.0 _ c.in-Ok.ensures.ok.1 _ (ap (map told_of) c.as_slice.ensures.value ∙ c.in-Ok-declared_types.ensures) _ _ c.answer.result c.put_types.result
+    objects_end c.args.pickle.now c.in-Ok.ensures.ok.0 _ c.in-Ok.ensures.ok.1 _
+    (ap (map told_of) c.as_slice.ensures.value ∙ c.in-Ok-declared_types.ensures) _ _ c.answer.result c.put_types.result
     c.put_types.ensures.ok c.put_types.ensures.err c.answer.ensures.done c.answer.ensures.failed
 
 pub returns-in_default : goal.returns-in_default

@@ -29,12 +29,26 @@ returns-in-Ok g c =
     let limit = c.in-Ok.ensures.frame.left.limit in
     given_back c.map_type.new.self.meter.now c.map_type.new.self.store.now (search rules) (search rules) (record {
       value = λ bytes known.
-          let e = ap (λ n. 8 * n) (sym (g.met.S.Space.whole c.args.space.now bytes known)) ∙ sym (length-bits_of bytes) in
+          let e =
+          ap (λ n. 8 * n) (sym (g.met.S.Space.whole c.args.space.now bytes known)) ∙ sym (length-bits_of bytes) in
           let h = rw e at h in
-          record { value = m.value; keeps = keeps; holds = followed_result (bits_of bytes) ty c.args.order c.args.start (ap (option_map bits_of) known) (omega (arith, within, limit)) h };
+          record {
+            value = m.value;
+            keeps = keeps;
+            holds = followed_result (bits_of bytes) ty c.args.order c.args.start (ap (option_map bits_of) known)
+                (omega (arith, within, limit)) h;
+          };
       fault = λ bytes known. tt;
-      fits = record { value = m.value; keeps = keeps; holds = followed_fits bits ty c.args.order no_values c.args.start h };
-      size = record { value = m.value; keeps = keeps; holds = followed_size bits ty c.args.order no_values c.args.start h };
+      fits = record {
+        value = m.value;
+        keeps = keeps;
+        holds = followed_fits bits ty c.args.order no_values c.args.start h;
+      };
+      size = record {
+        value = m.value;
+        keeps = keeps;
+        holds = followed_size bits ty c.args.order no_values c.args.start h;
+      };
       rise = (walk_rises h.walk).0;
       steps = followed_steps bits ty c.args.order no_values c.args.start h;
       made = ((walk_rises h.walk).1, followed_made bits ty c.args.order no_values c.args.start h);
@@ -42,13 +56,16 @@ returns-in-Ok g c =
       memory = tt;
       device = tt;
       counts = record { value = m.value; keeps = keeps; holds = h };
-      kept = λ bytes known. done_kept (bits_of bytes) bits ty c.args.order c.args.start (ap (option_map bits_of) known) h;
+      kept =
+          λ bytes known. done_kept (bits_of bytes) bits ty c.args.order c.args.start (ap (option_map bits_of) known) h;
       asked = λ bytes known. tt;
       place = tt;
       emptied = tt;
       holds = c.never_grows-fixed.ensures.holds;
       room = c.in-Ok.ensures.frame.left.room;
-      held = λ never. kept_within c.args.table.now.nodes.items c.args.store.now c.map_type.new.self.store.now c.in-Ok.ensures.frame.left.room.room never (λ e. c.never_grows-fixed.ensures.fits e c.args.table.now.nodes.items);
+      held = λ never. kept_within c.args.table.now.nodes.items c.args.store.now c.map_type.new.self.store.now
+          c.in-Ok.ensures.frame.left.room.room never
+          (λ e. c.never_grows-fixed.ensures.fits e c.args.table.now.nodes.items);
       most = limit;
       len = c.in-Ok.ensures.frame.left.len;
       bytes = c.in-Ok.ensures.frame.left.bytes;
@@ -70,9 +87,11 @@ returns-in-Err g c =
     given_back c.map_type.new.self.meter.now c.clear.new.self (search rules) (search rules) (record {
       value = λ bytes known. tt;
       fault = λ bytes known.
-          let e = ap (λ n. 8 * n) (sym (g.met.S.Space.whole c.args.space.now bytes known)) ∙ sym (length-bits_of bytes) in
+          let e =
+          ap (λ n. 8 * n) (sym (g.met.S.Space.whole c.args.space.now bytes known)) ∙ sym (length-bits_of bytes) in
           let h = rw e at h in
-          rw c.told.ensures (told_means (bits_of bytes) ty order start (ap (option_map bits_of) known) (omega (arith, within, limit)) c.in-Err.stop h);
+          rw c.told.ensures (told_means (bits_of bytes) ty order start (ap (option_map bits_of) known)
+          (omega (arith, within, limit)) c.in-Err.stop h);
       fits = tt;
       size = tt;
       rise = (walk_rises h.walk).0;
@@ -80,14 +99,34 @@ returns-in-Err g c =
       made = ((walk_rises h.walk).1, followed_made bits ty order no_values start h);
       limit = rw c.told.ensures (told_limit bits ty order start c.in-Err.stop h);
       memory = rw c.told.ensures (told_memory bits ty order start c.in-Err.stop h);
-      device = rw c.told.ensures (λ e. c.in-Err.ensures.frame.left.device (told_device bits ty order start c.in-Err.stop h e));
-      counts = rw (c.told.ensures, c.clear.ensures.empty) (told_counts bits ty order start (g.S.Space.view c.args.space.now) c.args.meter.now c.map_type.new.self.meter.now c.args.store.now (emptied c.map_type.new.self.store.now) c.in-Err.stop (record { last = _; follows = h }));
-      kept = λ bytes known. rw (c.told.ensures, c.clear.ensures.empty) (told_kept (bits_of bytes) bits ty order start (ap (option_map bits_of) known) c.in-Err.stop h);
-      asked = λ bytes known. rw c.told.ensures (told_wanted (bits_of bytes) bits ty order start (ap (option_map bits_of) known) (omega (arith, within, limit)) c.in-Err.stop h);
+      device = rw c.told.ensures
+          (λ e. c.in-Err.ensures.frame.left.device (told_device bits ty order start c.in-Err.stop h e));
+      counts = rw (c.told.ensures, c.clear.ensures.empty) (told_counts bits ty order start
+          (g.S.Space.view c.args.space.now) c.args.meter.now c.map_type.new.self.meter.now c.args.store.now
+          (emptied c.map_type.new.self.store.now) c.in-Err.stop (record { last = _; follows = h }));
+      kept = λ bytes known. rw (c.told.ensures, c.clear.ensures.empty)
+          (told_kept (bits_of bytes) bits ty order start (ap (option_map bits_of) known) c.in-Err.stop h);
+      asked = λ bytes known. rw c.told.ensures (told_wanted (bits_of bytes) bits ty order start
+          (ap (option_map bits_of) known) (omega (arith, within, limit)) c.in-Err.stop h);
       place = rw c.told.ensures (told_there bits ty order start c.in-Err.stop h);
       emptied = rw c.clear.ensures.empty refl;
-      holds = rw c.clear.ensures.empty (record { nodes = omega arith; families = omega arith; links = omega arith; pending = omega arith; texts = omega arith; bytes = omega arith });
-      room = rw c.clear.ensures.empty (record { room = keeps.room; nodes = keeps.nodes; families = keeps.families; links = keeps.links; pending = keeps.pending; texts = keeps.texts; bytes = keeps.bytes });
+      holds = rw c.clear.ensures.empty (record {
+        nodes = omega arith;
+        families = omega arith;
+        links = omega arith;
+        pending = omega arith;
+        texts = omega arith;
+        bytes = omega arith;
+      });
+      room = rw c.clear.ensures.empty (record {
+        room = keeps.room;
+        nodes = keeps.nodes;
+        families = keeps.families;
+        links = keeps.links;
+        pending = keeps.pending;
+        texts = keeps.texts;
+        bytes = keeps.bytes;
+      });
       held = tt;
       most = limit;
       len = c.in-Err.ensures.frame.left.len;

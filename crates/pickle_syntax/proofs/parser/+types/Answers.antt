@@ -19,23 +19,31 @@ fields::fields_at-fields-preserved t c =
     let items = c.in_ok-push.ensures.items in
     let few : vec_len c.fields.fields < 1024 = omega arith in
     let num : 1024 - vec_len c.push.new.self ≡ 1024 - vec_len c.fields.fields - 1 = omega arith in
-    let step = fields_step standard (form_at standard c.args.room) (fields_tree c.fields.fields.items) (1024 - vec_len c.fields.fields) (tokens_of c.fields.rest.now) (field_tree c.in_ok-found.found.field) (tokens_of c.in_ok-found.after.now) (omega arith) c.in_default.ensures c.in_ok-found.ensures.read in
+    let step = fields_step standard (form_at standard c.args.room) (fields_tree c.fields.fields.items)
+    (1024 - vec_len c.fields.fields) (tokens_of c.fields.rest.now) (field_tree c.in_ok-found.found.field)
+    (tokens_of c.in_ok-found.after.now) (omega arith) c.in_default.ensures c.in_ok-found.ensures.read in
     record {
-      same = rw (items, fields_tree_push c.fields.fields.items c.in_ok-found.found.field, num, c.onward-rest.ensures) (step ∙ c.fields.invariant.same);
+      same = rw (items, fields_tree_push c.fields.fields.items c.in_ok-found.found.field, num, c.onward-rest.ensures)
+          (step ∙ c.fields.invariant.same);
       few = omega arith;
-      measured = rw (items, depth_push c.fields.fields.items c.in_ok-found.found.field) (omega (arith, most, before, here));
+      measured =
+          rw (items, depth_push c.fields.fields.items c.in_ok-found.found.field) (omega (arith, most, before, here));
       low = omega (arith, most);
     }
 
 pub types::base_at-returns-in-empty-clause-read : goal.types::base_at-returns-in-empty-clause-read
-types::base_at-returns-in-empty-clause-read t c = base_none standard (form_at standard c.args.room) c.args.tokens.now c.in-empty.len_below
+types::base_at-returns-in-empty-clause-read t c =
+    base_none standard (form_at standard c.args.room) c.args.tokens.now c.in-empty.len_below
 
 pub types::base_at-returns-in-String-clause-read : goal.types::base_at-returns-in-String-clause-read
 types::base_at-returns-in-String-clause-read t c =
-    let word = base_word standard (form_at standard c.args.room) c.args.tokens.now c.first-item.result c.in-Word.word c.in-len1-up.len_at_least c.first-item.is c.in-Word.is in
+    let word = base_word standard (form_at standard c.args.room) c.args.tokens.now c.first-item.result c.in-Word.word
+    c.in-len1-up.len_at_least c.first-item.is c.in-Word.is in
     word ∙ rw (c.in-String.is, form_string) refl
 
-pub types::base_at-returns-in_ok-found-in-Union-clause-read : goal.types::base_at-returns-in_ok-found-in-Union-clause-read
+pub types::base_at-returns-in_ok-found-in-Union-clause-read :
+    goal.types::base_at-returns-in_ok-found-in-Union-clause-read
 types::base_at-returns-in_ok-found-in-Union-clause-read t c =
-    let word = base_word standard (form_at standard c.args.room) c.args.tokens.now c.first-item.result c.in-Word.word c.in-len1-up.len_at_least c.first-item.is c.in-Word.is in
+    let word = base_word standard (form_at standard c.args.room) c.args.tokens.now c.first-item.result c.in-Word.word
+    c.in-len1-up.len_at_least c.first-item.is c.in-Word.is in
     word ∙ rw (c.in-Union.is, c.in_ok-found-in-Union.ensures.read, form_union c.in_ok-found-in-Union.found.fields) refl

@@ -29,7 +29,9 @@ decreases-types::base_at l = 6 * l.room + 5
 
 abbrev pub invariant-fields::fields_at-fields : goal.invariant-fields::fields_at-fields
 invariant-fields::fields_at-fields l = record {
-  same : with_front (fields_tree l.fields.items) (fields_at standard (form_at standard l.room) (1024 - vec_len l.fields) (tokens_of l.rest)) ≡ fields_at standard (form_at standard l.room) 1024 (tokens_of l.tokens);
+  same : with_front (fields_tree l.fields.items)
+      (fields_at standard (form_at standard l.room) (1024 - vec_len l.fields) (tokens_of l.rest))
+      ≡ fields_at standard (form_at standard l.room) 1024 (tokens_of l.tokens);
   few : vec_len l.fields ≤ 1024;
   measured : l.depth ≡ fields_depth (fields_tree l.fields.items);
   low : l.depth ≤ l.room;

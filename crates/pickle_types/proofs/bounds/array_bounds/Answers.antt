@@ -11,6 +11,7 @@ returns c type h =
     let slots = c.times-slots.ensures _ (c.sum_of-2.ensures _ _ refl h.slots) in
     record {
       least = rw c.with_own.ensures.least refl;
-      steps = array_sum _ _ _ _ _ count (c.with_own.ensures.steps _ (c.sum_of-3.ensures _ _ c.bound_weight.ensures steps));
+      steps =
+          array_sum _ _ _ _ _ count (c.with_own.ensures.steps _ (c.sum_of-3.ensures _ _ c.bound_weight.ensures steps));
       slots = array_slots _ _ _ _ count (c.with_own.ensures.slots _ slots);
     }

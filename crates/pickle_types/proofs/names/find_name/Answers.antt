@@ -13,8 +13,10 @@ returns-in_err-number-clause-found c nodes =
     let types = c.names.inside.types in
     let words = map (λ (w : Bor (List ℕ)). w.now) c.names.inside.words.items in
     let word = c.args.word.now in
-    let none : number_in words word ≡ None = rw (← c.names.view_is) at (sym c.number_of.ensures ∙ c.in_err-number.was) in
-    rw (c.from_residual.ensures, ← c.names.view_is) (found_is word nodes None (values types) (sym (named_none words c.names.inside.numbers types c.names.invariant word none)))
+    let none : number_in words word ≡ None =
+    rw (← c.names.view_is) at (sym c.number_of.ensures ∙ c.in_err-number.was) in
+    rw (c.from_residual.ensures, ← c.names.view_is) (found_is word nodes None (values types)
+    (sym (named_none words c.names.inside.numbers types c.names.invariant word none)))
 
 pub returns-in_err-named-clause-found : goal.returns-in_err-named-clause-found
 returns-in_err-named-clause-found c nodes =
@@ -22,9 +24,11 @@ returns-in_err-named-clause-found c nodes =
     let words = map (λ (w : Bor (List ℕ)). w.now) c.names.inside.words.items in
     let word = c.args.word.now in
     let number = c.in_ok-number.number in
-    let is : number_in words word ≡ Some number = rw (← c.names.view_is) at (sym c.number_of.ensures ∙ c.in_ok-number.was) in
+    let is : number_in words word ≡ Some number =
+    rw (← c.names.view_is) at (sym c.number_of.ensures ∙ c.in_ok-number.was) in
     let kept : in_map types number ≡ None = sym c.get.ensures.value ∙ ap option_copied c.in_err-named.was in
-    rw (c.from_residual-in_err-named.ensures, ← c.names.view_is) (found_is word nodes None (values types) (sym (named_some words c.names.inside.numbers types c.names.invariant word number None is kept)))
+    rw (c.from_residual-in_err-named.ensures, ← c.names.view_is) (found_is word nodes None (values types)
+    (sym (named_some words c.names.inside.numbers types c.names.invariant word number None is kept)))
 
 pub returns-clause-found : goal.returns-clause-found
 returns-clause-found c nodes =
@@ -33,9 +37,11 @@ returns-clause-found c nodes =
     let word = c.args.word.now in
     let number = c.in_ok-number.number in
     let d = c.in_ok-named.named.now in
-    let is : number_in words word ≡ Some number = rw (← c.names.view_is) at (sym c.number_of.ensures ∙ c.in_ok-number.was) in
+    let is : number_in words word ≡ Some number =
+    rw (← c.names.view_is) at (sym c.number_of.ensures ∙ c.in_ok-number.was) in
     let kept : in_map types number ≡ Some d = sym c.get.ensures.value ∙ ap option_copied c.in_ok-named.was in
-    rw (← c.names.view_is) (found_is word nodes (Some d.declared) (values types) (sym (named_some words c.names.inside.numbers types c.names.invariant word number (Some d) is kept)))
+    rw (← c.names.view_is) (found_is word nodes (Some d.declared) (values types)
+    (sym (named_some words c.names.inside.numbers types c.names.invariant word number (Some d) is kept)))
 
 pub returns-clause-named : goal.returns-clause-named
 returns-clause-named c nodes named =
@@ -44,7 +50,9 @@ returns-clause-named c nodes named =
     let word = c.args.word.now in
     let number = c.in_ok-number.number in
     let d = c.in_ok-named.named.now in
-    let is : number_in words word ≡ Some number = rw (← c.names.view_is) at (sym c.number_of.ensures ∙ c.in_ok-number.was) in
+    let is : number_in words word ≡ Some number =
+    rw (← c.names.view_is) at (sym c.number_of.ensures ∙ c.in_ok-number.was) in
     let kept : in_map types number ≡ Some d = sym c.get.ensures.value ∙ ap option_copied c.in_ok-named.was in
-    let found : declared_as word (values types) ≡ Some d.declared = named_some words c.names.inside.numbers types c.names.invariant word number (Some d) is kept in
+    let found : declared_as word (values types) ≡ Some d.declared =
+    named_some words c.names.inside.numbers types c.names.invariant word number (Some d) is kept in
     rw found at (found_named word (IsNamed nodes) (values types) (rw (← c.names.view_is) at named))

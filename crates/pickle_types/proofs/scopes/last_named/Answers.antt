@@ -28,6 +28,7 @@ loop-left-preserved c =
     record {
       within = omega arith;
       rest = λ nodes.
-          sym (ap (λ (n : ℕ). resolve c.args.word.now (views_of nodes (take n fields))) next ∙ last_passed nodes c.args.word.now fields (left - 1) unread lt (sym c.is_called.ensures ∙ c.if-is_called.false))
+          sym (ap (λ (n : ℕ). resolve c.args.word.now (views_of nodes (take n fields))) next ∙ last_passed nodes
+          c.args.word.now fields (left - 1) unread lt (sym c.is_called.ensures ∙ c.if-is_called.false))
           ∙ c.loop-left.invariant.rest nodes;
     }

@@ -10,5 +10,6 @@ decreases-loop-left l = l.left
 abbrev pub invariant-loop-left : goal.invariant-loop-left
 invariant-loop-left l = record {
   within : l.left ≤ length l.fields;
-  rest : (nodes : List Node) → resolve l.word (views_of nodes (take l.left l.fields)) ≡ resolve l.word (views_of nodes l.fields);
+  rest : (nodes : List Node) →
+      resolve l.word (views_of nodes (take l.left l.fields)) ≡ resolve l.word (views_of nodes l.fields);
 }

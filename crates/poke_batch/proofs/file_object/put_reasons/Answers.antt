@@ -4,10 +4,13 @@ use Rattle.text_output.proofs.Parts.{part_first, part_next}
 use Rattle.poke_batch.proofs.file_object.put_reasons.Goals as goal
 
 pub returns-in_err-put-clause-err : goal.returns-in_err-put-clause-err
-returns-in_err-put-clause-err g c = on_err c.from_residual.result (part_first _ _ (codes ",\"why\":[") _ c.in_err-put.ensures.err)
+returns-in_err-put-clause-err g c =
+    on_err c.from_residual.result (part_first _ _ (codes ",\"why\":[") _ c.in_err-put.ensures.err)
 
 pub returns-in_err-put_lines-clause-err : goal.returns-in_err-put_lines-clause-err
-returns-in_err-put_lines-clause-err g c = on_err c.from_residual-in_err-put_lines.result (part_next _ _ _ (codes ",\"why\":[") _ c.in_ok-put.ensures.ok (part_first _ _ _ _ c.in_err-put_lines.ensures.err))
+returns-in_err-put_lines-clause-err g c = on_err c.from_residual-in_err-put_lines.result
+    (part_next _ _ _ (codes ",\"why\":[") _ c.in_ok-put.ensures.ok (part_first _ _ _ _ c.in_err-put_lines.ensures.err))
 
 pub returns-in_err-put-2-clause-err : goal.returns-in_err-put-2-clause-err
-returns-in_err-put-2-clause-err g c = on_err c.from_residual-in_err-put-2.result (part_next _ _ _ (codes ",\"why\":[") _ c.in_ok-put.ensures.ok (part_next _ _ _ _ _ c.in_ok-put_lines.ensures.ok c.in_err-put-2.ensures.err))
+returns-in_err-put-2-clause-err g c = on_err c.from_residual-in_err-put-2.result (part_next _ _ _ (codes ",\"why\":[") _
+    c.in_ok-put.ensures.ok (part_next _ _ _ _ _ c.in_ok-put_lines.ensures.ok c.in_err-put-2.ensures.err))

@@ -10,5 +10,7 @@ returns-then-printer g c = told_failed c.if-printer.true c.loop-column.invariant
 
 pub loop-column-preserved : goal.loop-column-preserved
 loop-column-preserved g c =
-    let next = item_left c.args.columns.now c.loop-column.column-index c.column-item.result c.loop-column-test.true c.column-item.is in
-    told_next (ap (cells_text c.args.format.mode (typed_row_cell c.args.format.style c.args.format.mode c.args.row) c.loop-column.first) next) c.loop-column.invariant c.put_column.ensures
+    let next = item_left c.args.columns.now c.loop-column.column-index c.column-item.result
+    c.loop-column-test.true c.column-item.is in
+    told_next (ap (cells_text c.args.format.mode (typed_row_cell c.args.format.style c.args.format.mode c.args.row)
+    c.loop-column.first) next) c.loop-column.invariant c.put_column.ensures

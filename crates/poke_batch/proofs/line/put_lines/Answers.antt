@@ -5,4 +5,6 @@ use Rattle.poke_batch.proofs.line.put_lines.Goals as goal
 
 pub returns-in-Row : goal.returns-in-Row
 returns-in-Row g c =
-    rw c.in-Row.is (subst (Puts g.W.Write.contents c.args.printer.now c.put_row.new.printer) (row_lines c.args.format.look c.args.format.style c.args.format.mode c.in-Row.columns.now c.args.part) c.put_row.ensures)
+    rw c.in-Row.is (subst (Puts g.W.Write.contents c.args.printer.now c.put_row.new.printer)
+    (row_lines c.args.format.look c.args.format.style c.args.format.mode c.in-Row.columns.now c.args.part)
+    c.put_row.ensures)

@@ -9,5 +9,6 @@ returns-then-printer g c = told_failed c.if-printer.true c.loop-column.invariant
 
 pub loop-column-preserved : goal.loop-column-preserved
 loop-column-preserved g c =
-    let next = item_left c.args.columns.now c.loop-column.column-index c.column-item.result c.loop-column-test.true c.column-item.is in
+    let next = item_left c.args.columns.now c.loop-column.column-index c.column-item.result
+    c.loop-column-test.true c.column-item.is in
     told_next (ap (names_text c.loop-column.first) next) c.loop-column.invariant c.put_name.ensures

@@ -8,5 +8,6 @@ abbrev pub invariant-loop-step : goal.invariant-loop-step
 invariant-loop-step l = record {
   value : part_of l.steps (mapped_in l.value) ≡ part_of (drop l.step-index l.steps) (mapped_in l.part);
   types : types_in l.part ≡ types_in l.value;
-  node : node_after l.steps l.value ≡ node_from (nodes_in (types_in l.value)) (drop l.step-index l.steps) (node_in l.part) (Some (mapped_in l.part));
+  node : node_after l.steps l.value
+      ≡ node_from (nodes_in (types_in l.value)) (drop l.step-index l.steps) (node_in l.part) (Some (mapped_in l.part));
 }

@@ -12,4 +12,5 @@ loop-place-preserved c =
     let len : c.len-place-end.result ≡ count = c.len-place-end.ensures in
     let more : c.loop-place.place < count = omega (arith, len, c.loop-place-test.true) in
     let named = c.is_named.ensures ∙ ap (is_named c.args.name.now) c.field_name.ensures in
-    c.loop-place.invariant ∙ found_later c.args.name.now label count c.loop-place.place more (sym named ∙ c.if-is_named.false)
+    c.loop-place.invariant
+    ∙ found_later c.args.name.now label count c.loop-place.place more (sym named ∙ c.if-is_named.false)

@@ -8,15 +8,21 @@ use Rattle.poke_batch.proofs.part.step_beside.Goals as goal
 
 pub returns-in-Some-clause-value : goal.returns-in-Some-clause-value
 returns-in-Some-clause-value c =
-    let at : Some c.in-Some.place ≡ place_of c.args.step.now (mapped_in c.args.value) = c.in-Some.ensures ∙ ap (λ v. place_of c.args.step.now (value_shown v)) c.value.ensures in
-    c.child.ensures.value ∙ ap (member_there (mapped_in c.args.value)) at ∙ step_there c.args.step.now (mapped_in c.args.value)
+    let at : Some c.in-Some.place ≡ place_of c.args.step.now (mapped_in c.args.value) =
+    c.in-Some.ensures ∙ ap (λ v. place_of c.args.step.now (value_shown v)) c.value.ensures in
+    c.child.ensures.value
+    ∙ ap (member_there (mapped_in c.args.value)) at ∙ step_there c.args.step.now (mapped_in c.args.value)
 
 pub returns-in-Some-clause-node : goal.returns-in-Some-clause-node
 returns-in-Some-clause-node c =
-    let at : Some c.in-Some.place ≡ place_of c.args.step.now (mapped_in c.args.value) = c.in-Some.ensures ∙ ap (λ v. place_of c.args.step.now (value_shown v)) c.value.ensures in
-    subst (λ of. IfSome c.child.result (λ part. node_in part ≡ of)) (ap (node_there (nodes_in (types_in c.args.value)) (node_in c.args.value) (mapped_in c.args.value)) at) c.child.ensures.node
+    let at : Some c.in-Some.place ≡ place_of c.args.step.now (mapped_in c.args.value) =
+    c.in-Some.ensures ∙ ap (λ v. place_of c.args.step.now (value_shown v)) c.value.ensures in
+    subst (λ of. IfSome c.child.result (λ part. node_in part ≡ of))
+    (ap (node_there (nodes_in (types_in c.args.value)) (node_in c.args.value) (mapped_in c.args.value)) at)
+    c.child.ensures.node
 
 pub returns-in-None-clause-value : goal.returns-in-None-clause-value
 returns-in-None-clause-value c =
-    let at : None ≡ place_of c.args.step.now (mapped_in c.args.value) = c.in-None.ensures ∙ ap (λ v. place_of c.args.step.now (value_shown v)) c.value.ensures in
+    let at : None ≡ place_of c.args.step.now (mapped_in c.args.value) =
+    c.in-None.ensures ∙ ap (λ v. place_of c.args.step.now (value_shown v)) c.value.ensures in
     ap (member_there (mapped_in c.args.value)) at ∙ step_there c.args.step.now (mapped_in c.args.value)

@@ -5,5 +5,7 @@ use Rattle.poke_batch.proofs.presence.has_patterns.Given as goal
 
 abbrev pub invariant-loop-pattern : goal.invariant-loop-pattern
 invariant-loop-pattern l =
-    all_of (λ pattern. has_pattern (nodes_in (types_in l.fn.value)) OfPart (part_in l.fn.value) pattern.steps.items) l.patterns
-    ≡ all_of (λ pattern. has_pattern (nodes_in (types_in l.fn.value)) OfPart (part_in l.fn.value) pattern.steps.items) (drop l.pattern-index l.patterns)
+    all_of (λ pattern. has_pattern (nodes_in (types_in l.fn.value)) OfPart (part_in l.fn.value) pattern.steps.items)
+    l.patterns
+    ≡ all_of (λ pattern. has_pattern (nodes_in (types_in l.fn.value)) OfPart (part_in l.fn.value) pattern.steps.items)
+    (drop l.pattern-index l.patterns)

@@ -10,7 +10,8 @@ pub returns-in-Err : goal.returns-in-Err
 returns-in-Err g c = line_ends _ (Refused c.in-Err.refusal) _ (refused_bounds c.in-Err.ensures.err)
 
 pub returns-in-Ok-bounds : goal.returns-in-Ok-bounds
-returns-in-Ok-bounds g c = text_ends _ (bound_text c.in-Ok-bounds.bounds.steps c.in-Ok-bounds.bounds.slots) c.answer.result _ _ c.put_bounds.result
+returns-in-Ok-bounds g c = text_ends _ (bound_text c.in-Ok-bounds.bounds.steps c.in-Ok-bounds.bounds.slots)
+    c.answer.result _ _ c.put_bounds.result
     (bounds _ _ c.in-Ok.ensures.ok.1 c.in-Some.ensures.found c.in-Ok-bounds.ensures.steps c.in-Ok-bounds.ensures.slots)
     c.put_bounds.ensures.ok c.put_bounds.ensures.err c.answer.ensures.done c.answer.ensures.failed
 

@@ -26,12 +26,15 @@ returns-in-Ok-clause-ends g c =
     λ pickle asked.
     ends_more (said_under run.table.now run.id pickle ask run.terms.now _ _ given.value
     (mapped_under run.table.now run.id refl asked
-    (value_answers (run_type run) ask.order ask.start ask.limit c.new-meter.result.limit c.new-meter.result.steps _ _ _ (nodes_of run.table.now) c.map.new.store given.value c.new-meter.ensures.limit c.new-meter.ensures.steps c.in-Ok.ensures.value (root_given given))
+    (value_answers (run_type run) ask.order ask.start ask.limit c.new-meter.result.limit c.new-meter.result.steps _ _ _
+    (nodes_of run.table.now) c.map.new.store given.value c.new-meter.ensures.limit c.new-meter.ensures.steps
+    c.in-Ok.ensures.value (root_given given))
     given.holds))
     told
 
 pub returns-in-Err-clause-store : goal.returns-in-Err-clause-store
-returns-in-Err-clause-store g c = store_stays c.args.run.now.terms.now.most_slots _ _ _ c.requires.store c.clear.ensures.empty c.map.ensures.room
+returns-in-Err-clause-store g c =
+    store_stays c.args.run.now.terms.now.most_slots _ _ _ c.requires.store c.clear.ensures.empty c.map.ensures.room
 
 pub returns-in-Err-clause-ends : goal.returns-in-Err-clause-ends
 returns-in-Err-clause-ends g c =
@@ -47,8 +50,12 @@ returns-in-Err-clause-ends g c =
     (subst (MapsUnder pickle ask run.terms.now _ _) (sym c.end_outcome.ensures)
     (end_under pickle ask run.terms.now _ _ fault.kind fault.at asked
     (λ memory. least_of most _ _ c.requires.store c.clear.ensures.empty (c.in-Err.ensures.memory memory))
-    (λ memory. few_of most _ _ (run_type run) ask _ (meter.limit - meter.steps) c.requires.store c.clear.ensures.empty c.clear.ensures.fixed (omega (arith, limit, unused)) (λ bytes known kept. c.in-Err.ensures.asked bytes known memory kept))
+    (λ memory. few_of most _ _ (run_type run) ask _ (meter.limit - meter.steps) c.requires.store c.clear.ensures.empty
+    c.clear.ensures.fixed (omega (arith, limit, unused))
+    (λ bytes known kept. c.in-Err.ensures.asked bytes known memory kept))
     (fault_under pickle ask run.terms.now _ _ fault.kind fault.at
-    (fault_says pickle ask _ _ (run_type run) fault.at meter.limit meter.steps _ _ _ limit unused asked fault.kind c.in-Err.ensures.fault
-    (run_to_fault _ (run_type run) ask.order ask.start ask.limit meter c.map.new.meter c.clear.new.self c.map.new.store fault.kind fault.at limit unused c.new-meter.ensures.made c.in-Err.ensures.counts)
+    (fault_says pickle ask _ _ (run_type run) fault.at meter.limit meter.steps _ _ _ limit unused asked fault.kind
+    c.in-Err.ensures.fault
+    (run_to_fault _ (run_type run) ask.order ask.start ask.limit meter c.map.new.meter c.clear.new.self c.map.new.store
+    fault.kind fault.at limit unused c.new-meter.ensures.made c.in-Err.ensures.counts)
     c.in-Err.ensures.limit c.in-Err.ensures.place c.in-Err.ensures.device))))

@@ -20,8 +20,10 @@ put_members-loop-place-preserved g t c =
     elim c.match-child.branch [
       | put_members-in-Some w ↦
           (let found = w.in-Some.ensures in
-          rw w.printer-is (told_next (member_more format.look format.style format.mode line steps c.args.part end place w.in-Some.member c.loop-place-test.true found.value found.types found.node)
+          rw w.printer-is (told_next (member_more format.look format.style format.mode line steps c.args.part end place
+          w.in-Some.member c.loop-place-test.true found.value found.types found.node)
           c.loop-place.invariant w.put_each.ensures))
       | put_members-in_default w ↦
-          rw w.printer-is (told_same (member_none format.look format.style format.mode line steps c.args.part end place c.loop-place-test.true w.in_default.ensures.value) c.loop-place.invariant)
+          rw w.printer-is (told_same (member_none format.look format.style format.mode line steps c.args.part end place
+          c.loop-place-test.true w.in_default.ensures.value) c.loop-place.invariant)
     ]

@@ -19,5 +19,7 @@ decreases-put_members g l = 3 * length l.steps.now + 1
 abbrev pub invariant-put_members-loop-place : goal.invariant-put_members-loop-place
 invariant-put_members-loop-place g l =
     Told g.W.Write.contents l.initial.printer l.printer
-    (typed_members l.fn.format.look l.fn.format.style l.fn.format.mode (line_of l.fn.format.line) l.fn.part l.steps (l.fn.places.end - l.place) l.place)
-    (typed_members l.fn.format.look l.fn.format.style l.fn.format.mode (line_of l.fn.format.line) l.fn.part l.steps (l.fn.places.end - l.fn.places.from) l.fn.places.from)
+    (typed_members l.fn.format.look l.fn.format.style l.fn.format.mode (line_of l.fn.format.line) l.fn.part l.steps
+    (l.fn.places.end - l.place) l.place)
+    (typed_members l.fn.format.look l.fn.format.style l.fn.format.mode (line_of l.fn.format.line) l.fn.part l.steps
+    (l.fn.places.end - l.fn.places.from) l.fn.places.from)

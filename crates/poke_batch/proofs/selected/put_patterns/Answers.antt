@@ -10,6 +10,8 @@ returns-then-printer g c = told_failed c.if-printer.true c.loop-pattern.invarian
 
 pub loop-pattern-preserved : goal.loop-pattern-preserved
 loop-pattern-preserved g c =
-    let next = item_left c.args.patterns.now c.loop-pattern.pattern-index c.pattern-item.result c.loop-pattern-test.true c.pattern-item.is in
-    told_next (ap (typed_patterns c.args.format.look c.args.format.style c.args.format.mode (line_of c.args.format.line) c.args.value) next) c.loop-pattern.invariant
+    let next = item_left c.args.patterns.now c.loop-pattern.pattern-index c.pattern-item.result c.loop-pattern-test.true
+    c.pattern-item.is in
+    told_next (ap (typed_patterns c.args.format.look c.args.format.style c.args.format.mode (line_of c.args.format.line)
+    c.args.value) next) c.loop-pattern.invariant
     (rw c.as_slice.ensures.value at c.put_each.ensures)

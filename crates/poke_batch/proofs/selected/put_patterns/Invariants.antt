@@ -7,5 +7,7 @@ use Rattle.poke_batch.proofs.selected.put_patterns.Given as goal
 abbrev pub invariant-loop-pattern : goal.invariant-loop-pattern
 invariant-loop-pattern g l =
     Told g.W.Write.contents l.initial.printer l.printer
-    (typed_patterns l.fn.format.look l.fn.format.style l.fn.format.mode (line_of l.fn.format.line) l.fn.value (drop l.pattern-index l.patterns))
-    (typed_patterns l.fn.format.look l.fn.format.style l.fn.format.mode (line_of l.fn.format.line) l.fn.value l.patterns)
+    (typed_patterns l.fn.format.look l.fn.format.style l.fn.format.mode (line_of l.fn.format.line) l.fn.value
+    (drop l.pattern-index l.patterns))
+    (typed_patterns l.fn.format.look l.fn.format.style l.fn.format.mode (line_of l.fn.format.line)
+    l.fn.value l.patterns)

@@ -5,4 +5,5 @@ use Rattle.poke_batch.proofs.type_paths.may_have_columns.Given as goal
 abbrev pub invariant-loop-column : goal.invariant-loop-column
 invariant-loop-column l =
     all_of (λ column. is_possible (path_lead l.nodes column.path.steps.items l.fn.row)) l.columns
-    ≡ all_of (λ column. is_possible (path_lead l.nodes column.path.steps.items l.fn.row)) (drop l.column-index l.columns)
+    ≡ all_of (λ column. is_possible (path_lead l.nodes column.path.steps.items l.fn.row))
+    (drop l.column-index l.columns)

@@ -8,4 +8,5 @@ pub returns-then-eq : goal.returns-then-eq
 returns-then-eq c = λ pickle failed. no_memory
 
 pub returns-else-eq : goal.returns-else-eq
-returns-else-eq c = λ pickle failed. tokens_refused pickle _ _ (λ m. false≢true (sym c.if-eq.false ∙ c.eq.ensures ∙ rw m refl)) failed
+returns-else-eq c =
+    λ pickle failed. tokens_refused pickle _ _ (λ m. false≢true (sym c.if-eq.false ∙ c.eq.ensures ∙ rw m refl)) failed

@@ -18,4 +18,5 @@ returns-in_err-put_lines-clause-err g c =
 
 pub returns-clause-ok : goal.returns-clause-ok
 unfolding dump_text
-returns-clause-ok g c = λ bytes e. Appends-trans _ _ _ _ _ c.in_ok-put_ruler.ensures.ok (c.in_ok-put_lines.ensures.ok bytes e)
+returns-clause-ok g c =
+    λ bytes e. Appends-trans _ _ _ _ _ c.in_ok-put_ruler.ensures.ok (c.in_ok-put_lines.ensures.ok bytes e)

@@ -14,7 +14,9 @@ returns-in_err-put_line-clause-err g c =
     let short = g.met.S.Space.short c.args.space.now in
     let end : c.min-end.result ≡ min (c.args.from + c.args.size) (length bytes) = omega arith in
     let kept = c.loop-i.invariant.0.bytes in
-    line_failed _ _ _ bytes c.args.from c.args.size c.loop-i.i c.min-end.result c.min-count.result c.div_ceil-lines.result end (omega arith) (omega arith) (omega arith) (c.loop-i.invariant.1 bytes e) (c.in_err-put_line.ensures.err bytes (kept ∙ e)))
+    line_failed _ _ _ bytes c.args.from c.args.size c.loop-i.i c.min-end.result c.min-count.result
+    c.div_ceil-lines.result end (omega arith) (omega arith) (omega arith) (c.loop-i.invariant.1 bytes e)
+    (c.in_err-put_line.ensures.err bytes (kept ∙ e)))
 
 pub loop-i-preserved : goal.loop-i-preserved
 loop-i-preserved g c = (
@@ -24,7 +26,8 @@ loop-i-preserved g c = (
       let short = g.met.S.Space.short c.args.space.now in
       let end : c.min-end.result ≡ min (c.args.from + c.args.size) (length bytes) = omega arith in
       let kept = c.loop-i.invariant.0.bytes in
-      line_more _ _ _ bytes c.args.from c.args.size c.loop-i.i c.min-end.result c.min-count.result end (omega arith) (c.loop-i.invariant.1 bytes e) (c.in_ok-put_line.ensures.ok bytes (kept ∙ e)),
+      line_more _ _ _ bytes c.args.from c.args.size c.loop-i.i c.min-end.result c.min-count.result end (omega arith)
+      (c.loop-i.invariant.1 bytes e) (c.in_ok-put_line.ensures.ok bytes (kept ∙ e)),
 )
 
 pub returns-clause-ok : goal.returns-clause-ok
@@ -32,4 +35,5 @@ returns-clause-ok g c = λ bytes e.
     let whole = g.met.S.Space.whole c.args.space.now bytes e in
     let short = g.met.S.Space.short c.args.space.now in
     let end : c.min-end.result ≡ min (c.args.from + c.args.size) (length bytes) = omega arith in
-    lines_done _ _ bytes c.args.from c.args.size c.min-end.result c.div_ceil-lines.result c.loop-i.i end (omega arith) (omega arith) (c.loop-i.invariant.1 bytes e)
+    lines_done _ _ bytes c.args.from c.args.size c.min-end.result c.div_ceil-lines.result c.loop-i.i end (omega arith)
+    (omega arith) (c.loop-i.invariant.1 bytes e)

@@ -14,7 +14,8 @@ returns-in-Err g c = line_ends _ (Refused c.in-Err.refusal) _ (refused_types c.i
 
 pub returns-in-Ok-declared_types : goal.returns-in-Ok-declared_types
 returns-in-Ok-declared_types g c =
-    let same = ap told_lines c.as_slice.ensures.value ∙ lines_same c.in-Ok-declared_types.types.items (types_of c.in-Ok.table) c.in-Ok-declared_types.ensures in
+    let same = ap told_lines c.as_slice.ensures.value
+    ∙ lines_same c.in-Ok-declared_types.types.items (types_of c.in-Ok.table) c.in-Ok-declared_types.ensures in
     text_ends _ (told_lines c.as_slice.result.now) c.answer.result _ _ c.put_types.result
     (subst (λ text. TypesAs c.args.pickle.now (Text text)) (sym same) (told_types c.in-Ok.ensures.ok.1))
     c.put_types.ensures.ok c.put_types.ensures.err c.answer.ensures.done c.answer.ensures.failed

@@ -13,5 +13,6 @@ returns c type bound h =
     record {
       least = refl;
       size = c.or_text.ensures _ _ count
-          (c.with_parts-array.ensures _ _ (omega (arith, own, c.line_room.ensures.count)) (c.elements_size-parts.ensures _ _ count (c.move_part.ensures _ _ _ before moves h.size)));
+          (c.with_parts-array.ensures _ _ (omega (arith, own, c.line_room.ensures.count))
+          (c.elements_size-parts.ensures _ _ count (c.move_part.ensures _ _ _ before moves h.size)));
     }

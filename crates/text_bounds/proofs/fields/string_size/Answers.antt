@@ -7,5 +7,6 @@ pub returns : goal.returns
 unfolding least_width size_of
 returns c = record {
   least = refl;
-  size = c.with_parts.ensures _ no_size (omega (arith, c.string_room.ensures.count, c.line_room.ensures.count)) c.no_size.ensures;
+  size = c.with_parts.ensures _ no_size
+      (omega (arith, c.string_room.ensures.count, c.line_room.ensures.count)) c.no_size.ensures;
 }

@@ -6,8 +6,10 @@ use Rattle.text_bounds.proofs.fields.text_size.Goals as goal
 pub returns : goal.returns
 returns c =
     let line = line_room c.args.mode c.args.bits c.args.bits in
-    let same : (2 + line) + escape_room c.args.mode * c.args.count ≡ quoted_room c.args.mode c.args.count + line = omega arith in
+    let same : (2 + line) + escape_room c.args.mode * c.args.count ≡ quoted_room c.args.mode c.args.count + line =
+    omega arith in
     c.with_parts.ensures _ no_size
     (subst (λ room. IsBound c.sum_of-own.result room) same
-    (c.sum_of-own.ensures _ _ (omega (arith, c.line_room-around.ensures.count)) (c.times.ensures _ _ c.escape_room.ensures.count refl)))
+    (c.sum_of-own.ensures _ _ (omega (arith, c.line_room-around.ensures.count))
+    (c.times.ensures _ _ c.escape_room.ensures.count refl)))
     c.no_size.ensures

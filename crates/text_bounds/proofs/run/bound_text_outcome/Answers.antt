@@ -8,7 +8,8 @@ pub returns-in-Err : goal.returns-in-Err
 returns-in-Err g c = line_ends _ (Refused c.in-Err.refusal) _ (refused_text_bounds c.in-Err.ensures.err)
 
 pub returns-in-Some : goal.returns-in-Some
-returns-in-Some g c = c.bound_found.ensures c.args.pickle.now c.args.name.now (asked c.in-Ok.ensures.ok.1 c.in-Some.ensures.found)
+returns-in-Some g c =
+    c.bound_found.ensures c.args.pickle.now c.args.name.now (asked c.in-Ok.ensures.ok.1 c.in-Some.ensures.found)
 
 pub returns : goal.returns
 returns g c = line_ends _ NoSuchType _ (no_type_to_bound c.in-Ok.ensures.ok.1 c.in-None.ensures.found)

@@ -13,6 +13,7 @@ returns-then-z-from-clause-is c =
     let above = rw z at c.if-z-ge0.true in
     let from : pos 0 ≤ℤ c.args.z = omega (arith, ints, above) in
     let shift = one_shl (c.from.result - 1) 64 (omega (arith, c.from.ensures, c.requires.width.most)) in
-    let under = rw (z, to_z-of_z w128 c.from-then-z-ge0.result fits, c.from-then-z-ge0.ensures, shift, c.from.ensures) at c.if-z-from.true in
+    let under = rw (z, to_z-of_z w128 c.from-then-z-ge0.result fits, c.from-then-z-ge0.ensures, shift, c.from.ensures)
+    at c.if-z-from.true in
     let below : c.args.z <ℤ pos (2 ^ (c.args.number.width - 1)) = omega (arith, ints, under) in
     z ∙ sym (lower_half c.args.number c.args.z c.requires.width.some from below)

@@ -9,8 +9,10 @@ pub returns-then-z-lt0-clause-is : goal.returns-then-z-lt0-clause-is
 returns-then-z-lt0-clause-is c =
     let z = to_z-of_z w128 c.args.z c.ranges.z in
     let negative : c.args.z <ℤ pos 0 = omega (arith, ints, c.if-z-lt0.true) in
-    let low = c.low_digits-low.ensures.is ∙ ap (λ n. (n - 1) % 2 ^ c.args.width) (c.unsigned_abs.ensures.value ∙ ap nat_abs z) in
-    rw (c.from.ensures, c.from-then-z-lt0.ensures, low, one_shl c.args.width 128 (omega (arith, c.requires.most))) (sym (modulo_negative c.args.width c.args.z negative))
+    let low =
+    c.low_digits-low.ensures.is ∙ ap (λ n. (n - 1) % 2 ^ c.args.width) (c.unsigned_abs.ensures.value ∙ ap nat_abs z) in
+    rw (c.from.ensures, c.from-then-z-lt0.ensures, low, one_shl c.args.width 128 (omega (arith, c.requires.most)))
+    (sym (modulo_negative c.args.width c.args.z negative))
 
 pub returns-else-z-lt0-clause-is : goal.returns-else-z-lt0-clause-is
 returns-else-z-lt0-clause-is c =

@@ -3,7 +3,9 @@ use Rattle.value_text.proofs.Puts.{printed_all, printed_part}
 use Rattle.value_text.proofs.print.print_styled.Goals as goal
 
 pub returns-clause-ok : goal.returns-clause-ok
-returns-clause-ok g c = printed_all g.W.Write.contents _ _ _ c.finish.result _ _ (search rules) (search rules) (rw c.with_chars.ensures at c.put_printed.ensures) c.finish.ensures (search rules)
+returns-clause-ok g c = printed_all g.W.Write.contents _ _ _ c.finish.result _ _ (search rules) (search rules)
+    (rw c.with_chars.ensures at c.put_printed.ensures) c.finish.ensures (search rules)
 
 pub returns-clause-err : goal.returns-clause-err
-returns-clause-err g c = printed_part g.W.Write.contents _ _ _ c.finish.result _ _ (search rules) (search rules) (rw c.with_chars.ensures at c.put_printed.ensures) c.finish.ensures (search rules)
+returns-clause-err g c = printed_part g.W.Write.contents _ _ _ c.finish.result _ _ (search rules) (search rules)
+    (rw c.with_chars.ensures at c.put_printed.ensures) c.finish.ensures (search rules)

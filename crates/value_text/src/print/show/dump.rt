@@ -45,7 +45,8 @@ impl<W: Write> Printer<'_, W> {
     /// Writes the lines of an array of bytes.
     #[tactic(auto, using(crate::proofs::Puts::puts))]
     pub fn put_dump_below(&mut self, look: Look, level: u128, value: ValueRef<'_>)
-        ensures { Puts W.contents self.old self.new (codes "\n" ++ dump_of level look.elements (value_shown value.entry)) }
+        ensures { Puts W.contents self.old self.new
+            (codes "\n" ++ dump_of level look.elements (value_shown value.entry)) }
     {
         self.put(b"\n");
         self.put_dump(level, look.elements, value);
@@ -75,7 +76,8 @@ impl<W: Write> Printer<'_, W> {
     #[tactic(auto, using(crate::proofs::Puts::puts))]
     fn put_front_rows(&mut self, level: u128, rows: usize, value: ValueRef<'_>)
         requires { rows < 2 ^ 60 }
-        ensures { Puts W.contents self.old self.new (rows_of level rows (value_shown value.entry) ++ rest_at level (value_shown value.entry) (16 * rows)) }
+        ensures { Puts W.contents self.old self.new
+            (rows_of level rows (value_shown value.entry) ++ rest_at level (value_shown value.entry) (16 * rows)) }
     {
         self.put_rows(level, rows, value);
         self.put_rest_from(level, value, 16 * rows);
@@ -146,7 +148,8 @@ impl<W: Write> Printer<'_, W> {
 
     #[inline(always)]
     fn put_byte_digits(&mut self, value: ValueRef<'_>, place: usize)
-        ensures { Puts W.contents self.old self.new (digits_of_byte (member_at (members_of (value_shown value.entry)) place)) }
+        ensures { Puts W.contents self.old self.new
+            (digits_of_byte (member_at (members_of (value_shown value.entry)) place)) }
     {
         match value.members().get(place) {
             Some(element) => self.put_two_digits(char_of(element)),
@@ -172,7 +175,8 @@ impl<W: Write> Printer<'_, W> {
 
     #[inline(always)]
     fn put_letter(&mut self, value: ValueRef<'_>, place: usize)
-        ensures { Puts W.contents self.old self.new (letter_at (member_at (members_of (value_shown value.entry)) place)) }
+        ensures { Puts W.contents self.old self.new
+            (letter_at (member_at (members_of (value_shown value.entry)) place)) }
     {
         match value.members().get(place) {
             Some(element) => self.put(&[letter(char_of(element))]),

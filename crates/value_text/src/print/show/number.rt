@@ -95,7 +95,8 @@ impl<W: Write> Printer<'_, W> {
     #[tactic(auto, using(crate::proofs::Puts::puts))]
     fn put_bytes_and_bits(&mut self, bytes: u128, bits: u32)
         requires { bytes < 2 ^ 120 }
-        ensures { Puts W.contents self.old self.new (codes ", " ++ (shown_number (pos bytes) ++ (codes " B" ++ bits_after bits))) }
+        ensures { Puts W.contents self.old self.new
+            (codes ", " ++ (shown_number (pos bytes) ++ (codes " B" ++ bits_after bits))) }
     {
         self.put(b", ");
         self.put_shown_number(bytes as i128);
@@ -144,7 +145,8 @@ impl<W: Write> Printer<'_, W> {
     #[tactic(auto, using(crate::proofs::Puts::puts))]
     fn put_front(&mut self, most: usize, bytes: &[u8])
         requires { most ≤ length bytes.now }
-        ensures { Puts W.contents self.old self.new (string_text (take most bytes.now) ++ left_out (length bytes.now - most)) }
+        ensures { Puts W.contents self.old self.new
+            (string_text (take most bytes.now) ++ left_out (length bytes.now - most)) }
     {
         self.put_quoted(Escapes::Poke, &bytes[..most]);
         self.put_left_out(bytes.len() - most);

@@ -34,7 +34,8 @@ impl<W: Write> Printer<'_, W> {
 
     // Writes the elements without the zeros at the end.
     fn put_letters(&mut self, value: ValueRef<'_>)
-        ensures { Puts W.contents self.old self.new (bytes_text (trimmed (chars_in (members_of (value_shown value.entry))))) }
+        ensures { Puts W.contents self.old self.new
+            (bytes_text (trimmed (chars_in (members_of (value_shown value.entry))))) }
     {
         let count = trimmed_len(value);
         for place in 0..count {
@@ -49,7 +50,8 @@ impl<W: Write> Printer<'_, W> {
 // How many elements there are without the zeros at the end.
 fn trimmed_len(value: ValueRef<'_>) -> usize
     ensures most { result ≤ member_count (members_of (value_shown value.entry)) }
-    ensures text { take result (chars_in (members_of (value_shown value.entry))) ≡ trimmed (chars_in (members_of (value_shown value.entry))) }
+    ensures text { take result (chars_in (members_of (value_shown value.entry)))
+        ≡ trimmed (chars_in (members_of (value_shown value.entry))) }
 {
     let mut end = 0;
     for place in 0..value.len() {

@@ -23,7 +23,8 @@ impl<W: Write> Printer<'_, W> {
     /// Writes the type of a value. `inner` is whether it is an element, whose type its array names.
     #[inline(always)]
     pub fn put_type(&mut self, look: Look, inner: bool, value: Typed<'_>)
-        ensures { Puts W.contents self.old self.new (type_at (look_at look value.entry) inner (node_in value.entry) (mapped_in value.entry)) }
+        ensures { Puts W.contents self.old self.new
+            (type_at (look_at look value.entry) inner (node_in value.entry) (mapped_in value.entry)) }
     {
         if inner {
             return self.put_inner_type(look.dim, value.value());
@@ -119,7 +120,8 @@ impl<W: Write> Printer<'_, W> {
 
     #[tactic(auto, using(crate::proofs::Puts::puts))]
     fn put_array_word(&mut self, types: &Types<'_>, of: usize, count: usize)
-        ensures { Puts W.contents self.old self.new (some_word (known_of types.now) (node_part (nodes_in types.now) of 0) ++ in_brackets count) }
+        ensures { Puts W.contents self.old self.new
+            (some_word (known_of types.now) (node_part (nodes_in types.now) of 0) ++ in_brackets count) }
     {
         self.put_some_word(types, part_node(types.nodes(), of, 0));
         self.put_in_brackets(count);

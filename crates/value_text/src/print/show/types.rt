@@ -32,7 +32,8 @@ impl<W: Write> Printer<'_, W> {
     #[inline(always)]
     #[cycle(words)]
     fn put_found_word(&mut self, levels: u32, types: &Types<'_>, of: usize)
-        ensures { Puts W.contents self.old self.new (found_word (node_word levels (known_of types.now)) (slice_get (nodes_in types.now) of)) }
+        ensures { Puts W.contents self.old self.new
+            (found_word (node_word levels (known_of types.now)) (slice_get (nodes_in types.now) of)) }
     {
         match types.nodes().get(of) {
             Some(node) => self.put_shape_word(levels, types, &node.shape),
@@ -76,7 +77,8 @@ impl<W: Write> Printer<'_, W> {
 
     #[tactic(auto, using(crate::proofs::Puts::puts))]
     fn put_integral_word(&mut self, name: &Option<Name>, ty: IntegerType)
-        ensures { Puts W.contents self.old self.new (title_text (codes "struct") (name_of name.now) ++ (codes " " ++ integer_word ty)) }
+        ensures { Puts W.contents self.old self.new
+            (title_text (codes "struct") (name_of name.now) ++ (codes " " ++ integer_word ty)) }
     {
         self.put_sort(b"struct", name);
         self.put(b" ");

@@ -9,7 +9,8 @@ pub returns : goal.returns
 returns c =
     let start = c.described-command.ensures in
     IfOk-weaker c.arg-7.result _ _ (λ made last without.
-    let mapped = c.in_ok-with_mapping.ensures (new_app (codes "each")) (repeated get_rule) without start c.paths.ensures in
+    let mapped =
+    c.in_ok-with_mapping.ensures (new_app (codes "each")) (repeated get_rule) without start c.paths.ensures in
     let a1 = added _ _ _ _ _ c.in_ok-command.ensures mapped c.absent.ensures in
     let styled = c.in_ok-with_style.ensures _ (line_mode_rule c.args.choices) a1 c.mode.ensures in
     let b1 = added _ _ _ _ _ c.in_ok-arg.ensures styled c.why.ensures in

@@ -9,7 +9,8 @@ pub returns : goal.returns
 returns c =
     let start = c.described-command.ensures in
     IfOk-weaker c.arg-7.result _ _ (λ made last without.
-    let mapped = c.in_ok-with_mapping.ensures (new_app (codes "map")) (repeated get_rule) without start c.parts.ensures in
+    let mapped =
+    c.in_ok-with_mapping.ensures (new_app (codes "map")) (repeated get_rule) without start c.parts.ensures in
     let a1 = added _ _ _ _ _ c.in_ok-arg.ensures mapped (c.in_ok-rows.ensures without) in
     let a2 = added _ _ _ _ _ c.in_ok-arg-2.ensures a1 (c.in_ok-header.ensures without) in
     let a3 = added _ _ _ _ _ c.in_ok-command.ensures a2 c.absent.ensures in

@@ -5,4 +5,5 @@ use Rattle.command_line.proofs.words.line.command_line.Given as goal
 
 abbrev pub invariant-loop-word : goal.invariant-loop-word
 invariant-loop-word l =
-    map string_bytes l.line.items ++ spelled_words l.place (map string_bytes (drop l.word-index l.words)) ≡ codes "poke_batch" ∷ spelled_words Options (map string_bytes l.words)
+    map string_bytes l.line.items ++ spelled_words l.place (map string_bytes (drop l.word-index l.words))
+    ≡ codes "poke_batch" ∷ spelled_words Options (map string_bytes l.words)

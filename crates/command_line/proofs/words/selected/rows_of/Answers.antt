@@ -8,4 +8,6 @@ pub returns-in_err-check_mode-clause-misread : goal.returns-in_err-check_mode-cl
 returns-in_err-check_mode-clause-misread c =
     let Has : List ℕ → Type 0 = λ mode. HasRows mode c.flag_of-header.result in
     passed _ _ _ _ _ _ c.from_residual.ensures.1
-    (λ wrong. mode_wrong c.flag_of-header.result c.flag_of-header.ensures (λ has. wrong (subst Has (sym c.word.ensures) has))) (λ never. never) c.in_err-check_mode.ensures.misread
+    (λ wrong.
+    mode_wrong c.flag_of-header.result c.flag_of-header.ensures (λ has. wrong (subst Has (sym c.word.ensures) has)))
+    (λ never. never) c.in_err-check_mode.ensures.misread

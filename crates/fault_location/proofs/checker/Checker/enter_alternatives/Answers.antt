@@ -15,6 +15,8 @@ loop-index-init g c = record {
 
 pub returns-then-index-place-clause-goes_on : goal.returns-then-index-place-clause-goes_on
 returns-then-index-place-clause-goes_on g c =
-    let part = of_one (IsPartOf c.args.self.now.nodes.now (level_count c.args.self.now.store.now)) c.args.alternatives.now c.loop-index.index c.index-alternatives-index.result c.requires.alternatives (omega arith) c.index-alternatives-index.is in
+    let part = of_one (IsPartOf c.args.self.now.nodes.now (level_count c.args.self.now.store.now))
+    c.args.alternatives.now c.loop-index.index c.index-alternatives-index.result c.requires.alternatives (omega arith)
+    c.index-alternatives-index.is in
     let part = rw (← c.loop-index.invariant.depth) at part in
     c.enter_alternative.ensures.goes_on c.args.self.now.nodes.now (level_count c.loop-index.self.store.now) part

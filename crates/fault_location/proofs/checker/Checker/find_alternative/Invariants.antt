@@ -13,9 +13,14 @@ invariant-loop-place g l = record {
   frame : Frame (g.S.Space.view l.initial.space) (g.S.Space.view l.space) l.initial.self l.self;
   depth : level_count l.self.store.now ≡ level_count l.initial.self.store.now;
   same : frames_after l.initial.self l.self ≡ frames_of l.initial.self;
-  so_far : OnBits (g.S.Space.view l.initial.space) (λ bits. MissesBefore bits l.whole.order (open_parts (type_of l.initial.self.nodes.now) l.alternatives) (frames_of l.initial.self) l.whole.start l.place
+  so_far : OnBits (g.S.Space.view l.initial.space) (λ bits. MissesBefore bits l.whole.order
+      (open_parts (type_of l.initial.self.nodes.now) l.alternatives) (frames_of l.initial.self) l.whole.start l.place
       (open_parts (type_of l.initial.self.nodes.now) (drop l.place l.alternatives)));
   spent : OnBits (g.S.Space.view l.initial.space) (λ bits.
-      l.self.meter.now.steps + alternatives_search bits (open_parts (type_of l.initial.self.nodes.now) (drop l.place l.alternatives)) l.whole.order (frames_of l.initial.self) l.whole.start
-      ≤ l.initial.self.meter.now.steps + alternatives_search bits (open_parts (type_of l.initial.self.nodes.now) l.alternatives) l.whole.order (frames_of l.initial.self) l.whole.start);
+      l.self.meter.now.steps
+      + alternatives_search bits (open_parts (type_of l.initial.self.nodes.now) (drop l.place l.alternatives))
+      l.whole.order (frames_of l.initial.self) l.whole.start
+      ≤ l.initial.self.meter.now.steps
+      + alternatives_search bits (open_parts (type_of l.initial.self.nodes.now) l.alternatives) l.whole.order
+      (frames_of l.initial.self) l.whole.start);
 }

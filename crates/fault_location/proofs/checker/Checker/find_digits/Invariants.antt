@@ -12,8 +12,12 @@ invariant-loop-place l = record {
   frame : WorkFrame l.initial.self l.self;
   depth : level_count l.self.store.now ≡ level_count l.initial.self.store.now;
   few : l.left ≤ 64;
-  before : DigitsBefore l.digits l.start (open_parts (type_of l.initial.self.nodes.now) l.fields) l.width (frames_of l.initial.self) l.place
-      (open_parts (type_of l.initial.self.nodes.now) (drop l.place l.fields)) l.left (frames_after l.initial.self l.self);
-  spent : l.self.meter.now.steps + digits_search (open_parts (type_of l.initial.self.nodes.now) (drop l.place l.fields)) l.digits l.left (frames_after l.initial.self l.self) l.start
-      ≤ l.initial.self.meter.now.steps + digits_search (open_parts (type_of l.initial.self.nodes.now) l.fields) l.digits l.width (frames_of l.initial.self) l.start;
+  before : DigitsBefore l.digits l.start (open_parts (type_of l.initial.self.nodes.now) l.fields) l.width
+      (frames_of l.initial.self) l.place
+      (open_parts (type_of l.initial.self.nodes.now) (drop l.place l.fields)) l.left
+      (frames_after l.initial.self l.self);
+  spent : l.self.meter.now.steps + digits_search (open_parts (type_of l.initial.self.nodes.now) (drop l.place l.fields))
+      l.digits l.left (frames_after l.initial.self l.self) l.start
+      ≤ l.initial.self.meter.now.steps + digits_search (open_parts (type_of l.initial.self.nodes.now) l.fields) l.digits
+      l.width (frames_of l.initial.self) l.start;
 }

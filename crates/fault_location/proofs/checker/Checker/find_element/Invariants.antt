@@ -16,10 +16,14 @@ invariant-loop-elements g l = record {
   depth : level_count l.self.store.now ≡ level_count l.initial.self.store.now;
   counted : l.count + l.elements.start ≤ l.behind;
   before : OnBits (g.S.Space.view l.initial.space) (λ bits.
-      ElementsTo bits (type_of l.initial.self.nodes.now l.elements.element) l.elements.order l.elements.start l.elements.extent (frames_of l.initial.self) (frames_after l.initial.self l.self) l.count l.behind);
+      ElementsTo bits (type_of l.initial.self.nodes.now l.elements.element) l.elements.order l.elements.start
+      l.elements.extent (frames_of l.initial.self) (frames_after l.initial.self l.self) l.count l.behind);
   spent : OnBits (g.S.Space.view l.initial.space) (λ bits. (left : ℕ) × (left + l.count ≡ length bits)
-      × (l.self.meter.now.steps + among bits (type_of l.initial.self.nodes.now l.elements.element) l.elements.order l.elements.start l.elements.extent (suc left) l.count (frames_after l.initial.self l.self) l.behind
-      ≤ l.initial.self.meter.now.steps + among bits (type_of l.initial.self.nodes.now l.elements.element) l.elements.order l.elements.start l.elements.extent (suc (length bits)) 0 (frames_of l.initial.self) l.elements.start));
+      × (l.self.meter.now.steps + among bits (type_of l.initial.self.nodes.now l.elements.element) l.elements.order
+      l.elements.start l.elements.extent (suc left) l.count (frames_after l.initial.self l.self) l.behind
+      ≤ l.initial.self.meter.now.steps
+      + among bits (type_of l.initial.self.nodes.now l.elements.element) l.elements.order l.elements.start
+      l.elements.extent (suc (length bits)) 0 (frames_of l.initial.self) l.elements.start));
 }
 
 abbrev pub decreases-loop-elements : goal.decreases-loop-elements

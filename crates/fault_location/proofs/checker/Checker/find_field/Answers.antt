@@ -22,8 +22,10 @@ returns-in-Beside-clause-is g c =
     let next = drop_more c.args.fields.now c.loop-place.place c.index-fields-place.result (omega arith) in
     let next = rw (← c.index-fields-place.is) at next in
     let before = rw next at (i.so_far bytes known) in
-    let beside = rw (i.frame.lent.nodes, c.in-Beside.is) at (c.in_ok-end.ensures.is bytes (i.frame.left.bytes ∙ known)) in
-    field_found [] before (beside (open_fields (type_of c.args.self.now.nodes.now) (drop (c.loop-place.place + 1) c.args.fields.now)))
+    let beside =
+    rw (i.frame.lent.nodes, c.in-Beside.is) at (c.in_ok-end.ensures.is bytes (i.frame.left.bytes ∙ known)) in
+    field_found [] before
+    (beside (open_fields (type_of c.args.self.now.nodes.now) (drop (c.loop-place.place + 1) c.args.fields.now)))
 
 pub returns-in-Inside-clause-is : goal.returns-in-Inside-clause-is
 returns-in-Inside-clause-is g c =
@@ -32,8 +34,10 @@ returns-in-Inside-clause-is g c =
     let next = drop_more c.args.fields.now c.loop-place.place c.index-fields-place.result (omega arith) in
     let next = rw (← c.index-fields-place.is) at next in
     let before = rw next at (i.so_far bytes known) in
-    let inside = rw (i.frame.lent.nodes, c.in-Inside.is) at (c.in_ok-end.ensures.is bytes (i.frame.left.bytes ∙ known)) in
-    rw c.field_part-part.ensures.inner_is (field_found _ before (inside (open_fields (type_of c.args.self.now.nodes.now) (drop (c.loop-place.place + 1) c.args.fields.now))))
+    let inside =
+    rw (i.frame.lent.nodes, c.in-Inside.is) at (c.in_ok-end.ensures.is bytes (i.frame.left.bytes ∙ known)) in
+    rw c.field_part-part.ensures.inner_is (field_found _ before
+    (inside (open_fields (type_of c.args.self.now.nodes.now) (drop (c.loop-place.place + 1) c.args.fields.now))))
 
 pub returns-clause-is : goal.returns-clause-is
 returns-clause-is g c =
@@ -52,11 +56,13 @@ loop-place-preserved g c =
       depth = search rules;
       so_far = λ bytes known.
           let before = rw next at (i.so_far bytes known) in
-          let passed = rw (i.frame.lent.nodes, c.in-Passed.is) at (c.in_ok-end.ensures.is bytes (i.frame.left.bytes ∙ known)) in
+          let passed =
+          rw (i.frame.lent.nodes, c.in-Passed.is) at (c.in_ok-end.ensures.is bytes (i.frame.left.bytes ∙ known)) in
           passed _ _ _ _ before;
       spent = λ bytes known.
           let spent = rw next at (i.spent bytes known) in
-          let one = rw (i.frame.lent.nodes, c.in-Passed.is) at (c.in_ok-end.ensures.spends bytes (i.frame.left.bytes ∙ known) rest) in
+          let one = rw (i.frame.lent.nodes, c.in-Passed.is)
+          at (c.in_ok-end.ensures.spends bytes (i.frame.left.bytes ∙ known) rest) in
           omega (arith, spent, one);
     }
 
@@ -67,7 +73,8 @@ returns-in-Beside-clause-spends g c =
     let next = drop_more c.args.fields.now c.loop-place.place c.index-fields-place.result (omega arith) in
     let next = rw (← c.index-fields-place.is) at next in
     let spent = rw next at (i.spent bytes known) in
-    let one = rw (i.frame.lent.nodes, c.in-Beside.is) at (c.in_ok-end.ensures.spends bytes (i.frame.left.bytes ∙ known) (open_fields (type_of c.args.self.now.nodes.now) (drop (c.loop-place.place + 1) c.args.fields.now))) in
+    let one = rw (i.frame.lent.nodes, c.in-Beside.is) at (c.in_ok-end.ensures.spends bytes (i.frame.left.bytes ∙ known)
+    (open_fields (type_of c.args.self.now.nodes.now) (drop (c.loop-place.place + 1) c.args.fields.now))) in
     omega (arith, spent, one)
 
 pub returns-in-Inside-clause-spends : goal.returns-in-Inside-clause-spends
@@ -77,7 +84,8 @@ returns-in-Inside-clause-spends g c =
     let next = drop_more c.args.fields.now c.loop-place.place c.index-fields-place.result (omega arith) in
     let next = rw (← c.index-fields-place.is) at next in
     let spent = rw next at (i.spent bytes known) in
-    let one = rw (i.frame.lent.nodes, c.in-Inside.is) at (c.in_ok-end.ensures.spends bytes (i.frame.left.bytes ∙ known) (open_fields (type_of c.args.self.now.nodes.now) (drop (c.loop-place.place + 1) c.args.fields.now))) in
+    let one = rw (i.frame.lent.nodes, c.in-Inside.is) at (c.in_ok-end.ensures.spends bytes (i.frame.left.bytes ∙ known)
+    (open_fields (type_of c.args.self.now.nodes.now) (drop (c.loop-place.place + 1) c.args.fields.now))) in
     rw c.field_part-part.ensures.inner_is (omega (arith, spent, one))
 
 pub returns-clause-spends : goal.returns-clause-spends
@@ -98,5 +106,6 @@ returns-in_err-end-clause-spends g c =
     let spent = rw next at (i.spent bytes known) in
     let one = rw i.frame.lent.nodes at (c.in_err-end.ensures.spends bytes (i.frame.left.bytes ∙ known) rest) in
     rw (p.1, p.2)
-    (later_ends (g.S.Space.view c.args.space.now) (g.S.Space.view c.loop-place.space) (g.S.Space.view c.try_field.new.space) c.args.self.now.meter.now c.loop-place.self.meter.now _ _ _
+    (later_ends (g.S.Space.view c.args.space.now) (g.S.Space.view c.loop-place.space)
+    (g.S.Space.view c.try_field.new.space) c.args.self.now.meter.now c.loop-place.self.meter.now _ _ _
     i.frame.left.failures c.in_err-end.ensures.frame.left.failures i.frame.left.limit (omega (arith, spent)) one)

@@ -9,7 +9,8 @@ pub returns-then-is_integral-clause-is : goal.returns-then-is_integral-clause-is
 returns-then-is_integral-clause-is g c =
     λ yes bytes e.
     let i = c.loop-step.invariant in
-    let arises = rw (i.frame.lent.nodes, path_from c.args.path.now c.loop-step.step) at (c.is_in_digits.ensures.is yes bytes (i.frame.left.bytes ∙ e)) in
+    let arises = rw (i.frame.lent.nodes, path_from c.args.path.now c.loop-step.step)
+    at (c.is_in_digits.ensures.is yes bytes (i.frame.left.bytes ∙ e)) in
     i.so_far bytes e (in_part arises)
 
 pub returns-in-There-clause-is : goal.returns-in-There-clause-is

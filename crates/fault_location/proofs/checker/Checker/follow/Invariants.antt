@@ -9,6 +9,7 @@ abbrev pub invariant-loop-step : goal.invariant-loop-step
 invariant-loop-step g l = record {
   frame : Frame (g.S.Space.view l.initial.space) (g.S.Space.view l.space) l.initial.self l.self;
   part : IsPart l.initial.self.nodes.now (level_count l.self.store.now) l.part;
-  so_far : OnBits (g.S.Space.view l.initial.space) (λ bits. InPart bits l.initial.self.nodes.now (frames_after l.initial.self l.self) l.part (fault_of l.fault) (drop l.step l.path)
+  so_far : OnBits (g.S.Space.view l.initial.space) (λ bits. InPart bits l.initial.self.nodes.now
+      (frames_after l.initial.self l.self) l.part (fault_of l.fault) (drop l.step l.path)
       → InPart bits l.initial.self.nodes.now (frames_of l.initial.self) l.whole (fault_of l.fault) l.path);
 }

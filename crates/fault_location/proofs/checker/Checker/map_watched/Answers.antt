@@ -8,14 +8,21 @@ pub returns : goal.returns
 returns g c = record {
   frame = search rules;
   ends = search rules;
-  is = comes_mapped c.args.self.now.nodes.now (g.S.Space.view c.args.space.now) c.args.self.now.meter.now c.map_type.new.self.meter.now c.args.self.now.store.now c.map_type.new.self.store.now
-      c.args.inner.node c.args.inner.order c.args.inner.start (g.met.S.Space.whole c.args.space.now) c.map_type.result c.map_type.ensures.is;
+  is = comes_mapped c.args.self.now.nodes.now (g.S.Space.view c.args.space.now) c.args.self.now.meter.now
+      c.map_type.new.self.meter.now c.args.self.now.store.now c.map_type.new.self.store.now
+      c.args.inner.node c.args.inner.order c.args.inner.start (g.met.S.Space.whole c.args.space.now) c.map_type.result
+      c.map_type.ensures.is;
   level = search rules;
   outer = record {
-    outer = outer_mapped c.args.self.now.nodes.now (g.S.Space.view c.args.space.now) c.args.self.now.meter.now c.map_type.new.self.meter.now c.args.self.now.store.now c.map_type.new.self.store.now
-        (as_type c.args.inner.node c.args.inner.order c.args.inner.start) c.map_type.result c.map_type.ensures.is c.map_type.ensures.level.same;
+    outer = outer_mapped c.args.self.now.nodes.now (g.S.Space.view c.args.space.now) c.args.self.now.meter.now
+        c.map_type.new.self.meter.now c.args.self.now.store.now c.map_type.new.self.store.now
+        (as_type c.args.inner.node c.args.inner.order c.args.inner.start) c.map_type.result c.map_type.ensures.is
+        c.map_type.ensures.level.same;
     depth = search rules;
   };
-  spends = mapped_spends c.args.self.now.nodes.now (g.S.Space.view c.args.space.now) (g.S.Space.view c.map_type.new.space) c.args.self.now.meter.now c.map_type.new.self.meter.now c.args.self.now.store.now c.map_type.new.self.store.now
-      c.args.inner.node c.args.inner.order c.args.inner.start (g.met.S.Space.whole c.args.space.now) c.map_type.result c.map_type.ensures.is c.map_type.ensures.frame.left.device;
+  spends =
+      mapped_spends c.args.self.now.nodes.now (g.S.Space.view c.args.space.now) (g.S.Space.view c.map_type.new.space)
+      c.args.self.now.meter.now c.map_type.new.self.meter.now c.args.self.now.store.now c.map_type.new.self.store.now
+      c.args.inner.node c.args.inner.order c.args.inner.start (g.met.S.Space.whole c.args.space.now) c.map_type.result
+      c.map_type.ensures.is c.map_type.ensures.frame.left.device;
 }

@@ -15,7 +15,8 @@ invariant-loop-self g l = record {
   depth : level_count l.self.store.now ≡ level_count l.initial.self.store.now;
   counted : l.count + l.elements.start ≤ l.behind;
   before : OnBits (g.S.Space.view l.initial.space) (λ bits.
-      ElementsTo bits (type_of l.initial.self.nodes.now l.elements.element) l.elements.order l.elements.start l.elements.extent (frames_of l.initial.self) (frames_after l.initial.self l.self) l.count l.behind);
+      ElementsTo bits (type_of l.initial.self.nodes.now l.elements.element) l.elements.order l.elements.start
+      l.elements.extent (frames_of l.initial.self) (frames_after l.initial.self l.self) l.count l.behind);
 }
 
 abbrev pub decreases-loop-self : goal.decreases-loop-self

@@ -18,7 +18,12 @@ loop-index-preserved c =
       frame = search rules;
       depth = search rules;
       few = search rules;
-      before = digits_more c.args.self.now.nodes.now c.args.fields.now c.args.digits c.args.start c.args.width c.loop-index.index c.loop-index.left c.first_digits-cut.result c.width_at-width.result c.saturating_sub-left.result
-          (open_parts (type_of c.args.self.now.nodes.now) c.args.fields.now) (frames_of c.args.self.now) (frames_after c.args.self.now c.loop-index.self) (frames_after c.args.self.now c.try_digits.new.self)
-          c.index-fields-index.result next c.width_at-width.ensures.is c.first_digits-cut.ensures.is c.saturating_sub-left.ensures i.before (rw (i.frame.lent.nodes, c.in-Ok-Passed.field-0-is) at c.in-Ok-Passed.ensures.is);
+      before = digits_more c.args.self.now.nodes.now c.args.fields.now c.args.digits c.args.start c.args.width
+          c.loop-index.index c.loop-index.left c.first_digits-cut.result c.width_at-width.result
+          c.saturating_sub-left.result
+          (open_parts (type_of c.args.self.now.nodes.now) c.args.fields.now) (frames_of c.args.self.now)
+          (frames_after c.args.self.now c.loop-index.self) (frames_after c.args.self.now c.try_digits.new.self)
+          c.index-fields-index.result next c.width_at-width.ensures.is c.first_digits-cut.ensures.is
+          c.saturating_sub-left.ensures i.before
+          (rw (i.frame.lent.nodes, c.in-Ok-Passed.field-0-is) at c.in-Ok-Passed.ensures.is);
     }

@@ -11,6 +11,8 @@ invariant-loop-index l = record {
   frame : WorkFrame l.initial.self l.self;
   depth : level_count l.self.store.now ≡ level_count l.initial.self.store.now;
   few : l.left ≤ 64;
-  before : DigitsBefore l.digits l.start (open_parts (type_of l.initial.self.nodes.now) l.fields) l.width (frames_of l.initial.self) l.index
-      (open_parts (type_of l.initial.self.nodes.now) (drop l.index l.fields)) l.left (frames_after l.initial.self l.self);
+  before : DigitsBefore l.digits l.start (open_parts (type_of l.initial.self.nodes.now) l.fields) l.width
+      (frames_of l.initial.self) l.index
+      (open_parts (type_of l.initial.self.nodes.now) (drop l.index l.fields)) l.left
+      (frames_after l.initial.self l.self);
 }

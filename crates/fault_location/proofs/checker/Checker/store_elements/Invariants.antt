@@ -14,5 +14,6 @@ invariant-loop-place g l = record {
   inside : l.behind ≤ 8 * (g.S.Space.view l.initial.space).len;
   depth : level_count l.self.store.now ≡ level_count l.initial.self.store.now;
   before : OnBits (g.S.Space.view l.initial.space) (λ bits.
-      ElementsTo bits (type_of l.initial.self.nodes.now l.elements.element) l.elements.order l.elements.start l.elements.extent (frames_of l.initial.self) (frames_after l.initial.self l.self) l.place l.behind);
+      ElementsTo bits (type_of l.initial.self.nodes.now l.elements.element) l.elements.order l.elements.start
+      l.elements.extent (frames_of l.initial.self) (frames_after l.initial.self l.self) l.place l.behind);
 }

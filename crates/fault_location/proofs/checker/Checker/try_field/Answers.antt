@@ -19,37 +19,63 @@ pub returns-in-Ok-find_start-clause-is : goal.returns-in-Ok-find_start-clause-is
 returns-in-Ok-find_start-clause-is g c =
     let there = rw c.in-Ok-true.field-0-test at (c.in-Ok-true.ensures.is c.args.self.now.nodes.now) in
     let tries = rw (c.field_part.ensures.inner_is, c.field_part.ensures.clause_is) at c.try_part.ensures.is in
-    fields_tried (g.S.Space.view c.args.space.now) c.args.self.now.nodes.now c.args.whole.pinned c.args.whole.start c.args.whole.order c.args.field.now (frames_of c.args.self.now) c.args.behind
-    (frames_after c.args.self.now c.try_part.new.self) c.in-Ok-find_start.start there (c.in-Ok-find_start.ensures.is c.args.self.now.nodes.now) c.try_part.result tries
+    fields_tried (g.S.Space.view c.args.space.now) c.args.self.now.nodes.now c.args.whole.pinned c.args.whole.start
+    c.args.whole.order c.args.field.now (frames_of c.args.self.now) c.args.behind
+    (frames_after c.args.self.now c.try_part.new.self) c.in-Ok-find_start.start there
+    (c.in-Ok-find_start.ensures.is c.args.self.now.nodes.now) c.try_part.result tries
 
 pub returns-in-Ok-find_start-clause-spends : goal.returns-in-Ok-find_start-clause-spends
 returns-in-Ok-find_start-clause-spends g c =
     let there = rw c.in-Ok-true.field-0-test at (c.in-Ok-true.ensures.is c.args.self.now.nodes.now) in
     let tries = rw (c.field_part.ensures.inner_is, c.field_part.ensures.clause_is) at c.try_part.ensures.is in
     λ bytes known rest.
-    let tries = on_known (g.S.Space.view c.args.space.now) (λ found bits. TriesAs bits (type_of c.args.self.now.nodes.now c.args.field.now.node) (optional_term c.args.field.now.constraint) (ordered c.args.field.now.order c.args.whole.order)
-    (frames_of c.args.self.now) (frames_after c.args.self.now c.try_part.new.self) c.in-Ok-find_start.start found) c.try_part.result tries bytes known in
-    let searches = rw (c.field_part.ensures.inner_is, c.field_part.ensures.clause_is) at (c.try_part.ensures.spends bytes known) in
-    field_searched (bits_of bytes) c.args.self.now.nodes.now c.args.whole.pinned c.args.whole.start c.args.whole.order c.args.field.now (frames_of c.args.self.now) c.args.behind rest c.in-Ok-find_start.start there
-    (c.in-Ok-find_start.ensures.is c.args.self.now.nodes.now) (frames_after c.args.self.now c.try_part.new.self) c.find_start.new.meter.limit c.args.self.now.meter.now.limit c.args.self.now.meter.now.steps c.is_there.new.meter.steps c.find_start.new.meter.steps c.try_part.new.self.meter.now.steps
-    c.try_part.result (λ d. d) (c.in-Ok-find_start.ensures.limit ∙ c.in-Ok-true.ensures.limit) (c.in-Ok-true.ensures.spends c.args.self.now.nodes.now) (c.in-Ok-find_start.ensures.spends c.args.self.now.nodes.now) tries searches
+    let tries = on_known (g.S.Space.view c.args.space.now) (λ found bits.
+    TriesAs bits (type_of c.args.self.now.nodes.now c.args.field.now.node) (optional_term c.args.field.now.constraint)
+    (ordered c.args.field.now.order c.args.whole.order)
+    (frames_of c.args.self.now) (frames_after c.args.self.now c.try_part.new.self) c.in-Ok-find_start.start found)
+    c.try_part.result tries bytes known in
+    let searches =
+    rw (c.field_part.ensures.inner_is, c.field_part.ensures.clause_is) at (c.try_part.ensures.spends bytes known) in
+    field_searched (bits_of bytes) c.args.self.now.nodes.now c.args.whole.pinned c.args.whole.start c.args.whole.order
+    c.args.field.now (frames_of c.args.self.now) c.args.behind rest c.in-Ok-find_start.start there
+    (c.in-Ok-find_start.ensures.is c.args.self.now.nodes.now) (frames_after c.args.self.now c.try_part.new.self)
+    c.find_start.new.meter.limit c.args.self.now.meter.now.limit c.args.self.now.meter.now.steps
+    c.is_there.new.meter.steps c.find_start.new.meter.steps c.try_part.new.self.meter.now.steps
+    c.try_part.result (λ d. d) (c.in-Ok-find_start.ensures.limit ∙ c.in-Ok-true.ensures.limit)
+    (c.in-Ok-true.ensures.spends c.args.self.now.nodes.now)
+    (c.in-Ok-find_start.ensures.spends c.args.self.now.nodes.now) tries searches
 
 pub returns-in_err-fault_in-in-Err-clause-spends : goal.returns-in_err-fault_in-in-Err-clause-spends
 returns-in_err-fault_in-in-Err-clause-spends g c =
     let p = err_from_is_err_and c.from_residual.result c.from_residual.ensures.1 in
     λ bytes known rest.
-    let least = when_least (bits_of bytes) c.args.self.now.nodes.now c.args.whole.pinned c.args.whole.start c.args.whole.order c.args.field.now (frames_of c.args.self.now) c.args.behind rest in
+    let least = when_least (bits_of bytes) c.args.self.now.nodes.now c.args.whole.pinned c.args.whole.start
+    c.args.whole.order c.args.field.now (frames_of c.args.self.now) c.args.behind rest in
     rw (p.1, p.2)
-    (stop_ends c.args.self.now.meter.now.limit c.args.self.now.meter.now.limit c.args.self.now.meter.now.steps c.args.self.now.meter.now.steps c.is_there.new.meter.steps (when_steps (bits_of bytes) c.args.self.now.nodes.now c.args.whole.pinned c.args.whole.start c.args.whole.order c.args.field.now (frames_of c.args.self.now) c.args.behind rest)
-    (fields_from (bits_of bytes) c.args.self.now.nodes.now c.args.whole.pinned c.args.whole.start c.args.whole.order c.args.field.now (frames_of c.args.self.now) c.args.behind rest) c.in-Err.stop _ c.in_err-fault_in-in-Err.ensures none_of refl (omega (arith, least)) (c.in-Err.ensures.spends c.args.self.now.nodes.now))
+    (stop_ends c.args.self.now.meter.now.limit c.args.self.now.meter.now.limit c.args.self.now.meter.now.steps
+    c.args.self.now.meter.now.steps c.is_there.new.meter.steps
+    (when_steps (bits_of bytes) c.args.self.now.nodes.now c.args.whole.pinned c.args.whole.start c.args.whole.order
+    c.args.field.now (frames_of c.args.self.now) c.args.behind rest)
+    (fields_from (bits_of bytes) c.args.self.now.nodes.now c.args.whole.pinned c.args.whole.start c.args.whole.order
+    c.args.field.now (frames_of c.args.self.now) c.args.behind rest) c.in-Err.stop _ c.in_err-fault_in-in-Err.ensures
+    none_of refl (omega (arith, least)) (c.in-Err.ensures.spends c.args.self.now.nodes.now))
 
-pub returns-in_err-fault_in-in-Err-find_start-clause-spends : goal.returns-in_err-fault_in-in-Err-find_start-clause-spends
+pub returns-in_err-fault_in-in-Err-find_start-clause-spends :
+    goal.returns-in_err-fault_in-in-Err-find_start-clause-spends
 returns-in_err-fault_in-in-Err-find_start-clause-spends g c =
-    let p = err_from_is_err_and c.from_residual-in_err-fault_in-in-Err-find_start.result c.from_residual-in_err-fault_in-in-Err-find_start.ensures.1 in
+    let p = err_from_is_err_and c.from_residual-in_err-fault_in-in-Err-find_start.result
+    c.from_residual-in_err-fault_in-in-Err-find_start.ensures.1 in
     let there = rw c.in-Ok-true.field-0-test at (c.in-Ok-true.ensures.is c.args.self.now.nodes.now) in
     let took = c.in-Ok-true.ensures.spends c.args.self.now.nodes.now in
     λ bytes known rest.
-    let least = label_least (bits_of bytes) c.args.self.now.nodes.now c.args.whole.pinned c.args.whole.start c.args.whole.order c.args.field.now (frames_of c.args.self.now) c.args.behind rest there in
+    let least = label_least (bits_of bytes) c.args.self.now.nodes.now c.args.whole.pinned c.args.whole.start
+    c.args.whole.order c.args.field.now (frames_of c.args.self.now) c.args.behind rest there in
     rw (p.1, p.2)
-    (stop_ends c.is_there.new.meter.limit c.args.self.now.meter.now.limit c.is_there.new.meter.steps c.args.self.now.meter.now.steps c.find_start.new.meter.steps (start_steps (bits_of bytes) c.args.self.now.nodes.now c.args.whole.pinned c.args.whole.start c.args.whole.order c.args.field.now (frames_of c.args.self.now) c.args.behind rest)
-    (fields_from (bits_of bytes) c.args.self.now.nodes.now c.args.whole.pinned c.args.whole.start c.args.whole.order c.args.field.now (frames_of c.args.self.now) c.args.behind rest) c.in-Err-find_start.stop _ c.in_err-fault_in-in-Err-find_start.ensures none_of c.in-Ok-true.ensures.limit (omega (arith, took, least)) (c.in-Err-find_start.ensures.spends c.args.self.now.nodes.now))
+    (stop_ends c.is_there.new.meter.limit c.args.self.now.meter.now.limit c.is_there.new.meter.steps
+    c.args.self.now.meter.now.steps c.find_start.new.meter.steps
+    (start_steps (bits_of bytes) c.args.self.now.nodes.now c.args.whole.pinned c.args.whole.start c.args.whole.order
+    c.args.field.now (frames_of c.args.self.now) c.args.behind rest)
+    (fields_from (bits_of bytes) c.args.self.now.nodes.now c.args.whole.pinned c.args.whole.start c.args.whole.order
+    c.args.field.now (frames_of c.args.self.now) c.args.behind rest)
+    c.in-Err-find_start.stop _ c.in_err-fault_in-in-Err-find_start.ensures none_of c.in-Ok-true.ensures.limit
+    (omega (arith, took, least)) (c.in-Err-find_start.ensures.spends c.args.self.now.nodes.now))

@@ -7,15 +7,22 @@ use Rattle.fault_report.proofs.mapping.TypeMapping.again.Goals as goal
 
 pub returns-clause-fault : goal.returns-clause-fault
 returns-clause-fault g c =
-    fault_meant (g.S.Space.view c.args.space.now) (mapped_type c.args.self) c.args.self.ask.now _ _ _ (omega (arith, c.new-meter.ensures.limit, c.new-meter.ensures.steps)) c.map_watched-end.result c.map_watched-end.ensures.fault
+    fault_meant (g.S.Space.view c.args.space.now) (mapped_type c.args.self) c.args.self.ask.now _ _ _
+    (omega (arith, c.new-meter.ensures.limit, c.new-meter.ensures.steps)) c.map_watched-end.result
+    c.map_watched-end.ensures.fault
 
 pub returns-clause-value : goal.returns-clause-value
 returns-clause-value g c =
-    value_meant (g.S.Space.view c.args.space.now) (mapped_type c.args.self) c.args.self.ask.now _ _ _ (omega (arith, c.new-meter.ensures.limit, c.new-meter.ensures.steps)) (nodes_of c.args.self.table.now) _ c.map_watched-end.result c.map_watched-end.ensures.value
+    value_meant (g.S.Space.view c.args.space.now) (mapped_type c.args.self) c.args.self.ask.now _ _ _
+    (omega (arith, c.new-meter.ensures.limit, c.new-meter.ensures.steps)) (nodes_of c.args.self.table.now) _
+    c.map_watched-end.result c.map_watched-end.ensures.value
 
 -- the fault that the mapping had is the one that the type means, in the space as that mapping left it
 pub part_with-requires-clause-meant : goal.part_with-requires-clause-meant
 part_with-requires-clause-meant g c =
-    let had = fault_meant (g.S.Space.view c.args.space.now) (mapped_type c.args.self) c.args.self.ask.now _ _ _ (omega (arith, c.new-meter.ensures.limit, c.new-meter.ensures.steps)) c.map_watched-end.result c.map_watched-end.ensures.fault in
+    let had = fault_meant (g.S.Space.view c.args.space.now) (mapped_type c.args.self) c.args.self.ask.now _ _ _
+    (omega (arith, c.new-meter.ensures.limit, c.new-meter.ensures.steps)) c.map_watched-end.result
+    c.map_watched-end.ensures.fault in
     let had = rw c.in-Err.is at had in
-    later_fault (g.S.Space.view c.args.space.now) (g.S.Space.view c.map_watched-end.new.space) c.map_watched-end.ensures.bytes (mapped_type c.args.self) c.args.self.ask.now c.in-Err.stopped had
+    later_fault (g.S.Space.view c.args.space.now) (g.S.Space.view c.map_watched-end.new.space)
+    c.map_watched-end.ensures.bytes (mapped_type c.args.self) c.args.self.ask.now c.in-Err.stopped had

@@ -8,6 +8,7 @@ use Rattle.fault_report.proofs.mapping.TypeMapping.searched.Goals as goal
 pub returns-in_ok-way-in-Ok-clause-part : goal.returns-in_ok-way-in-Ok-clause-part
 returns-in_ok-way-in-Ok-clause-part g c =
     let space = g.S.Space.view c.args.space.now in
-    let means = fault_means space space (mapped_type c.args.self) c.args.self.ask.now c.args.fault c.requires.of_type c.requires.meant in
+    let means = fault_means space space (mapped_type c.args.self) c.args.self.ask.now c.args.fault
+    c.requires.of_type c.requires.meant in
     rw (c.new.ensures, c.in_ok-way-in-Ok.ensures, c.as_slice.ensures.value)
     (arises_there (λ bytes known. c.in-Ok.ensures.is bytes known (fault_of c.args.fault) (means bytes known)))

@@ -14,14 +14,18 @@ returns-in-Err g c = refused_each (rw (sym c.deref.ensures.value) c.in-Err.ensur
 pub returns-in_default : goal.returns-in_default
 returns-in_default g c =
     let table = subst (λ bytes. IsTableOf bytes c.in-Ok.table) c.deref.ensures.value c.in-Ok.ensures.ok in
-    no_type table.1 (rw (ap (λ (aim : Aim). aim.name) c.of_request-mapping.ensures.aim) at c.in_default.ensures.found) (Keeps-refl _)
+    no_type table.1
+    (rw (ap (λ (aim : Aim). aim.name) c.of_request-mapping.ensures.aim) at c.in_default.ensures.found) (Keeps-refl _)
 
 pub returns-in-Ok-run_files : goal.returns-in-Ok-run_files
 returns-in-Ok-run_files g c =
     let gives = g.P.Opener.gives c.args.opener.now in
     let modes = ap (λ (aim : Aim). file_form aim.mode c.faults.result) c.of_request-mapping.ensures.aim in
-    each_done (subst (λ (every : Every). AppendsFiles (WritesRuns gives every) (AreNamesOf gives c.args.self.names.now) (g.O.Write.contents c.args.out.now) (g.O.Write.contents c.run_files.new.out) c.in-Ok-run_files.status)
-    (every_same c.args.self.request.now c.args.explains c.args.pickle.now.bytes.items _ _ _ c.of_request-mapping.ensures.aim c.of_request-mapping.ensures.reads.0 (c.of.ensures ∙ modes ∙ ap (file_form _) c.faults.ensures))
+    each_done (subst (λ (every : Every). AppendsFiles (WritesRuns gives every) (AreNamesOf gives c.args.self.names.now)
+    (g.O.Write.contents c.args.out.now) (g.O.Write.contents c.run_files.new.out) c.in-Ok-run_files.status)
+    (every_same c.args.self.request.now c.args.explains c.args.pickle.now.bytes.items _ _ _
+    c.of_request-mapping.ensures.aim c.of_request-mapping.ensures.reads.0
+    (c.of.ensures ∙ modes ∙ ap (file_form _) c.faults.ensures))
     c.in-Ok-run_files.ensures.ok)
 
 pub returns : goal.returns

@@ -9,8 +9,12 @@ use Rattle.pickle_map.proofs.mapper.clauses.evaluated_count.Goals as goal
 pub returns-in_err-told-clause-is : goal.returns-in_err-told-clause-is
 returns-in_err-told-clause-is c nodes =
     let p = err_from_is_err_and c.from_residual.result c.from_residual.ensures.1 in
-    rw (p.1, p.2) (seen_stops c.args.meter.now.limit c.args.meter.now.steps c.told.new.meter.steps c.args.start c.in_err-told.field-0.0 (evaluation (term_of c.args.e.now) (levels nodes c.args.store.now)) (count_of c.args.start) (c.in_err-told.ensures.is nodes))
+    rw (p.1, p.2) (seen_stops c.args.meter.now.limit c.args.meter.now.steps c.told.new.meter.steps c.args.start
+    c.in_err-told.field-0.0 (evaluation (term_of c.args.e.now) (levels nodes c.args.store.now)) (count_of c.args.start)
+    (c.in_err-told.ensures.is nodes))
 
 pub returns-clause-is : goal.returns-clause-is
 returns-clause-is c nodes =
-    seen_ends c.args.meter.now.limit c.args.meter.now.steps c.told.new.meter.steps c.args.start c.in_ok-told.field-0 c.count_of.result (evaluation (term_of c.args.e.now) (levels nodes c.args.store.now)) (count_of c.args.start) (c.in_ok-told.ensures.is nodes) c.count_of.ensures
+    seen_ends c.args.meter.now.limit c.args.meter.now.steps c.told.new.meter.steps c.args.start c.in_ok-told.field-0
+    c.count_of.result (evaluation (term_of c.args.e.now) (levels nodes c.args.store.now)) (count_of c.args.start)
+    (c.in_ok-told.ensures.is nodes) c.count_of.ensures

@@ -8,5 +8,6 @@ use Rattle.pickle_map.proofs.mapper.clauses.told.Goals as goal
 
 pub returns-in-Err-Limit-clause-is : goal.returns-in-Err-Limit-clause-is
 returns-in-Err-Limit-clause-is c nodes =
-    subst (λ (why : Unvalued). Seen c.args.meter.now.limit c.args.meter.now.steps c.look.new.meter.steps (Err why) (evaluation (term_of c.args.e.now) (levels nodes c.args.store.now)))
+    subst (λ (why : Unvalued). Seen c.args.meter.now.limit c.args.meter.now.steps c.look.new.meter.steps (Err why)
+    (evaluation (term_of c.args.e.now) (levels nodes c.args.store.now)))
     c.in-Err-Limit.field-0-is (c.in-Err-Limit.ensures.is nodes)

@@ -9,19 +9,23 @@ use Rattle.pickle_map.proofs.mapper.packed_numbers.packed_as.Goals as goal
 
 pub returns-in-Integer : goal.returns-in-Integer
 returns-in-Integer c =
-    let below = below_as c.args.nodes.now c.requires.table c.args.element c.requires.element c.index-nodes-element.result _ c.in-Integer.is in
+    let below = below_as c.args.nodes.now c.requires.table c.args.element c.requires.element
+    c.index-nodes-element.result _ c.in-Integer.is in
     record {
       packed = (below.some, below.most);
-      is = opened_as c.args.nodes.now c.requires.table c.args.element c.requires.element c.index-nodes-element.result _ c.in-Integer.is;
+      is = opened_as c.args.nodes.now c.requires.table c.args.element c.requires.element
+          c.index-nodes-element.result _ c.in-Integer.is;
       packs = sym c.packs.ensures ∙ c.if-not-packs.false;
     }
 
 pub returns-in-Offset : goal.returns-in-Offset
 returns-in-Offset c =
-    let below = below_as c.args.nodes.now c.requires.table c.args.element c.requires.element c.index-nodes-element.result _ c.in-Offset.is in
+    let below = below_as c.args.nodes.now c.requires.table c.args.element c.requires.element
+    c.index-nodes-element.result _ c.in-Offset.is in
     record {
       packed = (below.0.some, below.0.most, below.1);
-      is = opened_as c.args.nodes.now c.requires.table c.args.element c.requires.element c.index-nodes-element.result _ c.in-Offset.is;
+      is = opened_as c.args.nodes.now c.requires.table c.args.element c.requires.element
+          c.index-nodes-element.result _ c.in-Offset.is;
       packs = sym c.packs.ensures ∙ c.if-not-packs.false;
     }
 
@@ -32,16 +36,23 @@ pub returns-then-packs_structs : goal.returns-then-packs_structs
 returns-then-packs_structs c =
     let row = rw (c.if-packs_structs.true) at c.packs_structs.ensures in
     let same = c.deref.ensures.value ∙ sym c.deref-then-packs_structs.ensures.value in
-    let own = subst (λ fs. struct_row c.in-Struct.pinned (open_fields (type_of c.args.nodes.now) fs) ≡ Records row.0) same row.1 in
-    (record_type c.args.nodes.now c.requires.table c.args.element c.requires.element c.index-nodes-element.result _ _ _ _ row.0 c.in-Struct.is c.deref-then-packs_structs.ensures.value own, sym c.packs.ensures ∙ c.if-not-packs.false)
+    let own = subst (λ fs. struct_row c.in-Struct.pinned (open_fields (type_of c.args.nodes.now) fs) ≡ Records row.0)
+    same row.1 in (
+      record_type c.args.nodes.now c.requires.table c.args.element c.requires.element c.index-nodes-element.result _ _ _
+          _ row.0 c.in-Struct.is c.deref-then-packs_structs.ensures.value own,
+      sym c.packs.ensures ∙ c.if-not-packs.false,
+    )
 
 pub returns-else-packs_structs : goal.returns-else-packs_structs
 returns-else-packs_structs c = λ packing.
-    let e = ap row_of (opened_as c.args.nodes.now c.requires.table c.args.element c.requires.element c.index-nodes-element.result _ c.in-Struct.is) in
+    let e = ap row_of (opened_as c.args.nodes.now c.requires.table c.args.element c.requires.element
+    c.index-nodes-element.result _ c.in-Struct.is) in
     let row = rw (c.deref.ensures.value, c.if-packs_structs.false) at c.packs_structs.ensures in
     e ∙ row
 
 pub returns-in_default : goal.returns-in_default
 returns-in_default c = λ packing.
-    let opened = opened_as c.args.nodes.now c.requires.table c.args.element c.requires.element c.index-nodes-element.result _ refl in
-    ap row_of opened ∙ apart_shape (type_of c.args.nodes.now) _ c.in_default.not-Integer c.in_default.not-Offset c.in_default.not-Struct
+    let opened =
+    opened_as c.args.nodes.now c.requires.table c.args.element c.requires.element c.index-nodes-element.result _ refl in
+    ap row_of opened
+    ∙ apart_shape (type_of c.args.nodes.now) _ c.in_default.not-Integer c.in_default.not-Offset c.in_default.not-Struct

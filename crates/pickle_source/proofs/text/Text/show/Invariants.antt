@@ -5,4 +5,5 @@ use Rattle.pickle_source.proofs.text.Text.show.Given as goal
 
 abbrev pub invariant-loop-byte : goal.invariant-loop-byte
 invariant-loop-byte l =
-    (l.text.bytes.items ≡ fold shown_behind l.initial.text.bytes.items (take l.byte-index l.bytes)) × (IsPlain l.initial.text.bytes.items → IsPlain l.text.bytes.items)
+    (l.text.bytes.items ≡ fold shown_behind l.initial.text.bytes.items (take l.byte-index l.bytes))
+    × (IsPlain l.initial.text.bytes.items → IsPlain l.text.bytes.items)

@@ -33,7 +33,9 @@ decreases-chain l = 4 * l.room + 3
 
 abbrev pub invariant-chain-chain : goal.invariant-chain-chain
 invariant-chain-chain l = record {
-  same : chain (expression_at l.room) l.room l.steps l.level (expression_tree l.left.expression) (tokens_of l.rest) ≡ chain (expression_at l.room) l.room l.initial.steps l.level (expression_tree l.initial.left.expression) (tokens_of l.tokens);
+  same : chain (expression_at l.room) l.room l.steps l.level (expression_tree l.left.expression) (tokens_of l.rest)
+      ≡ chain (expression_at l.room) l.room l.initial.steps l.level (expression_tree l.initial.left.expression)
+      (tokens_of l.tokens);
   low : l.left.depth ≤ l.room + 1;
 }
 

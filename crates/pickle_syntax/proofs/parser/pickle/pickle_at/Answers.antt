@@ -12,9 +12,17 @@ declarations-preserved c =
     let pushed = c.in_ok-push.ensures.len in
     let few : vec_len c.declarations.declarations < 4096 = omega arith in
     let num : 4096 - vec_len c.push.new.self ≡ 4096 - vec_len c.declarations.declarations - 1 = omega arith in
-    let step = declarations_step standard (map declaration_tree c.declarations.declarations.items) (4096 - vec_len c.declarations.declarations) (tokens_of c.declarations.rest.now) (declaration_tree c.in_ok-declaration.declaration) (tokens_of c.in_ok-declaration.after.now) (omega arith) (sym c.is_over.ensures ∙ c.if-is_over.false) c.in_ok-declaration.ensures in
+    let step = declarations_step standard (map declaration_tree c.declarations.declarations.items)
+    (4096 - vec_len c.declarations.declarations) (tokens_of c.declarations.rest.now)
+    (declaration_tree c.in_ok-declaration.declaration) (tokens_of c.in_ok-declaration.after.now) (omega arith)
+    (sym c.is_over.ensures ∙ c.if-is_over.false) c.in_ok-declaration.ensures in
     record {
-      same = rw (c.in_ok-push.ensures.items, declarations_push c.declarations.declarations.items c.in_ok-declaration.declaration, num, c.onward-rest.ensures) (step ∙ c.declarations.invariant.same);
+      same = rw (
+        c.in_ok-push.ensures.items,
+        declarations_push c.declarations.declarations.items c.in_ok-declaration.declaration,
+        num,
+        c.onward-rest.ensures,
+      ) (step ∙ c.declarations.invariant.same);
       few = omega arith;
     }
 
@@ -23,7 +31,8 @@ pub invariant_of-result : goal.invariant_of-result
 invariant_of-result c =
     let found = c.declarations.declarations in
     let ds = map declaration_tree found.items in
-    let done = declarations_done standard ds (4096 - vec_len found) (tokens_of c.declarations.rest.now) (sym c.is_over.ensures ∙ c.if-is_over.true) in
+    let done = declarations_done standard ds (4096 - vec_len found) (tokens_of c.declarations.rest.now)
+    (sym c.is_over.ensures ∙ c.if-is_over.true) in
     let read = sym c.declarations.invariant.same ∙ done in
     record {
       within = read_within (tokens_of c.args.tokens.now) ds read;

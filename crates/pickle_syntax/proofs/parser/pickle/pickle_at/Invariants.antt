@@ -8,7 +8,9 @@ use Rattle.pickle_syntax.proofs.parser.pickle.pickle_at.Given as goal
 
 abbrev pub invariant-declarations : goal.invariant-declarations
 invariant-declarations l = record {
-  same : with_earlier (map declaration_tree l.declarations.items) (declarations_at standard (4096 - vec_len l.declarations) (tokens_of l.rest)) ≡ pickle_at standard (tokens_of l.tokens);
+  same : with_earlier (map declaration_tree l.declarations.items)
+      (declarations_at standard (4096 - vec_len l.declarations) (tokens_of l.rest))
+      ≡ pickle_at standard (tokens_of l.tokens);
   few : vec_len l.declarations ≤ 4096;
 }
 

@@ -5,4 +5,5 @@ use Rattle.pickle_types.proofs.Placed.{behind}
 use Rattle.pickle_types.proofs.check.field_names.field_place.Given as goal
 
 abbrev pub invariant-loop-i : goal.invariant-loop-i
-invariant-loop-i l = behind l.i (place_named l.word (names_in (drop l.i l.fields))) ≡ place_named l.word (names_in l.fields)
+invariant-loop-i l =
+    behind l.i (place_named l.word (names_in (drop l.i l.fields))) ≡ place_named l.word (names_in l.fields)

@@ -11,13 +11,17 @@ loop-i-init c = behind_none _
 
 pub returns-then-is_called : goal.returns-then-is_called
 returns-then-is_called c =
-    sym (found_behind (λ (x : Part). name_of x.name) part_names (λ x xs. refl) c.args.word.now c.args.parts.now c.loop-i.i c.index-parts-i.result (omega arith) c.index-parts-i.is (sym c.is_called.ensures ∙ c.if-is_called.true))
+    sym (found_behind (λ (x : Part). name_of x.name) part_names (λ x xs. refl) c.args.word.now c.args.parts.now
+    c.loop-i.i c.index-parts-i.result (omega arith) c.index-parts-i.is (sym c.is_called.ensures ∙ c.if-is_called.true))
     ∙ c.loop-i.invariant
 
 pub loop-i-preserved : goal.loop-i-preserved
 loop-i-preserved c =
-    sym (passed_behind (λ (x : Part). name_of x.name) part_names (λ x xs. refl) c.args.word.now c.args.parts.now c.loop-i.i c.index-parts-i.result (omega arith) c.index-parts-i.is (sym c.is_called.ensures ∙ c.if-is_called.false))
+    sym (passed_behind (λ (x : Part). name_of x.name) part_names (λ x xs. refl) c.args.word.now c.args.parts.now
+    c.loop-i.i c.index-parts-i.result (omega arith) c.index-parts-i.is (sym c.is_called.ensures ∙ c.if-is_called.false))
     ∙ c.loop-i.invariant
 
 pub returns : goal.returns
-returns c = sym (ap (λ (xs : List Part). behind c.loop-i.i (place_named c.args.word.now (part_names xs))) (drop_all c.loop-i.i c.args.parts.now (omega arith))) ∙ c.loop-i.invariant
+returns c = sym (ap (λ (xs : List Part). behind c.loop-i.i (place_named c.args.word.now (part_names xs)))
+    (drop_all c.loop-i.i c.args.parts.now (omega arith)))
+    ∙ c.loop-i.invariant

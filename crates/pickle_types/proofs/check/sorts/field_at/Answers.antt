@@ -11,10 +11,12 @@ pub returns-in_err-field-clause-found : goal.returns-in_err-field-clause-found
 returns-in_err-field-clause-found c at word h =
     let some = c.in_ok-place.was in
     let past = c.in_err-field.ensures.lookup.3 in
-    rw c.from_residual-in_err-field.ensures (field_found at word 0 c.args.fields.now ∙ rw (← h, some) (found_past _ c.args.fields.now _ past))
+    rw c.from_residual-in_err-field.ensures
+    (field_found at word 0 c.args.fields.now ∙ rw (← h, some) (found_past _ c.args.fields.now _ past))
 
 pub returns-clause-found : goal.returns-clause-found
 returns-clause-found c at word h =
     let some = c.in_ok-place.was in
     let read = c.in_ok-field.ensures.lookup in
-    field_found at word 0 c.args.fields.now ∙ rw (← h, some) (found_item _ c.args.fields.now _ c.in_ok-field.field.now read.3.0 read.1)
+    field_found at word 0 c.args.fields.now
+    ∙ rw (← h, some) (found_item _ c.args.fields.now _ c.in_ok-field.field.now read.3.0 read.1)

@@ -15,7 +15,8 @@ invariant_of-self-2 c =
     let n : c.len-number.result ≡ length (numbered words) = count ∙ sym one ∙ sym two in
     let none = rw (← c.self.view_is) at c.requires.new in
     rw (c.push_reserved.ensures.items, c.reserve.ensures.items, map_push (λ (w : Bor (List ℕ)). w.now) old c.args.word)
-    (named_more words c.args.word.now c.self.inside.numbers c.put.new.self c.self.inside.types c.self.invariant none (λ w. rw (← n) (c.in_ok-put.ensures.put w)))
+    (named_more words c.args.word.now c.self.inside.numbers c.put.new.self c.self.inside.types c.self.invariant none
+    (λ w. rw (← n) (c.in_ok-put.ensures.put w)))
 
 pub returns-clause-numbered : goal.returns-clause-numbered
 returns-clause-numbered c =

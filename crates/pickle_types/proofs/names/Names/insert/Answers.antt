@@ -14,10 +14,13 @@ invariant_of-self-2 c =
     let word = c.args.word.now in
     let number = c.in_ok-number.number in
     let is : number_in words word ≡ Some number = rw (← c.self.view_is) at c.in_ok-number.ensures.numbered in
-    let none : declared_as word (values types) ≡ None = rw (← c.self.view_is) at (ap (declared_as word) c.in_ok-number.ensures.types ∙ c.requires.new) in
+    let none : declared_as word (values types) ≡ None =
+    rw (← c.self.view_is) at (ap (declared_as word) c.in_ok-number.ensures.types ∙ c.requires.new) in
     let d : Named = record { word = c.in_ok-name.name; declared = c.args.declared } in
-    let all = values_more words c.self.inside.numbers types c.self.invariant word number is none c.insert.new.self d c.in_ok-insert.ensures.entries in
-    type_more words c.self.inside.numbers types c.self.invariant word number is none c.insert.new.self d c.in_ok-name.ensures.items all c.in_ok-insert.ensures.updates.0
+    let all = values_more words c.self.inside.numbers types c.self.invariant word number is none c.insert.new.self d
+    c.in_ok-insert.ensures.entries in
+    type_more words c.self.inside.numbers types c.self.invariant word number is none c.insert.new.self d
+    c.in_ok-name.ensures.items all c.in_ok-insert.ensures.updates.0
 
 pub returns-clause-ok : goal.returns-clause-ok
 returns-clause-ok c =
@@ -29,5 +32,6 @@ returns-clause-ok c =
     let same : values types ≡ types_in c.args.self.now = rw (← c.self.view_is) at c.in_ok-number.ensures.types in
     let none : declared_as word (values types) ≡ None = ap (declared_as word) same ∙ c.requires.new in
     let d : Named = record { word = c.in_ok-name.name; declared = c.args.declared } in
-    let all = values_more words c.self.inside.numbers types c.self.invariant word number is none c.insert.new.self d c.in_ok-insert.ensures.entries in
+    let all = values_more words c.self.inside.numbers types c.self.invariant word number is none c.insert.new.self d
+    c.in_ok-insert.ensures.entries in
     record { name = c.in_ok-name.name; bytes = c.in_ok-name.ensures.items; names = all ∙ ap (λ ds. ds ++ d ∷ []) same }

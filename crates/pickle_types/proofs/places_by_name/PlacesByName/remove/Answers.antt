@@ -9,4 +9,5 @@ returns-then-count-gt0 c =
     let lt = rw n at c.bucket_of-tree.ensures.inside in
     let old = c.index_mut.result.now in
     let updated = place_updated old c.remove.new.self c.args.name.now None c.remove.ensures.updates.0 in
-    place_changed c.args.self.now.trees.items c.args.name.now c.bucket_of-tree.result is lt old c.remove.new.self c.index_mut.ensures.value None updated
+    place_changed c.args.self.now.trees.items c.args.name.now c.bucket_of-tree.result is lt old c.remove.new.self
+    c.index_mut.ensures.value None updated

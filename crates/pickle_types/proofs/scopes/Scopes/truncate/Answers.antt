@@ -6,4 +6,5 @@ pub returns : goal.returns
 returns c =
     let few = c.self.inside.few.items in
     let left : c.saturating_sub.result ≡ c.args.count - length few = omega arith in
-    rw (← c.self.view_is, c.truncate.ensures, c.truncate-2.ensures.items, left) (sym (taken_both few c.self.inside.many c.args.count))
+    rw (← c.self.view_is, c.truncate.ensures, c.truncate-2.ensures.items, left)
+    (sym (taken_both few c.self.inside.many c.args.count))

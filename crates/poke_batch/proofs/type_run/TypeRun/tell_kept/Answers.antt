@@ -16,7 +16,8 @@ returns-in_default g c =
     let terms = run.terms.now in
     let value = value_shown c.args.value in
     line_ends _ NoSuchPart _
-    (no_part_saying run.ask.now terms.most_output (part_has table run.id terms value) (part_text table run.id run.ask.now terms value) (part_at terms.part value)
+    (no_part_saying run.ask.now terms.most_output (part_has table run.id terms value)
+    (part_text table run.id run.ask.now terms value) (part_at terms.part value)
     (sym (c.in_default.ensures.value ∙ ap (λ v. part_at terms.part (value_shown v)) c.new-whole.ensures.value)))
 
 pub returns-else-has_selected : goal.returns-else-has_selected
@@ -26,10 +27,14 @@ returns-else-has_selected g c =
     let terms = run.terms.now in
     let value = value_shown c.args.value in
     let part = c.in-Some.part in
-    let found : part_at terms.part value ≡ Some (mapped_in part) = sym (c.in-Some.ensures.value ∙ ap (λ v. part_at terms.part (value_shown v)) c.new-whole.ensures.value) in
+    let found : part_at terms.part value ≡ Some (mapped_in part) =
+    sym (c.in-Some.ensures.value ∙ ap (λ v. part_at terms.part (value_shown v)) c.new-whole.ensures.value) in
     let nodes = ap nodes_in c.new-whole.ensures.types ∙ c.new-types.ensures.nodes in
-    let has = part_has_selected table run.id terms c.new-whole.result part nodes c.new-whole.ensures.node c.in-Some.ensures.types c.in-Some.ensures.node in
+    let has = part_has_selected table run.id terms c.new-whole.result part nodes c.new-whole.ensures.node
+    c.in-Some.ensures.types c.in-Some.ensures.node in
     let lacks : part_has table run.id terms value (mapped_in part) ≡ false =
-    ap (λ v. part_has table run.id terms (value_shown v) (mapped_in part)) (sym c.new-whole.ensures.value) ∙ sym has ∙ sym c.has_selected.ensures ∙ c.if-has_selected.false in
+    ap (λ v. part_has table run.id terms (value_shown v) (mapped_in part)) (sym c.new-whole.ensures.value) ∙ sym has
+    ∙ sym c.has_selected.ensures ∙ c.if-has_selected.false in
     line_ends _ NoSuchPart _
-    (none_selected_saying run.ask.now terms.most_output (part_has table run.id terms value) (part_text table run.id run.ask.now terms value) (part_at terms.part value) (mapped_in part) found lacks)
+    (none_selected_saying run.ask.now terms.most_output (part_has table run.id terms value)
+    (part_text table run.id run.ask.now terms value) (part_at terms.part value) (mapped_in part) found lacks)

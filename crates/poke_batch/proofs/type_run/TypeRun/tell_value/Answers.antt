@@ -17,4 +17,5 @@ returns-then-is_left g c =
     let end = c.from.result + c.from-2.result in
     let same : end ≡ end_of (value_shown c.args.value) = omega (arith, start, size, from, over, forward) in
     line_ends _ (Left end) _
-    (left_saying run.table.now run.id run.ask.now run.terms.now c.args.bits (value_shown c.args.value) end same (sym c.is_left.ensures ∙ c.if-is_left.true))
+    (left_saying run.table.now run.id run.ask.now run.terms.now c.args.bits (value_shown c.args.value) end same
+    (sym c.is_left.ensures ∙ c.if-is_left.true))

@@ -18,7 +18,8 @@ decreases-shape_size l = 3 * l.at + 1
 abbrev pub invariant-fields_sizes-loop-at : goal.invariant-fields_sizes-loop-at
 invariant-fields_sizes-loop-at l = record {
   within : l.at ≤ length l.fields;
-  so_far : AreFieldSizes l.all l.self.form l.at (open_fields (type_of l.self.nodes.now) (drop l.at l.fields)) l.self.bits;
+  so_far : AreFieldSizes l.all l.self.form l.at
+      (open_fields (type_of l.self.nodes.now) (drop l.at l.fields)) l.self.bits;
 }
 
 abbrev pub decreases-fields_sizes-loop-at : goal.decreases-fields_sizes-loop-at

@@ -10,8 +10,10 @@ use Rattle.value_store.proofs.store.Store.append_bytes.Goals as goal
 pub invariant_of-self-2 : goal.invariant_of-self-2
 invariant_of-self-2 c =
     let h = the_view c.self.inside in
-    let g : GoesOn h c.args.shape c.args.more.now = subst (λ (h : Held). GoesOn h c.args.shape c.args.more.now) (sym c.self.view_is) c.requires in
-    let e = more-placed h c.args.shape c.args.more.now c.len-last.result c.len.result c.append.new.to.items g (search rules) (search rules) (search rules) in
+    let g : GoesOn h c.args.shape c.args.more.now =
+    subst (λ (h : Held). GoesOn h c.args.shape c.args.more.now) (sym c.self.view_is) c.requires in
+    let e = more-placed h c.args.shape c.args.more.now c.len-last.result c.len.result c.append.new.to.items g
+    (search rules) (search rules) (search rules) in
     record {
       levels = rw e (more-frames g.names h c.args.shape g.bytes g.start g.outer g.filling g.some c.args.more.now g.are);
       nodes = search rules;
@@ -33,11 +35,26 @@ invariant_of-self-2 c =
 pub returns-clause-slots : goal.returns-clause-slots
 returns-clause-slots c =
     let h = the_view c.self.inside in
-    let g : GoesOn h c.args.shape c.args.more.now = subst (λ (h : Held). GoesOn h c.args.shape c.args.more.now) (sym c.self.view_is) c.requires in
-    let e = more-placed h c.args.shape c.args.more.now c.len-last.result c.len.result c.append.new.to.items g (search rules) (search rules) (search rules) in
-    rw (← c.self.view_is) (ap (λ (x : Slots). record { slots = x; frames = h.frames; room = h.room; capacity = record { nodes = h.capacity.nodes; families = h.capacity.families; links = h.capacity.links; pending = h.capacity.pending; texts = h.capacity.texts; bytes = vec_capacity c.append.new.to } }) e)
+    let g : GoesOn h c.args.shape c.args.more.now =
+    subst (λ (h : Held). GoesOn h c.args.shape c.args.more.now) (sym c.self.view_is) c.requires in
+    let e = more-placed h c.args.shape c.args.more.now c.len-last.result c.len.result c.append.new.to.items g
+    (search rules) (search rules) (search rules) in
+    rw (← c.self.view_is) (ap (λ (x : Slots). record {
+      slots = x;
+      frames = h.frames;
+      room = h.room;
+      capacity = record {
+        nodes = h.capacity.nodes;
+        families = h.capacity.families;
+        links = h.capacity.links;
+        pending = h.capacity.pending;
+        texts = h.capacity.texts;
+        bytes = vec_capacity c.append.new.to;
+      };
+    }) e)
 
 pub returns-in_err-reserve-clause-full : goal.returns-in_err-reserve-clause-full
 returns-in_err-reserve-clause-full c =
-    let lacks : LacksBytes (the_view c.self.inside) (length c.args.more.now) = (c.self.invariant.bytes, omega (arith, c.in_err-reserve.ensures.full)) in
+    let lacks : LacksBytes (the_view c.self.inside) (length c.args.more.now) =
+    (c.self.invariant.bytes, omega (arith, c.in_err-reserve.ensures.full)) in
     rw (← c.self.view_is) (refused c.from_residual.result lacks)

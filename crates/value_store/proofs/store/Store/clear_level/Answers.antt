@@ -9,7 +9,14 @@ pub invariant_of-self : goal.invariant_of-self
 invariant_of-self c =
     let s = (the_view c.self.inside).slots in
     let m : c.innermost-marks.result ≡ innermost (the_view c.self.inside).frames = search rules in
-    let t : Slots = record { nodes = c.truncate.new.self.items; families = c.truncate-2.new.self.items; links = c.truncate-3.new.self.items; pending = c.truncate-4.new.self.items; texts = c.truncate-5.new.self.items; bytes = c.truncate-6.new.self.items } in
+    let t : Slots = record {
+      nodes = c.truncate.new.self.items;
+      families = c.truncate-2.new.self.items;
+      links = c.truncate-3.new.self.items;
+      pending = c.truncate-4.new.self.items;
+      texts = c.truncate-5.new.self.items;
+      bytes = c.truncate-6.new.self.items;
+    } in
     let e : t ≡ cut_to c.innermost-marks.result s = search rules in
     record {
       levels = rw (e, m) (clear-frames (the_view c.self.inside) c.self.invariant.levels);
@@ -33,7 +40,14 @@ pub returns-clause-levels : goal.returns-clause-levels
 returns-clause-levels c =
     let s = (the_view c.self.inside).slots in
     let m : c.innermost-marks.result ≡ innermost (the_view c.self.inside).frames = search rules in
-    let t : Slots = record { nodes = c.truncate.new.self.items; families = c.truncate-2.new.self.items; links = c.truncate-3.new.self.items; pending = c.truncate-4.new.self.items; texts = c.truncate-5.new.self.items; bytes = c.truncate-6.new.self.items } in
+    let t : Slots = record {
+      nodes = c.truncate.new.self.items;
+      families = c.truncate-2.new.self.items;
+      links = c.truncate-3.new.self.items;
+      pending = c.truncate-4.new.self.items;
+      texts = c.truncate-5.new.self.items;
+      bytes = c.truncate-6.new.self.items;
+    } in
     let e : t ≡ cut_to c.innermost-marks.result s = search rules in
     λ names. rw (← c.self.view_is) (rw (e, m) (clear-levels (the_view c.self.inside) c.self.invariant.levels names _))
 
@@ -41,14 +55,29 @@ pub returns-clause-moves : goal.returns-clause-moves
 returns-clause-moves c =
     let s = (the_view c.self.inside).slots in
     let m : c.innermost-marks.result ≡ innermost (the_view c.self.inside).frames = search rules in
-    let t : Slots = record { nodes = c.truncate.new.self.items; families = c.truncate-2.new.self.items; links = c.truncate-3.new.self.items; pending = c.truncate-4.new.self.items; texts = c.truncate-5.new.self.items; bytes = c.truncate-6.new.self.items } in
+    let t : Slots = record {
+      nodes = c.truncate.new.self.items;
+      families = c.truncate-2.new.self.items;
+      links = c.truncate-3.new.self.items;
+      pending = c.truncate-4.new.self.items;
+      texts = c.truncate-5.new.self.items;
+      bytes = c.truncate-6.new.self.items;
+    } in
     let e : t ≡ cut_to c.innermost-marks.result s = search rules in
-    rw (← c.self.view_is) (ap (having (the_view c.self.inside)) (e ∙ ap (λ k. cut_to k s) m) ∙ clear-moves (the_view c.self.inside) c.self.invariant.levels)
+    rw (← c.self.view_is) (ap (having (the_view c.self.inside)) (e ∙ ap (λ k. cut_to k s) m)
+    ∙ clear-moves (the_view c.self.inside) c.self.invariant.levels)
 
 pub returns-clause-slots : goal.returns-clause-slots
 returns-clause-slots c =
     let s = (the_view c.self.inside).slots in
     let m : c.innermost-marks.result ≡ innermost (the_view c.self.inside).frames = search rules in
-    let t : Slots = record { nodes = c.truncate.new.self.items; families = c.truncate-2.new.self.items; links = c.truncate-3.new.self.items; pending = c.truncate-4.new.self.items; texts = c.truncate-5.new.self.items; bytes = c.truncate-6.new.self.items } in
+    let t : Slots = record {
+      nodes = c.truncate.new.self.items;
+      families = c.truncate-2.new.self.items;
+      links = c.truncate-3.new.self.items;
+      pending = c.truncate-4.new.self.items;
+      texts = c.truncate-5.new.self.items;
+      bytes = c.truncate-6.new.self.items;
+    } in
     let e : t ≡ cut_to c.innermost-marks.result s = search rules in
     rw (← c.self.view_is) (e ∙ ap (λ k. cut_to k s) m)

@@ -6,5 +6,6 @@ use Rattle.value_store.proofs.store.Store.close_text.Goals as goal
 
 pub returns-clause-ok : goal.returns-clause-ok
 returns-clause-ok c = λ names bytes outer w.
-    let e : levels names c.settle_text.new.self ≡ text_level bytes c.args.start outer = c.in_ok-settle_text.ensures.ok names bytes outer w in
+    let e : levels names c.settle_text.new.self ≡ text_level bytes c.args.start outer =
+    c.in_ok-settle_text.ensures.ok names bytes outer w in
     c.lift_level.ensures.levels names ∙ lifted-text bytes c.args.start outer (levels names c.settle_text.new.self) e

@@ -11,25 +11,36 @@ pub place_records-requires-clause-template : goal.place_records-requires-clause-
 place_records-requires-clause-template c =
     let all = subst (λ (h : Held). AreLevels h.room h.frames h.slots) c.self.view_is c.self.invariant.levels in
     let r = c.reserve_records.new.self in
-    let closed = subst (λ n. Regrown (record r { slots = with_family (Struct c.args.of) c.args.start n (innermost r.frames).pending r.slots }) c.place_family.new.self) c.from.ensures c.in_ok-place_family.ensures.slots in
+    let closed = subst (λ n.
+    Regrown (record r { slots = with_family (Struct c.args.of) c.args.start n (innermost r.frames).pending r.slots })
+    c.place_family.new.self) c.from.ensures c.in_ok-place_family.ensures.slots in
     let few : c.args.stride ≤ 2 ^ 16 = omega (arith, c.ranges.stride) in
-    closed-template c.args.self.now r c.place_family.new.self c.args.of c.args.size c.args.stride c.args.start all c.requires.draft few c.reserve_records.ensures.same closed
+    closed-template c.args.self.now r c.place_family.new.self c.args.of c.args.size c.args.stride c.args.start all
+    c.requires.draft few c.reserve_records.ensures.same closed
 
 pub returns-clause-ok : goal.returns-clause-ok
 returns-clause-ok c =
     let all = subst (λ (h : Held). AreLevels h.room h.frames h.slots) c.self.view_is c.self.invariant.levels in
     let r = c.reserve_records.new.self in
-    let closed = subst (λ n. Regrown (record r { slots = with_family (Struct c.args.of) c.args.start n (innermost r.frames).pending r.slots }) c.place_family.new.self) c.from.ensures c.in_ok-place_family.ensures.slots in
+    let closed = subst (λ n.
+    Regrown (record r { slots = with_family (Struct c.args.of) c.args.start n (innermost r.frames).pending r.slots })
+    c.place_family.new.self) c.from.ensures c.in_ok-place_family.ensures.slots in
     let short : c.args.start < 2 ^ 64 = omega (arith, c.ranges.start) in
     let few : c.args.stride ≤ 2 ^ 16 = omega (arith, c.ranges.stride) in
-    begins-structs c.args.self.now c.place_records.new.self c.args.of c.args.size c.args.stride c.args.start (begins c.args.self.now r c.place_family.new.self c.place_records.new.self c.args.of c.args.size c.args.stride c.args.start all c.requires.draft c.requires.stride few short c.requires.packs c.reserve_records.ensures.same closed c.place_records.ensures.slots)
+    begins-structs c.args.self.now c.place_records.new.self c.args.of c.args.size c.args.stride c.args.start
+    (begins c.args.self.now r c.place_family.new.self c.place_records.new.self c.args.of c.args.size c.args.stride
+    c.args.start all c.requires.draft c.requires.stride few short c.requires.packs c.reserve_records.ensures.same closed
+    c.place_records.ensures.slots)
 
 pub returns-clause-moves : goal.returns-clause-moves
 returns-clause-moves c =
     let all = subst (λ (h : Held). AreLevels h.room h.frames h.slots) c.self.view_is c.self.invariant.levels in
     let r = c.reserve_records.new.self in
-    let closed = subst (λ n. Regrown (record r { slots = with_family (Struct c.args.of) c.args.start n (innermost r.frames).pending r.slots }) c.place_family.new.self) c.from.ensures c.in_ok-place_family.ensures.slots in
-    records-moves c.args.self.now r c.place_family.new.self c.place_records.new.self c.args.of c.args.size c.args.stride c.args.start all c.reserve_records.ensures.same closed c.place_records.ensures.slots
+    let closed = subst (λ n.
+    Regrown (record r { slots = with_family (Struct c.args.of) c.args.start n (innermost r.frames).pending r.slots })
+    c.place_family.new.self) c.from.ensures c.in_ok-place_family.ensures.slots in
+    records-moves c.args.self.now r c.place_family.new.self c.place_records.new.self c.args.of c.args.size c.args.stride
+    c.args.start all c.reserve_records.ensures.same closed c.place_records.ensures.slots
 
 pub returns-in_err-reserve_records-clause-full : goal.returns-in_err-reserve_records-clause-full
 returns-in_err-reserve_records-clause-full c = refused _ (cannot-begin c.args.self.now c.args.start c.requires.packs)
@@ -39,4 +50,5 @@ returns-in_err-place_family-clause-full c = refused _ (cannot-begin c.args.self.
 
 pub returns-in_err-place_family-clause-lacks : goal.returns-in_err-place_family-clause-lacks
 returns-in_err-place_family-clause-lacks c =
-    template-lacks _ c.args.self.now c.reserve_records.new.self c.reserve_records.ensures.same c.reserve_records.ensures.room c.in_err-place_family.ensures.lacks
+    template-lacks _ c.args.self.now c.reserve_records.new.self c.reserve_records.ensures.same
+    c.reserve_records.ensures.room c.in_err-place_family.ensures.lacks

@@ -11,8 +11,10 @@ use Rattle.value_store.proofs.store.Store.pack_record.Goals as goal
 pub invariant_of-self-2 : goal.invariant_of-self-2
 invariant_of-self-2 c =
     let h = the_view c.self.inside in
-    let t : TakesRecord h c.args.more.now = takes-record h c.args.more.now (subst (λ (h : Held). TakesStruct h c.args.more.now) (sym c.self.view_is) c.requires) in
-    let e = record-placed h c.args.more.now t c.len-last.result c.len.result c.append.new.to.items (search rules) (search rules) (search rules) in
+    let t : TakesRecord h c.args.more.now = takes-record h c.args.more.now
+    (subst (λ (h : Held). TakesStruct h c.args.more.now) (sym c.self.view_is) c.requires) in
+    let e = record-placed h c.args.more.now t c.len-last.result c.len.result c.append.new.to.items (search rules)
+    (search rules) (search rules) in
     record {
       levels = rw e (record-frames h c.args.more.now t);
       nodes = search rules;
@@ -34,8 +36,10 @@ invariant_of-self-2 c =
 pub returns-clause-ok : goal.returns-clause-ok
 returns-clause-ok c =
     let h = the_view c.self.inside in
-    let t : TakesRecord h c.args.more.now = takes-record h c.args.more.now (subst (λ (h : Held). TakesStruct h c.args.more.now) (sym c.self.view_is) c.requires) in
-    let e = record-placed h c.args.more.now t c.len-last.result c.len.result c.append.new.to.items (search rules) (search rules) (search rules) in
+    let t : TakesRecord h c.args.more.now = takes-record h c.args.more.now
+    (subst (λ (h : Held). TakesStruct h c.args.more.now) (sym c.self.view_is) c.requires) in
+    let e = record-placed h c.args.more.now t c.len-last.result c.len.result c.append.new.to.items (search rules)
+    (search rules) (search rules) in
     rw (← c.self.view_is) (rw e (packs-struct h _ c.args.more.now (gathers h c.args.more.now _)))
 
 pub returns-in_err-reserve-clause-full : goal.returns-in_err-reserve-clause-full

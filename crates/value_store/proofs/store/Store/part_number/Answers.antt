@@ -14,7 +14,11 @@ returns-in-Integer-clause-is c = λ names.
     let p = is_part slots c.args.array c.args.index c.args.node c.requires in
     let read = c.node_at-number.ensures in
     let n = c.node_at-number.result in
-    let number : IsNumber n.shape = number_content slots n c.in-Integer.width c.in-Integer.signed c.in-Integer.is read.read in
-    let own = part_number names slots c.args.array c.args.index c.args.node n c.in-Integer.width c.in-Integer.signed c.part_digits.result p read.read read.is number c.in-Integer.is c.part_digits.ensures.is in
-    let is : c.with_sign.result ≡ number_of (label_of (place_value names slots (Part c.args.array c.args.index c.args.node))) = c.with_sign.ensures.is ∙ own in
+    let number : IsNumber n.shape =
+    number_content slots n c.in-Integer.width c.in-Integer.signed c.in-Integer.is read.read in
+    let own = part_number names slots c.args.array c.args.index c.args.node n c.in-Integer.width c.in-Integer.signed
+    c.part_digits.result p read.read read.is number c.in-Integer.is c.part_digits.ensures.is in
+    let is : c.with_sign.result
+    ≡ number_of (label_of (place_value names slots (Part c.args.array c.args.index c.args.node))) =
+    c.with_sign.ensures.is ∙ own in
     search (rules, is)

@@ -10,64 +10,89 @@ use Rattle.value_store.proofs.store.Store.place_bytes.Goals as goal
 pub returns-in_err-reserve-clause-full : goal.returns-in_err-reserve-clause-full
 returns-in_err-reserve-clause-full c =
     let h = the_view c.self.inside in
-    let may : MayKeep h.room c.args.shape = subst (λ (h : Held). MayKeep h.room c.args.shape) (sym c.self.view_is) c.requires.may in
-    let lacks = bytes-lack h c.args.shape c.args.bytes.now c.args.start NodesOf c.self.invariant.nodes (omega (arith, c.in_err-reserve.ensures.full)) in
-    rw (← c.self.view_is) (bytes-full h c.args.shape c.args.bytes.now c.args.start c.self.invariant.levels c.requires.are may c.requires.some _ lacks)
+    let may : MayKeep h.room c.args.shape =
+    subst (λ (h : Held). MayKeep h.room c.args.shape) (sym c.self.view_is) c.requires.may in
+    let lacks = bytes-lack h c.args.shape c.args.bytes.now c.args.start NodesOf c.self.invariant.nodes
+    (omega (arith, c.in_err-reserve.ensures.full)) in
+    rw (← c.self.view_is) (bytes-full h c.args.shape c.args.bytes.now c.args.start c.self.invariant.levels
+    c.requires.are may c.requires.some _ lacks)
 
 pub returns-in_err-reserve-clause-lacks : goal.returns-in_err-reserve-clause-lacks
 returns-in_err-reserve-clause-lacks c =
     let h = the_view c.self.inside in
-    let lacks = bytes-lack h c.args.shape c.args.bytes.now c.args.start NodesOf c.self.invariant.nodes (omega (arith, c.in_err-reserve.ensures.full)) in
+    let lacks = bytes-lack h c.args.shape c.args.bytes.now c.args.start NodesOf c.self.invariant.nodes
+    (omega (arith, c.in_err-reserve.ensures.full)) in
     rw (← c.self.view_is) (refused _ lacks)
 
 pub returns-in_err-reserve-2-clause-full : goal.returns-in_err-reserve-2-clause-full
 returns-in_err-reserve-2-clause-full c =
     let h = the_view c.self.inside in
-    let may : MayKeep h.room c.args.shape = subst (λ (h : Held). MayKeep h.room c.args.shape) (sym c.self.view_is) c.requires.may in
-    let lacks = bytes-lack h c.args.shape c.args.bytes.now c.args.start PendingOf c.self.invariant.pending (omega (arith, c.in_err-reserve-2.ensures.full)) in
-    rw (← c.self.view_is) (bytes-full h c.args.shape c.args.bytes.now c.args.start c.self.invariant.levels c.requires.are may c.requires.some _ lacks)
+    let may : MayKeep h.room c.args.shape =
+    subst (λ (h : Held). MayKeep h.room c.args.shape) (sym c.self.view_is) c.requires.may in
+    let lacks = bytes-lack h c.args.shape c.args.bytes.now c.args.start PendingOf c.self.invariant.pending
+    (omega (arith, c.in_err-reserve-2.ensures.full)) in
+    rw (← c.self.view_is) (bytes-full h c.args.shape c.args.bytes.now c.args.start c.self.invariant.levels
+    c.requires.are may c.requires.some _ lacks)
 
 pub returns-in_err-reserve-2-clause-lacks : goal.returns-in_err-reserve-2-clause-lacks
 returns-in_err-reserve-2-clause-lacks c =
     let h = the_view c.self.inside in
-    let lacks = bytes-lack h c.args.shape c.args.bytes.now c.args.start PendingOf c.self.invariant.pending (omega (arith, c.in_err-reserve-2.ensures.full)) in
+    let lacks = bytes-lack h c.args.shape c.args.bytes.now c.args.start PendingOf c.self.invariant.pending
+    (omega (arith, c.in_err-reserve-2.ensures.full)) in
     rw (← c.self.view_is) (refused _ lacks)
 
 pub returns-in_err-reserve-3-clause-full : goal.returns-in_err-reserve-3-clause-full
 returns-in_err-reserve-3-clause-full c =
     let h = the_view c.self.inside in
-    let may : MayKeep h.room c.args.shape = subst (λ (h : Held). MayKeep h.room c.args.shape) (sym c.self.view_is) c.requires.may in
-    let lacks = bytes-lack h c.args.shape c.args.bytes.now c.args.start TextsOf c.self.invariant.texts (omega (arith, c.in_err-reserve-3.ensures.full)) in
-    rw (← c.self.view_is) (bytes-full h c.args.shape c.args.bytes.now c.args.start c.self.invariant.levels c.requires.are may c.requires.some _ lacks)
+    let may : MayKeep h.room c.args.shape =
+    subst (λ (h : Held). MayKeep h.room c.args.shape) (sym c.self.view_is) c.requires.may in
+    let lacks = bytes-lack h c.args.shape c.args.bytes.now c.args.start TextsOf c.self.invariant.texts
+    (omega (arith, c.in_err-reserve-3.ensures.full)) in
+    rw (← c.self.view_is) (bytes-full h c.args.shape c.args.bytes.now c.args.start c.self.invariant.levels
+    c.requires.are may c.requires.some _ lacks)
 
 pub returns-in_err-reserve-3-clause-lacks : goal.returns-in_err-reserve-3-clause-lacks
 returns-in_err-reserve-3-clause-lacks c =
     let h = the_view c.self.inside in
-    let lacks = bytes-lack h c.args.shape c.args.bytes.now c.args.start TextsOf c.self.invariant.texts (omega (arith, c.in_err-reserve-3.ensures.full)) in
+    let lacks = bytes-lack h c.args.shape c.args.bytes.now c.args.start TextsOf c.self.invariant.texts
+    (omega (arith, c.in_err-reserve-3.ensures.full)) in
     rw (← c.self.view_is) (refused _ lacks)
 
 pub returns-in_err-reserve-4-clause-full : goal.returns-in_err-reserve-4-clause-full
 returns-in_err-reserve-4-clause-full c =
     let h = the_view c.self.inside in
-    let may : MayKeep h.room c.args.shape = subst (λ (h : Held). MayKeep h.room c.args.shape) (sym c.self.view_is) c.requires.may in
-    let lacks = bytes-lack h c.args.shape c.args.bytes.now c.args.start BytesOf c.self.invariant.bytes (omega (arith, c.in_err-reserve-4.ensures.full)) in
-    rw (← c.self.view_is) (bytes-full h c.args.shape c.args.bytes.now c.args.start c.self.invariant.levels c.requires.are may c.requires.some _ lacks)
+    let may : MayKeep h.room c.args.shape =
+    subst (λ (h : Held). MayKeep h.room c.args.shape) (sym c.self.view_is) c.requires.may in
+    let lacks = bytes-lack h c.args.shape c.args.bytes.now c.args.start BytesOf c.self.invariant.bytes
+    (omega (arith, c.in_err-reserve-4.ensures.full)) in
+    rw (← c.self.view_is) (bytes-full h c.args.shape c.args.bytes.now c.args.start c.self.invariant.levels
+    c.requires.are may c.requires.some _ lacks)
 
 pub returns-in_err-reserve-4-clause-lacks : goal.returns-in_err-reserve-4-clause-lacks
 returns-in_err-reserve-4-clause-lacks c =
     let h = the_view c.self.inside in
-    let lacks = bytes-lack h c.args.shape c.args.bytes.now c.args.start BytesOf c.self.invariant.bytes (omega (arith, c.in_err-reserve-4.ensures.full)) in
+    let lacks = bytes-lack h c.args.shape c.args.bytes.now c.args.start BytesOf c.self.invariant.bytes
+    (omega (arith, c.in_err-reserve-4.ensures.full)) in
     rw (← c.self.view_is) (refused _ lacks)
 
 pub invariant_of-self-2 : goal.invariant_of-self-2
 invariant_of-self-2 c =
     let h = the_view c.self.inside in
-    let may : MayKeep h.room c.args.shape = subst (λ (h : Held). MayKeep h.room c.args.shape) (sym c.self.view_is) c.requires.may in
+    let may : MayKeep h.room c.args.shape =
+    subst (λ (h : Held). MayKeep h.room c.args.shape) (sym c.self.view_is) c.requires.may in
     let s = h.slots in
-    let t : Slots = record { nodes = c.push_reserved-3.new.self.items; families = s.families; links = s.links; pending = c.push_reserved-2.new.self.items; texts = c.push_reserved.new.self.items; bytes = c.append.new.to.items } in
+    let t : Slots = record {
+      nodes = c.push_reserved-3.new.self.items;
+      families = s.families;
+      links = s.links;
+      pending = c.push_reserved-2.new.self.items;
+      texts = c.push_reserved.new.self.items;
+      bytes = c.append.new.to.items;
+    } in
     let e : t ≡ with_bytes c.args.shape c.args.bytes.now c.args.start s = search rules in
     record {
-      levels = rw e (bytes-frames (the_view c.self.inside) c.args.shape c.args.bytes.now c.args.start c.self.invariant.levels c.requires.are may c.requires.some);
+      levels = rw e (bytes-frames (the_view c.self.inside) c.args.shape c.args.bytes.now c.args.start
+          c.self.invariant.levels c.requires.are may c.requires.some);
       nodes = search rules;
       families = search rules;
       links = search rules;
@@ -87,8 +112,17 @@ invariant_of-self-2 c =
 pub returns-clause-levels : goal.returns-clause-levels
 returns-clause-levels c =
     let h = the_view c.self.inside in
-    let may : MayKeep h.room c.args.shape = subst (λ (h : Held). MayKeep h.room c.args.shape) (sym c.self.view_is) c.requires.may in
+    let may : MayKeep h.room c.args.shape =
+    subst (λ (h : Held). MayKeep h.room c.args.shape) (sym c.self.view_is) c.requires.may in
     let s = h.slots in
-    let t : Slots = record { nodes = c.push_reserved-3.new.self.items; families = s.families; links = s.links; pending = c.push_reserved-2.new.self.items; texts = c.push_reserved.new.self.items; bytes = c.append.new.to.items } in
+    let t : Slots = record {
+      nodes = c.push_reserved-3.new.self.items;
+      families = s.families;
+      links = s.links;
+      pending = c.push_reserved-2.new.self.items;
+      texts = c.push_reserved.new.self.items;
+      bytes = c.append.new.to.items;
+    } in
     let e : t ≡ with_bytes c.args.shape c.args.bytes.now c.args.start s = search rules in
-    λ names. rw (← c.self.view_is) (rw e (bytes-levels (the_view c.self.inside) c.args.shape c.args.bytes.now c.args.start c.self.invariant.levels c.requires.are may c.requires.some names _))
+    λ names. rw (← c.self.view_is) (rw e (bytes-levels (the_view c.self.inside) c.args.shape c.args.bytes.now
+    c.args.start c.self.invariant.levels c.requires.are may c.requires.some names _))

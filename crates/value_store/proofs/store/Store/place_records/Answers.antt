@@ -9,14 +9,27 @@ pub invariant_of-self : goal.invariant_of-self
 invariant_of-self c =
     let h = the_view c.self.inside in
     let s = h.slots in
-    let template : EndsWithTemplate s c.args.size c.args.stride c.args.start [] = subst (λ (h : Held). EndsWithTemplate h.slots c.args.size c.args.stride c.args.start []) (sym c.self.view_is) c.requires.template in
-    let packed : packs h.room ≡ true = subst (λ (h : Held). packs h.room ≡ true) (sym c.self.view_is) c.requires.packs in
+    let template : EndsWithTemplate s c.args.size c.args.stride c.args.start [] =
+    subst (λ (h : Held). EndsWithTemplate h.slots c.args.size c.args.stride c.args.start []) (sym c.self.view_is)
+    c.requires.template in
+    let packed : packs h.room ≡ true =
+    subst (λ (h : Held). packs h.room ≡ true) (sym c.self.view_is) c.requires.packs in
     let short : c.args.start < 2 ^ 64 = omega (arith, c.ranges.start) in
     let m : c.innermost-mark.result ≡ innermost h.frames = search rules in
-    let t : Slots = record { nodes = c.push_reserved-3.new.self.items; families = s.families; links = s.links; pending = c.push_reserved-2.new.self.items; texts = c.push_reserved.new.self.items; bytes = s.bytes } in
-    let e : t ≡ with_records c.args.size c.args.stride [] c.args.start c.innermost-mark.result.pending s = search rules in
-    let u = record h { slots = with_records c.args.size c.args.stride [] c.args.start (innermost h.frames).pending s } in
-    let g = gathering-none h c.args.size c.args.stride c.args.start h.capacity c.self.invariant.levels template c.requires.stride short packed in
+    let t : Slots = record {
+      nodes = c.push_reserved-3.new.self.items;
+      families = s.families;
+      links = s.links;
+      pending = c.push_reserved-2.new.self.items;
+      texts = c.push_reserved.new.self.items;
+      bytes = s.bytes;
+    } in
+    let e : t ≡ with_records c.args.size c.args.stride [] c.args.start c.innermost-mark.result.pending s =
+    search rules in
+    let u =
+    record h { slots = with_records c.args.size c.args.stride [] c.args.start (innermost h.frames).pending s } in
+    let g = gathering-none h c.args.size c.args.stride c.args.start h.capacity c.self.invariant.levels template
+    c.requires.stride short packed in
     record {
       levels = rw (e, m) (gathering-frames u s c.args.size c.args.stride c.args.start [] g);
       nodes = search rules;

@@ -10,8 +10,10 @@ use Rattle.value_store.proofs.store.Store.push_absent.Goals as goal
 pub returns-in_err-reserve-clause-full : goal.returns-in_err-reserve-clause-full
 returns-in_err-reserve-clause-full c =
     let h = the_view c.self.inside in
-    rw (← c.self.view_is) (absent-full _ h c.self.invariant.levels
-    (PendingOf, (c.self.invariant.pending, omega (arith, c.in_err-reserve.ensures.full, length_push h.slots.pending None))))
+    rw (← c.self.view_is) (absent-full _ h c.self.invariant.levels (
+      PendingOf,
+      (c.self.invariant.pending, omega (arith, c.in_err-reserve.ensures.full, length_push h.slots.pending None)),
+    ))
 
 pub invariant_of-self-2 : goal.invariant_of-self-2
 invariant_of-self-2 c =
@@ -40,7 +42,8 @@ returns-clause-ok c =
     λ names. rw (← c.self.view_is) (rw e (absent-levels names (the_view c.self.inside) _ c.self.invariant.levels))
 
 pub returns-in_err-reserve-clause-lacks : goal.returns-in_err-reserve-clause-lacks
-returns-in_err-reserve-clause-lacks c = rw (← c.self.view_is) (unmoved (the_view c.self.inside) _ Leaves PendingOf (omega (arith, c.in_err-reserve.ensures.full)))
+returns-in_err-reserve-clause-lacks c = rw (← c.self.view_is)
+    (unmoved (the_view c.self.inside) _ Leaves PendingOf (omega (arith, c.in_err-reserve.ensures.full)))
 
 pub returns-clause-moves : goal.returns-clause-moves
 returns-clause-moves c =

@@ -9,12 +9,14 @@ use Rattle.value_store.proofs.store.Store.settle_text.Goals as goal
 pub returns-then-has_no_node-clause-ok : goal.returns-then-has_no_node-clause-ok
 returns-then-has_no_node-clause-ok c =
     let fresh : HasNoNode c.args.self.now = search rules in
-    settled-clause c.place_bytes.result c.args.self.now c.place_bytes.new.self 0 c.args.start fresh c.place_bytes.ensures.levels
+    settled-clause c.place_bytes.result c.args.self.now c.place_bytes.new.self 0 c.args.start fresh
+    c.place_bytes.ensures.levels
 
 pub returns-then-has_no_node-clause-full : goal.returns-then-has_no_node-clause-full
 returns-then-has_no_node-clause-full c =
     let fresh : HasNoNode c.args.self.now = search rules in
-    settled-full c.place_bytes.result c.args.self.now c.place_bytes.new.self 0 c.args.start fresh c.place_bytes.ensures.full
+    settled-full c.place_bytes.result c.args.self.now c.place_bytes.new.self 0 c.args.start fresh
+    c.place_bytes.ensures.full
 
 pub returns-else-has_no_node-clause-ok : goal.returns-else-has_no_node-clause-ok
 returns-else-has_no_node-clause-ok c = λ names bytes outer w.
@@ -26,7 +28,8 @@ returns-then-has_no_node-clause-settles c =
     let fresh : HasNoNode c.args.self.now = search rules in
     let t = c.requires in
     regrown-state c.place_bytes.result c.args.self.now c.place_bytes.new.self _ _
-    (fresh-settled t.names c.args.self.now Text t.bytes c.args.start t.outer t.writing fresh) c.place_bytes.ensures.slots
+    (fresh-settled t.names c.args.self.now Text t.bytes c.args.start t.outer t.writing fresh)
+    c.place_bytes.ensures.slots
 
 pub returns-then-has_no_node-clause-lacks : goal.returns-then-has_no_node-clause-lacks
 returns-then-has_no_node-clause-lacks c =

@@ -19,15 +19,23 @@ returns-in-Integers c = λ names.
     let w = c.in-Integers.width in
     let type : IntegerType = record { width = w; signed = c.in-Integers.signed } in
     let bytes = c.text-bytes.result.now in
-    let is : place_value names slots c.args.self.now.place ≡ value_at names slots c.in-Node.at = ap (λ p. place_value names slots p) c.in-Node.is in
-    let content : IsContent slots (Integers w c.in-Integers.signed) node.start node.content = subst (λ shape. IsContent slots shape node.start node.content) c.in-Integers.is read.content in
-    let numbers : row_numbers slots w node.content ≡ bytes = ap (λ bs. numbers_in w bs) (sym c.text-bytes.ensures) ∙ byte_numbers w bytes content.1.some c.if-width-le8.true in
-    let start : start_of (place_value names slots c.args.self.now.place) ≡ node.start = ap start_of is ∙ read.start names in
+    let is : place_value names slots c.args.self.now.place ≡ value_at names slots c.in-Node.at =
+    ap (λ p. place_value names slots p) c.in-Node.is in
+    let content : IsContent slots (Integers w c.in-Integers.signed) node.start node.content =
+    subst (λ shape. IsContent slots shape node.start node.content) c.in-Integers.is read.content in
+    let numbers : row_numbers slots w node.content ≡ bytes =
+    ap (λ bs. numbers_in w bs) (sym c.text-bytes.ensures) ∙ byte_numbers w bytes content.1.some c.if-width-le8.true in
+    let start : start_of (place_value names slots c.args.self.now.place) ≡ node.start =
+    ap start_of is ∙ read.start names in
     record {
       width = record { some = content.1.some; most = content.1.most };
       most = c.if-width-le8.true;
       below = subst (λ ns. All (λ n. n < 2 ^ w) ns) numbers content.1.below;
-      members = ap members_of is ∙ read.members names ∙ ap (λ shape. gathered (parts_in slots (take c.in-Node.at (trees names slots)) shape node.start node.content)) c.in-Integers.is
-          ∙ ap (λ ns. gathered (elements (Integers w c.in-Integers.signed) node.start ns)) numbers ∙ elements_bytes w c.in-Integers.signed node.start bytes
+      members = ap members_of is ∙ read.members names
+          ∙ ap
+          (λ shape. gathered (parts_in slots (take c.in-Node.at (trees names slots)) shape node.start node.content))
+          c.in-Integers.is
+          ∙ ap (λ ns. gathered (elements (Integers w c.in-Integers.signed) node.start ns)) numbers
+          ∙ elements_bytes w c.in-Integers.signed node.start bytes
           ∙ ap (λ start. byte_members type start bytes) (sym start);
     }

@@ -9,7 +9,8 @@ use Rattle.value_text.proofs.print.chars.char_at.Goals as goal
 pub returns-in-Some : goal.returns-in-Some
 returns-in-Some c =
     let all = members_of (value_shown (owner_of c.args.elements)) in
-    let byte : char_of (value_shown c.in-Some.element) ≡ get_or (chars_in all) c.args.place 0 = ap char_if c.in-Some.ensures.member ∙ sym (chars_at all c.args.place) in
+    let byte : char_of (value_shown c.in-Some.element) ≡ get_or (chars_in all) c.args.place 0 =
+    ap char_if c.in-Some.ensures.member ∙ sym (chars_at all c.args.place) in
     search (rules, byte)
 
 pub returns-in-None : goal.returns-in-None

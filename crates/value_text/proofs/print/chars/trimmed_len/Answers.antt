@@ -21,12 +21,15 @@ loop-place-preserved c =
       | then-char_at-ne0 w ↦ rw w.end-is (record {
         within = omega arith;
         most = omega (arith, below);
-        text = more ∙ sym (trimmed_some (take i bytes) (get_or bytes i 0) (λ e. w.if-char_at-ne0.true (byte ∙ e))) ∙ ap trimmed (sym more);
+        text = more ∙ sym (trimmed_some (take i bytes) (get_or bytes i 0) (λ e. w.if-char_at-ne0.true (byte ∙ e)))
+            ∙ ap trimmed (sym more);
       })
       | else-char_at-ne0 w ↦ rw w.end-is (record {
         within = omega (arith, c.loop-place.invariant.within);
         most = omega (arith, below);
-        text = c.loop-place.invariant.text ∙ sym (trimmed_zero (take i bytes) (get_or bytes i 0) (sym byte ∙ w.if-char_at-ne0.false)) ∙ ap trimmed (sym more);
+        text = c.loop-place.invariant.text
+            ∙ sym (trimmed_zero (take i bytes) (get_or bytes i 0) (sym byte ∙ w.if-char_at-ne0.false))
+            ∙ ap trimmed (sym more);
       })
     ]
 
@@ -34,4 +37,5 @@ pub returns-clause-text : goal.returns-clause-text
 returns-clause-text c =
     let all = members_of (value_shown (owner_of c.args.elements)) in
     c.loop-place.invariant.text
-    ∙ ap trimmed (take_all c.loop-place.place (chars_in all) (omega (arith, chars_count all, c.len-place-end.ensures, c.loop-place-test.false)))
+    ∙ ap trimmed (take_all c.loop-place.place (chars_in all)
+    (omega (arith, chars_count all, c.len-place-end.ensures, c.loop-place-test.false)))

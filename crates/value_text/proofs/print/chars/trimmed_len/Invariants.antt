@@ -9,5 +9,6 @@ abbrev pub invariant-loop-place : goal.invariant-loop-place
 invariant-loop-place l = record {
   within : l.end ≤ l.place;
   most : l.place ≤ member_count (members_of (value_shown (owner_of l.fn.elements)));
-  text : take l.end (chars_in (members_of (value_shown (owner_of l.fn.elements)))) ≡ trimmed (take l.place (chars_in (members_of (value_shown (owner_of l.fn.elements)))));
+  text : take l.end (chars_in (members_of (value_shown (owner_of l.fn.elements))))
+      ≡ trimmed (take l.place (chars_in (members_of (value_shown (owner_of l.fn.elements)))));
 }

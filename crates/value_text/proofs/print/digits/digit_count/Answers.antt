@@ -7,4 +7,5 @@ returns-then-number-lt10-clause-count c = sym (one_digit c.args.number c.if-numb
 
 pub returns-else-number-lt10-clause-count : goal.returns-else-number-lt10-clause-count
 returns-else-number-lt10-clause-count c =
-    sym (digits_of_power c.ilog10.result c.args.number c.ilog10.ensures.power_le c.ilog10.ensures.next_power_gt c.ranges.number.fits)
+    sym (digits_of_power c.ilog10.result c.args.number c.ilog10.ensures.power_le c.ilog10.ensures.next_power_gt
+    c.ranges.number.fits)

@@ -6,4 +6,5 @@ use Rattle.value_text.proofs.MemberTexts.{members_from}
 use Rattle.value_text.proofs.print.lines.any_present.Given as goal
 
 abbrev pub invariant-loop-place : goal.invariant-loop-place
-invariant-loop-place l = any_present (members_from l.place (members_of (typed_shown l.fn.value))) ≡ any_present (members_of (typed_shown l.fn.value))
+invariant-loop-place l = any_present (members_from l.place (members_of (typed_shown l.fn.value)))
+    ≡ any_present (members_of (typed_shown l.fn.value))

@@ -32,11 +32,16 @@ map_type-returns-then-from-start-clause-is g t c =
 
 pub map_inside-map_integer-requires : goal.map_inside-map_integer-requires
 map_inside-map_integer-requires g t c =
-    let width = below_as c.args.self.now.nodes.now c.requires.table c.args.at c.requires.at c.index-nodes-at.result _ c.in-Integer.is in
+    let width = below_as c.args.self.now.nodes.now c.requires.table c.args.at c.requires.at c.index-nodes-at.result
+    _ c.in-Integer.is in
     search rules
 
 pub map_inside-returns-in-Integer-clause-is : goal.map_inside-returns-in-Integer-clause-is
-map_inside-returns-in-Integer-clause-is g t c = rw (opened_as c.args.self.now.nodes.now c.requires.table c.args.at c.requires.at c.index-nodes-at.result _ c.in-Integer.is, number_is _ _ _ _ _ _ refl c.requires.inside) (c.map_integer.ensures.is)
+map_inside-returns-in-Integer-clause-is g t c = rw (
+  opened_as c.args.self.now.nodes.now c.requires.table c.args.at c.requires.at
+      c.index-nodes-at.result _ c.in-Integer.is,
+  number_is _ _ _ _ _ _ refl c.requires.inside,
+) (c.map_integer.ensures.is)
 
 pub map_inside-returns-in-Integer-clause-level : goal.map_inside-returns-in-Integer-clause-level
 map_inside-returns-in-Integer-clause-level g t c = c.map_integer.ensures.level
@@ -44,87 +49,124 @@ map_inside-returns-in-Integer-clause-level g t c = c.map_integer.ensures.level
 pub map_inside-map_text-requires-clause-open : goal.map_inside-map_text-requires-clause-open
 unfolding depth
 map_inside-map_text-requires-clause-open g t c =
-    let deep = rw (opened_as c.args.self.now.nodes.now c.requires.table c.args.at c.requires.at c.index-nodes-at.result _ c.in-String.is) at c.requires.open in
+    let deep = rw (opened_as c.args.self.now.nodes.now c.requires.table c.args.at c.requires.at c.index-nodes-at.result
+    _ c.in-String.is) at c.requires.open in
     omega (arith, deep)
 
 pub map_inside-returns-in-String-clause-is : goal.map_inside-returns-in-String-clause-is
-map_inside-returns-in-String-clause-is g t c = rw (opened_as c.args.self.now.nodes.now c.requires.table c.args.at c.requires.at c.index-nodes-at.result _ c.in-String.is, text_is _ _ _ _ c.requires.inside) c.map_text.ensures.is
+map_inside-returns-in-String-clause-is g t c = rw (
+  opened_as c.args.self.now.nodes.now c.requires.table c.args.at c.requires.at c.index-nodes-at.result _ c.in-String.is,
+  text_is _ _ _ _ c.requires.inside,
+) c.map_text.ensures.is
 
 pub map_shape-map_number-requires-clause-number : goal.map_shape-map_number-requires-clause-number
-map_shape-map_number-requires-clause-number g t c = ap number_type (opened_as c.args.self.now.nodes.now c.requires.table c.args.at c.requires.at c.index-nodes-at.result _ c.in-Integer.is)
+map_shape-map_number-requires-clause-number g t c = ap number_type (opened_as c.args.self.now.nodes.now c.requires.table
+    c.args.at c.requires.at c.index-nodes-at.result _ c.in-Integer.is)
 
 pub map_shape-map_number-requires-clause-width : goal.map_shape-map_number-requires-clause-width
-map_shape-map_number-requires-clause-width g t c = (below_as c.args.self.now.nodes.now c.requires.table c.args.at c.requires.at c.index-nodes-at.result _ c.in-Integer.is)
+map_shape-map_number-requires-clause-width g t c = (below_as c.args.self.now.nodes.now c.requires.table c.args.at
+    c.requires.at c.index-nodes-at.result _ c.in-Integer.is)
 
 pub map_shape-returns-in-Integer-clause-is : goal.map_shape-returns-in-Integer-clause-is
-map_shape-returns-in-Integer-clause-is g t c = rw (number_is _ _ _ _ _ _ (ap number_type (opened_as c.args.self.now.nodes.now c.requires.table c.args.at c.requires.at c.index-nodes-at.result _ c.in-Integer.is)) c.requires.inside) c.map_number.ensures.is
+map_shape-returns-in-Integer-clause-is g t c =
+    rw (number_is _ _ _ _ _ _ (ap number_type (opened_as c.args.self.now.nodes.now c.requires.table c.args.at
+    c.requires.at c.index-nodes-at.result _ c.in-Integer.is)) c.requires.inside) c.map_number.ensures.is
 
 pub map_shape-map_number-requires-in-Offset-clause-number : goal.map_shape-map_number-requires-in-Offset-clause-number
-map_shape-map_number-requires-in-Offset-clause-number g t c = ap number_type (opened_as c.args.self.now.nodes.now c.requires.table c.args.at c.requires.at c.index-nodes-at.result _ c.in-Offset.is)
+map_shape-map_number-requires-in-Offset-clause-number g t c = ap number_type (opened_as c.args.self.now.nodes.now
+    c.requires.table c.args.at c.requires.at c.index-nodes-at.result _ c.in-Offset.is)
 
 pub map_shape-map_number-requires-in-Offset-clause-width : goal.map_shape-map_number-requires-in-Offset-clause-width
-map_shape-map_number-requires-in-Offset-clause-width g t c = (below_as c.args.self.now.nodes.now c.requires.table c.args.at c.requires.at c.index-nodes-at.result _ c.in-Offset.is).0
+map_shape-map_number-requires-in-Offset-clause-width g t c = (below_as c.args.self.now.nodes.now c.requires.table
+    c.args.at c.requires.at c.index-nodes-at.result _ c.in-Offset.is).0
 
 pub map_shape-returns-in-Offset-clause-is : goal.map_shape-returns-in-Offset-clause-is
-map_shape-returns-in-Offset-clause-is g t c = rw (number_is _ _ _ _ _ _ (ap number_type (opened_as c.args.self.now.nodes.now c.requires.table c.args.at c.requires.at c.index-nodes-at.result _ c.in-Offset.is)) c.requires.inside) c.map_number-in-Offset.ensures.is
+map_shape-returns-in-Offset-clause-is g t c =
+    rw (number_is _ _ _ _ _ _ (ap number_type (opened_as c.args.self.now.nodes.now c.requires.table c.args.at
+    c.requires.at c.index-nodes-at.result _ c.in-Offset.is)) c.requires.inside) c.map_number-in-Offset.ensures.is
 
-pub map_shape-map_number-requires-in-Integral-clause-number : goal.map_shape-map_number-requires-in-Integral-clause-number
-map_shape-map_number-requires-in-Integral-clause-number g t c = ap number_type (opened_as c.args.self.now.nodes.now c.requires.table c.args.at c.requires.at c.index-nodes-at.result _ c.in-Integral.is)
+pub map_shape-map_number-requires-in-Integral-clause-number :
+    goal.map_shape-map_number-requires-in-Integral-clause-number
+map_shape-map_number-requires-in-Integral-clause-number g t c = ap number_type (opened_as c.args.self.now.nodes.now
+    c.requires.table c.args.at c.requires.at c.index-nodes-at.result _ c.in-Integral.is)
 
 pub map_shape-map_number-requires-in-Integral-clause-width : goal.map_shape-map_number-requires-in-Integral-clause-width
-map_shape-map_number-requires-in-Integral-clause-width g t c = (below_as c.args.self.now.nodes.now c.requires.table c.args.at c.requires.at c.index-nodes-at.result _ c.in-Integral.is).0
+map_shape-map_number-requires-in-Integral-clause-width g t c = (below_as c.args.self.now.nodes.now c.requires.table
+    c.args.at c.requires.at c.index-nodes-at.result _ c.in-Integral.is).0
 
 pub map_shape-returns-in-Integral-clause-is : goal.map_shape-returns-in-Integral-clause-is
-map_shape-returns-in-Integral-clause-is g t c = rw (number_is _ _ _ _ _ _ (ap number_type (opened_as c.args.self.now.nodes.now c.requires.table c.args.at c.requires.at c.index-nodes-at.result _ c.in-Integral.is)) c.requires.inside) c.map_number-in-Integral.ensures.is
+map_shape-returns-in-Integral-clause-is g t c =
+    rw (number_is _ _ _ _ _ _ (ap number_type (opened_as c.args.self.now.nodes.now c.requires.table c.args.at
+    c.requires.at c.index-nodes-at.result _ c.in-Integral.is)) c.requires.inside) c.map_number-in-Integral.ensures.is
 
 pub map_shape-map_text-requires-clause-open : goal.map_shape-map_text-requires-clause-open
 unfolding depth
 map_shape-map_text-requires-clause-open g t c =
-    let deep = rw (opened_as c.args.self.now.nodes.now c.requires.table c.args.at c.requires.at c.index-nodes-at.result _ c.in-String.is) at c.requires.open in
+    let deep = rw (opened_as c.args.self.now.nodes.now c.requires.table c.args.at c.requires.at c.index-nodes-at.result
+    _ c.in-String.is) at c.requires.open in
     omega (arith, deep)
 
 pub map_shape-map_array-requires : goal.map_shape-map_array-requires
 unfolding depth
 map_shape-map_array-requires g t c =
-    let below = below_as c.args.self.now.nodes.now c.requires.table c.args.at c.requires.at c.index-nodes-at.result _ c.in-Array.is in
-    let sound = sound_as c.args.self.now.nodes.now c.requires.table c.args.at c.requires.at c.index-nodes-at.result _ c.in-Array.is in
-    let deep = rw (opened_as c.args.self.now.nodes.now c.requires.table c.args.at c.requires.at c.index-nodes-at.result _ c.in-Array.is) at c.requires.open in
+    let below = below_as c.args.self.now.nodes.now c.requires.table c.args.at c.requires.at
+    c.index-nodes-at.result _ c.in-Array.is in
+    let sound = sound_as c.args.self.now.nodes.now c.requires.table c.args.at c.requires.at
+    c.index-nodes-at.result _ c.in-Array.is in
+    let deep = rw (opened_as c.args.self.now.nodes.now c.requires.table c.args.at c.requires.at c.index-nodes-at.result
+    _ c.in-Array.is) at c.requires.open in
     search rules
 
 pub map_shape-map_struct-requires : goal.map_shape-map_struct-requires
 unfolding depth
 map_shape-map_struct-requires g t c =
-    let below = below_as c.args.self.now.nodes.now c.requires.table c.args.at c.requires.at c.index-nodes-at.result _ c.in-Struct.is in
-    let names = names_as c.args.self.now.nodes.now c.requires.table c.args.at c.requires.at c.index-nodes-at.result _ c.in-Struct.is in
-    let sound = sound_as c.args.self.now.nodes.now c.requires.table c.args.at c.requires.at c.index-nodes-at.result _ c.in-Struct.is in
-    let deep = rw (opened_as c.args.self.now.nodes.now c.requires.table c.args.at c.requires.at c.index-nodes-at.result _ c.in-Struct.is) at c.requires.open in
-    let fields = fields_within c.args.self.now.nodes.now c.args.at c.requires.at (level_count c.args.self.now.store.now + 1) c.in-Struct.fields.items below sound (omega (arith, deep)) in
+    let below = below_as c.args.self.now.nodes.now c.requires.table c.args.at c.requires.at
+    c.index-nodes-at.result _ c.in-Struct.is in
+    let names = names_as c.args.self.now.nodes.now c.requires.table c.args.at c.requires.at
+    c.index-nodes-at.result _ c.in-Struct.is in
+    let sound = sound_as c.args.self.now.nodes.now c.requires.table c.args.at c.requires.at
+    c.index-nodes-at.result _ c.in-Struct.is in
+    let deep = rw (opened_as c.args.self.now.nodes.now c.requires.table c.args.at c.requires.at c.index-nodes-at.result
+    _ c.in-Struct.is) at c.requires.open in
+    let fields = fields_within c.args.self.now.nodes.now c.args.at c.requires.at
+    (level_count c.args.self.now.store.now + 1) c.in-Struct.fields.items below sound (omega (arith, deep)) in
     let bounded = fields_bounded c.args.at c.in-Struct.fields.items below in
     rw c.deref.ensures.value (search rules)
 
 pub map_shape-map_union-requires : goal.map_shape-map_union-requires
 unfolding depth
 map_shape-map_union-requires g t c =
-    let below = below_as c.args.self.now.nodes.now c.requires.table c.args.at c.requires.at c.index-nodes-at.result _ c.in-Union.is in
-    let names = names_as c.args.self.now.nodes.now c.requires.table c.args.at c.requires.at c.index-nodes-at.result _ c.in-Union.is in
-    let sound = sound_as c.args.self.now.nodes.now c.requires.table c.args.at c.requires.at c.index-nodes-at.result _ c.in-Union.is in
-    let deep = rw (opened_as c.args.self.now.nodes.now c.requires.table c.args.at c.requires.at c.index-nodes-at.result _ c.in-Union.is) at c.requires.open in
-    let alternatives = parts_within c.args.self.now.nodes.now c.args.at c.requires.at (level_count c.args.self.now.store.now + 1) c.in-Union.alternatives.items below sound.0 (omega (arith, deep)) in
+    let below = below_as c.args.self.now.nodes.now c.requires.table c.args.at c.requires.at
+    c.index-nodes-at.result _ c.in-Union.is in
+    let names = names_as c.args.self.now.nodes.now c.requires.table c.args.at c.requires.at
+    c.index-nodes-at.result _ c.in-Union.is in
+    let sound = sound_as c.args.self.now.nodes.now c.requires.table c.args.at c.requires.at
+    c.index-nodes-at.result _ c.in-Union.is in
+    let deep = rw (opened_as c.args.self.now.nodes.now c.requires.table c.args.at c.requires.at c.index-nodes-at.result
+    _ c.in-Union.is) at c.requires.open in
+    let alternatives = parts_within c.args.self.now.nodes.now c.args.at c.requires.at
+    (level_count c.args.self.now.store.now + 1) c.in-Union.alternatives.items below sound.0 (omega (arith, deep)) in
     let bounded = parts_bounded c.args.at c.in-Union.alternatives.items below in
     let few = sound.1 in
     rw c.deref-in-Union.ensures.value (search rules)
 
 pub map_shape-returns-in-String-clause-is : goal.map_shape-returns-in-String-clause-is
-map_shape-returns-in-String-clause-is g t c = rw (opened_as c.args.self.now.nodes.now c.requires.table c.args.at c.requires.at c.index-nodes-at.result _ c.in-String.is, text_is _ _ _ _ c.requires.inside) c.map_text.ensures.is
+map_shape-returns-in-String-clause-is g t c = rw (
+  opened_as c.args.self.now.nodes.now c.requires.table c.args.at c.requires.at c.index-nodes-at.result _ c.in-String.is,
+  text_is _ _ _ _ c.requires.inside,
+) c.map_text.ensures.is
 
 pub map_shape-returns-in-Array-clause-is : goal.map_shape-returns-in-Array-clause-is
-map_shape-returns-in-Array-clause-is g t c = rw (opened_as c.args.self.now.nodes.now c.requires.table c.args.at c.requires.at c.index-nodes-at.result _ c.in-Array.is) c.map_array.ensures.is
+map_shape-returns-in-Array-clause-is g t c = rw (opened_as c.args.self.now.nodes.now c.requires.table c.args.at
+    c.requires.at c.index-nodes-at.result _ c.in-Array.is) c.map_array.ensures.is
 
 pub map_shape-returns-in-Struct-clause-is : goal.map_shape-returns-in-Struct-clause-is
-map_shape-returns-in-Struct-clause-is g t c = rw (struct_opened c.args.self.now.nodes.now c.requires.table c.args.at c.requires.at c.index-nodes-at.result _ _ _ _ c.in-Struct.is c.deref.ensures.value) c.map_struct.ensures.is
+map_shape-returns-in-Struct-clause-is g t c = rw (struct_opened c.args.self.now.nodes.now c.requires.table c.args.at
+    c.requires.at c.index-nodes-at.result _ _ _ _ c.in-Struct.is c.deref.ensures.value) c.map_struct.ensures.is
 
 pub map_shape-returns-in-Union-clause-is : goal.map_shape-returns-in-Union-clause-is
-map_shape-returns-in-Union-clause-is g t c = rw (union_opened c.args.self.now.nodes.now c.requires.table c.args.at c.requires.at c.index-nodes-at.result _ _ _ c.in-Union.is c.deref-in-Union.ensures.value) c.map_union.ensures.is
+map_shape-returns-in-Union-clause-is g t c = rw (union_opened c.args.self.now.nodes.now c.requires.table c.args.at
+    c.requires.at c.index-nodes-at.result _ _ _ c.in-Union.is c.deref-in-Union.ensures.value) c.map_union.ensures.is
 
 pub map_checked-returns-in_err-end-clause-is : goal.map_checked-returns-in_err-end-clause-is
 map_checked-returns-in_err-end-clause-is g t c =
@@ -136,13 +178,20 @@ map_checked-returns-in_err-check-clause-is g t c =
     let p = err_from_is_err_and c.from_residual-in_err-check.result c.from_residual-in_err-check.ensures.1 in
     let h = c.in_ok-end.ensures.is in
     let checked = rw h.kept at c.in_err-check.ensures.is in
-    rw (p.1, p.2) (checks_stop _ _ _ _ h.value h.follows c.in_ok-end.ensures.frame.left.limit c.in_err-check.ensures.made _ (omega arith) checked)
+    rw (p.1, p.2) (checks_stop _ _ _ _ h.value h.follows c.in_ok-end.ensures.frame.left.limit
+    c.in_err-check.ensures.made _ (omega arith) checked)
 
 pub map_checked-returns-clause-is : goal.map_checked-returns-clause-is
 map_checked-returns-clause-is g t c =
     let h = c.in_ok-end.ensures.is in
     let checked = rw h.kept at c.in_ok-check.ensures.is in
-    record { value = h.value; kept = h.kept; ends = h.ends; follows = checks_ok _ _ _ _ h.value h.follows c.in_ok-end.ensures.frame.left.limit c.in_ok-check.ensures.made tt checked }
+    record {
+      value = h.value;
+      kept = h.kept;
+      ends = h.ends;
+      follows = checks_ok _ _ _ _ h.value h.follows c.in_ok-end.ensures.frame.left.limit
+          c.in_ok-check.ensures.made tt checked;
+    }
 
 pub map_struct-returns-in_err-tick-clause-is : goal.map_struct-returns-in_err-tick-clause-is
 map_struct-returns-in_err-tick-clause-is g t c =
@@ -151,7 +200,8 @@ map_struct-returns-in_err-tick-clause-is g t c =
     rw (p.1, p.2, struct_is) (inside_no_tick _ _ _ c.requires.inside e.err (e.err ∙ e.refused.0 refl) e.made)
 
 pub map_struct-leave_level-requires : goal.map_struct-leave_level-requires
-map_struct-leave_level-requires g t c = left_open c.args.self.now.nodes.now c.open_level.ensures.room c.struct_body-mapped.ensures.frame.left.room c.open_level.ensures.depth _ c.struct_body-mapped.ensures.level
+map_struct-leave_level-requires g t c = left_open c.args.self.now.nodes.now c.open_level.ensures.room
+    c.struct_body-mapped.ensures.frame.left.room c.open_level.ensures.depth _ c.struct_body-mapped.ensures.level
 
 pub map_struct-returns-clause-is : goal.map_struct-returns-clause-is
 map_struct-returns-clause-is g t c =
@@ -159,12 +209,14 @@ map_struct-returns-clause-is g t c =
     let o = c.open_level.ensures in
     let left = c.leave_level.ensures in
     let h = rw (o.levels c.args.self.now.nodes.now) at c.struct_body-mapped.ensures.is in
-    rw struct_is (left_keeps c.args.self.now.nodes.now o.room c.struct_body-mapped.ensures.frame.left.room left.room _ o.moves o.within (λ _ h. inside_ticks _ _ _ c.requires.inside e.limit e.ok e.made h) (λ end. end) _ left.left h)
+    rw struct_is (left_keeps c.args.self.now.nodes.now o.room c.struct_body-mapped.ensures.frame.left.room left.room _
+    o.moves o.within (λ _ h. inside_ticks _ _ _ c.requires.inside e.limit e.ok e.made h) (λ end. end) _ left.left h)
 
 pub map_struct-returns-clause-level : goal.map_struct-returns-clause-level
 map_struct-returns-clause-level g t c =
     let o = c.open_level.ensures in
-    left_adds c.args.self.now.nodes.now o.room c.struct_body-mapped.ensures.frame.left.room c.leave_level.ensures.room o.depth (o.levels c.args.self.now.nodes.now) _ c.struct_body-mapped.ensures.level c.leave_level.ensures.left
+    left_adds c.args.self.now.nodes.now o.room c.struct_body-mapped.ensures.frame.left.room c.leave_level.ensures.room
+    o.depth (o.levels c.args.self.now.nodes.now) _ c.struct_body-mapped.ensures.level c.leave_level.ensures.left
 
 pub map_union-returns-in_err-tick-clause-is : goal.map_union-returns-in_err-tick-clause-is
 map_union-returns-in_err-tick-clause-is g t c =
@@ -173,7 +225,8 @@ map_union-returns-in_err-tick-clause-is g t c =
     rw (p.1, p.2, union_is) (inside_no_tick _ _ _ c.requires.inside e.err (e.err ∙ e.refused.0 refl) e.made)
 
 pub map_union-leave_level-requires : goal.map_union-leave_level-requires
-map_union-leave_level-requires g t c = left_open c.args.self.now.nodes.now c.open_level.ensures.room c.union_body-mapped.ensures.frame.left.room c.open_level.ensures.depth _ c.union_body-mapped.ensures.level
+map_union-leave_level-requires g t c = left_open c.args.self.now.nodes.now c.open_level.ensures.room
+    c.union_body-mapped.ensures.frame.left.room c.open_level.ensures.depth _ c.union_body-mapped.ensures.level
 
 pub map_union-returns-clause-is : goal.map_union-returns-clause-is
 map_union-returns-clause-is g t c =
@@ -181,12 +234,14 @@ map_union-returns-clause-is g t c =
     let o = c.open_level.ensures in
     let left = c.leave_level.ensures in
     let h = rw (o.levels c.args.self.now.nodes.now) at c.union_body-mapped.ensures.is in
-    rw union_is (left_keeps c.args.self.now.nodes.now o.room c.union_body-mapped.ensures.frame.left.room left.room _ o.moves o.within (λ _ h. inside_ticks _ _ _ c.requires.inside e.limit e.ok e.made h) (λ end. end) _ left.left h)
+    rw union_is (left_keeps c.args.self.now.nodes.now o.room c.union_body-mapped.ensures.frame.left.room left.room _
+    o.moves o.within (λ _ h. inside_ticks _ _ _ c.requires.inside e.limit e.ok e.made h) (λ end. end) _ left.left h)
 
 pub map_union-returns-clause-level : goal.map_union-returns-clause-level
 map_union-returns-clause-level g t c =
     let o = c.open_level.ensures in
-    left_adds c.args.self.now.nodes.now o.room c.union_body-mapped.ensures.frame.left.room c.leave_level.ensures.room o.depth (o.levels c.args.self.now.nodes.now) _ c.union_body-mapped.ensures.level c.leave_level.ensures.left
+    left_adds c.args.self.now.nodes.now o.room c.union_body-mapped.ensures.frame.left.room c.leave_level.ensures.room
+    o.depth (o.levels c.args.self.now.nodes.now) _ c.union_body-mapped.ensures.level c.leave_level.ensures.left
 
 pub map_array-returns-in_err-tick-clause-is : goal.map_array-returns-in_err-tick-clause-is
 map_array-returns-in_err-tick-clause-is g t c =
@@ -195,7 +250,8 @@ map_array-returns-in_err-tick-clause-is g t c =
     rw (p.1, p.2, array_is) (inside_no_tick _ _ _ c.requires.inside e.err (e.err ∙ e.refused.0 refl) e.made)
 
 pub map_array-leave_level-requires : goal.map_array-leave_level-requires
-map_array-leave_level-requires g t c = left_open c.args.self.now.nodes.now c.open_level.ensures.room c.array_body-mapped.ensures.frame.left.room c.open_level.ensures.depth _ c.array_body-mapped.ensures.level
+map_array-leave_level-requires g t c = left_open c.args.self.now.nodes.now c.open_level.ensures.room
+    c.array_body-mapped.ensures.frame.left.room c.open_level.ensures.depth _ c.array_body-mapped.ensures.level
 
 pub map_array-returns-clause-is : goal.map_array-returns-clause-is
 map_array-returns-clause-is g t c =
@@ -205,18 +261,22 @@ map_array-returns-clause-is g t c =
     let left = c.leave_level.ensures in
     let h = rw (o.levels c.args.self.now.nodes.now) at c.array_body-mapped.ensures.is in
     let extent = settles_ok _ _ _ refl (rw c.from.ensures at found.is) found.made in
-    rw array_is (left_keeps c.args.self.now.nodes.now o.room c.array_body-mapped.ensures.frame.left.room left.room _ o.moves o.within (λ _ h. inside_ticks _ _ _ c.requires.inside e.limit e.ok e.made (follow_then_ok _ _ extent (follow_at found.limit refl refl h))) (λ end. end) _ left.left h)
+    rw array_is (left_keeps c.args.self.now.nodes.now o.room c.array_body-mapped.ensures.frame.left.room left.room _
+    o.moves o.within (λ _ h. inside_ticks _ _ _ c.requires.inside e.limit e.ok e.made
+    (follow_then_ok _ _ extent (follow_at found.limit refl refl h))) (λ end. end) _ left.left h)
 
 pub map_array-returns-clause-level : goal.map_array-returns-clause-level
 map_array-returns-clause-level g t c =
     let o = c.open_level.ensures in
-    left_adds c.args.self.now.nodes.now o.room c.array_body-mapped.ensures.frame.left.room c.leave_level.ensures.room o.depth (o.levels c.args.self.now.nodes.now) _ c.array_body-mapped.ensures.level c.leave_level.ensures.left
+    left_adds c.args.self.now.nodes.now o.room c.array_body-mapped.ensures.frame.left.room c.leave_level.ensures.room
+    o.depth (o.levels c.args.self.now.nodes.now) _ c.array_body-mapped.ensures.level c.leave_level.ensures.left
 
 pub map_array-returns-in_err-extent-clause-is : goal.map_array-returns-in_err-extent-clause-is
 map_array-returns-in_err-extent-clause-is g t c =
     let p = err_from_is_err_and c.from_residual-in_err-extent.result c.from_residual-in_err-extent.ensures.1 in
     let e = c.in_ok-tick.ensures in
-    rw (p.1, p.2, array_is) (inside_ticks _ _ _ c.requires.inside e.limit e.ok e.made (follow_stop _ _ _ (settles_stop _ _ _ refl (omega arith) (rw c.from.ensures at c.in_err-extent.ensures.is) c.in_err-extent.ensures.made)))
+    rw (p.1, p.2, array_is) (inside_ticks _ _ _ c.requires.inside e.limit e.ok e.made (follow_stop _ _ _ (settles_stop _
+    _ _ refl (omega arith) (rw c.from.ensures at c.in_err-extent.ensures.is) c.in_err-extent.ensures.made)))
 
 pub map_array-array_body-mapped-requires : goal.map_array-array_body-mapped-requires
 map_array-array_body-mapped-requires g t c =
@@ -247,14 +307,18 @@ struct_body-returns-in_err-end-clause-is g t c =
 
 pub struct_body-returns-in_err-close_struct-clause-is : goal.struct_body-returns-in_err-close_struct-clause-is
 struct_body-returns-in_err-close_struct-clause-is g t c =
-    let p = err_from_is_err_and c.from_residual-in_err-close_struct.result c.from_residual-in_err-close_struct.ensures.1 in
+    let p =
+    err_from_is_err_and c.from_residual-in_err-close_struct.result c.from_residual-in_err-close_struct.ensures.1 in
     let named = c.requires.names ∙ sym (fields_named (type_of c.args.self.now.nodes.now) c.args.fields.now) in
     let full = rw named at (c.in_err-close_struct.ensures.full c.args.self.now.nodes.now) in
-    rw (p.1, p.2) (struct_no_room _ _ _ _ (in_later c.in_ok-end.ensures.frame.left.room c.in_err-close_struct.ensures.room c.in_ok-end.ensures.is) _ _ (lacks_these c.in_ok-end.ensures.frame.left.room tt full c.in_err-close_struct.ensures.lacks))
+    rw (p.1, p.2) (struct_no_room _ _ _ _
+    (in_later c.in_ok-end.ensures.frame.left.room c.in_err-close_struct.ensures.room c.in_ok-end.ensures.is) _ _
+    (lacks_these c.in_ok-end.ensures.frame.left.room tt full c.in_err-close_struct.ensures.lacks))
 
 pub struct_body-returns-in_err-close_struct-clause-level : goal.struct_body-returns-in_err-close_struct-clause-level
 struct_body-returns-in_err-close_struct-clause-level g t c =
-    let p = err_from_is_err_and c.from_residual-in_err-close_struct.result c.from_residual-in_err-close_struct.ensures.1 in
+    let p =
+    err_from_is_err_and c.from_residual-in_err-close_struct.result c.from_residual-in_err-close_struct.ensures.1 in
     rw p.1 (regrown_stays c.args.self.now.nodes.now _ _ _ c.in_ok-end.ensures.level c.in_err-close_struct.ensures.err)
 
 pub struct_body-returns-clause-is : goal.struct_body-returns-clause-is
@@ -264,21 +328,32 @@ struct_body-returns-clause-is g t c =
     let closed = rw named at (c.in_ok-close_struct.ensures.ok c.args.self.now.nodes.now) in
     let h = rw c.in_ok-end.ensures.level.outer at closed in
     let room = c.in_ok-close_struct.ensures.room in
-    let moves = moves_to c.in_ok-end.ensures.frame.left.room (same_room c.close_struct.new.self) c.in_ok-close_struct.ensures.within c.in_ok-close_struct.ensures.moves in
-    record { value = _; kept = h; ends = refl; follows = struct_made _ _ _ _ (in_later c.in_ok-end.ensures.frame.left.room room c.in_ok-end.ensures.is) _ _ moves n.steps n.made }
+    let moves = moves_to c.in_ok-end.ensures.frame.left.room (same_room c.close_struct.new.self)
+    c.in_ok-close_struct.ensures.within c.in_ok-close_struct.ensures.moves in
+    record {
+      value = _;
+      kept = h;
+      ends = refl;
+      follows = struct_made _ _ _ _ (in_later c.in_ok-end.ensures.frame.left.room room c.in_ok-end.ensures.is) _ _
+          moves n.steps n.made;
+    }
 
 pub array_body-row_body-requires-clause-packing : goal.array_body-row_body-requires-clause-packing
 array_body-row_body-requires-clause-packing g t c =
     let packs = c.in-Numbers.ensures in
     let short = g.met.S.Space.short c.args.space.now in
-    row-opened c.args.self.now.nodes.now c.args.self.now.store.now c.in-Numbers.shape c.args.start (outer_of (levels c.args.self.now.nodes.now c.args.self.now.store.now)) packs.packed packs.packs (omega (arith, c.requires.inside, short)) (sym (ap (λ (k : Marks). k.nodes) c.requires.opened)) c.requires.sound c.requires.fresh
+    row-opened c.args.self.now.nodes.now c.args.self.now.store.now c.in-Numbers.shape c.args.start
+    (outer_of (levels c.args.self.now.nodes.now c.args.self.now.store.now)) packs.packed packs.packs
+    (omega (arith, c.requires.inside, short)) (sym (ap (λ (k : Marks). k.nodes) c.requires.opened))
+    c.requires.sound c.requires.fresh
 
 pub array_body-records_body-requires : goal.array_body-records_body-requires
 unfolding depth
 array_body-records_body-requires g t c =
     let p = c.in-Records.ensures in
     let deep = rw p.0.is at c.requires.open.1 in
-    let fields = fields_within c.args.self.now.nodes.now c.args.element c.requires.element (level_count c.args.self.now.store.now + 1) c.in-Records.fields.now p.0.below p.0.sound (omega (arith, deep)) in
+    let fields = fields_within c.args.self.now.nodes.now c.args.element c.requires.element
+    (level_count c.args.self.now.store.now + 1) c.in-Records.fields.now p.0.below p.0.sound (omega (arith, deep)) in
     let few : level_count c.args.self.now.store.now ≤ 64 = omega (arith, deep) in
     search rules
 
@@ -289,14 +364,20 @@ elements_body-returns-in_err-end-clause-is g t c =
 
 pub elements_body-returns-in_err-close_array-clause-is : goal.elements_body-returns-in_err-close_array-clause-is
 elements_body-returns-in_err-close_array-clause-is g t c =
-    let p = err_from_is_err_and c.from_residual-in_err-close_array.result c.from_residual-in_err-close_array.ensures.1 in
+    let p =
+    err_from_is_err_and c.from_residual-in_err-close_array.result c.from_residual-in_err-close_array.ensures.1 in
     let apart = c.requires.apart in
-    let lacks = lacks_these c.in_ok-end.ensures.frame.left.room tt (c.in_err-close_array.ensures.full c.args.self.now.nodes.now) c.in_err-close_array.ensures.lacks in
-    rw (p.1, p.2) (array_no_room _ _ _ _ (in_later c.in_ok-end.ensures.frame.left.room c.in_err-close_array.ensures.room c.in_ok-end.ensures.is) (type_of c.args.self.now.nodes.now c.args.element) (array_lacks (row_of (type_of c.args.self.now.nodes.now c.args.element)) apart lacks))
+    let lacks = lacks_these c.in_ok-end.ensures.frame.left.room tt
+    (c.in_err-close_array.ensures.full c.args.self.now.nodes.now) c.in_err-close_array.ensures.lacks in
+    rw (p.1, p.2) (array_no_room _ _ _ _
+    (in_later c.in_ok-end.ensures.frame.left.room c.in_err-close_array.ensures.room c.in_ok-end.ensures.is)
+    (type_of c.args.self.now.nodes.now c.args.element)
+    (array_lacks (row_of (type_of c.args.self.now.nodes.now c.args.element)) apart lacks))
 
 pub elements_body-returns-in_err-close_array-clause-level : goal.elements_body-returns-in_err-close_array-clause-level
 elements_body-returns-in_err-close_array-clause-level g t c =
-    let p = err_from_is_err_and c.from_residual-in_err-close_array.result c.from_residual-in_err-close_array.ensures.1 in
+    let p =
+    err_from_is_err_and c.from_residual-in_err-close_array.result c.from_residual-in_err-close_array.ensures.1 in
     rw p.1 (regrown_stays c.args.self.now.nodes.now _ _ _ c.in_ok-end.ensures.level c.in_err-close_array.ensures.err)
 
 pub elements_body-returns-clause-is : goal.elements_body-returns-clause-is
@@ -305,9 +386,17 @@ elements_body-returns-clause-is g t c =
     let closed = c.in_ok-close_array.ensures.ok c.args.self.now.nodes.now in
     let h = rw c.in_ok-end.ensures.level.outer at closed in
     let room = c.in_ok-close_array.ensures.room in
-    let moves = moves_to c.in_ok-end.ensures.frame.left.room (same_room c.close_array.new.self) c.in_ok-close_array.ensures.within c.in_ok-close_array.ensures.moves in
+    let moves = moves_to c.in_ok-end.ensures.frame.left.room (same_room c.close_array.new.self)
+    c.in_ok-close_array.ensures.within c.in_ok-close_array.ensures.moves in
     let apart = c.requires.apart in
-    record { value = _; kept = h; ends = refl; follows = array_made _ _ _ _ (in_later c.in_ok-end.ensures.frame.left.room room c.in_ok-end.ensures.is) (type_of c.args.self.now.nodes.now c.args.element) (array_moves (row_of (type_of c.args.self.now.nodes.now c.args.element)) apart moves) n.steps n.made }
+    record {
+      value = _;
+      kept = h;
+      ends = refl;
+      follows = array_made _ _ _ _ (in_later c.in_ok-end.ensures.frame.left.room room c.in_ok-end.ensures.is)
+          (type_of c.args.self.now.nodes.now c.args.element)
+          (array_moves (row_of (type_of c.args.self.now.nodes.now c.args.element)) apart moves) n.steps n.made;
+    }
 
 pub union_body-returns-in_err-index-clause-is : goal.union_body-returns-in_err-index-clause-is
 union_body-returns-in_err-index-clause-is g t c =
@@ -316,16 +405,21 @@ union_body-returns-in_err-index-clause-is g t c =
 
 pub union_body-returns-in_err-close_union-clause-is : goal.union_body-returns-in_err-close_union-clause-is
 union_body-returns-in_err-close_union-clause-is g t c =
-    let p = err_from_is_err_and c.from_residual-in_err-close_union.result c.from_residual-in_err-close_union.ensures.1 in
+    let p =
+    err_from_is_err_and c.from_residual-in_err-close_union.result c.from_residual-in_err-close_union.ensures.1 in
     let h = c.in_ok-index.ensures.is in
     let fresh = c.requires.fresh in
     let inside = h.keeps ∙ ap (λ ls. pushed ls (Some h.value)) fresh in
-    let full = rw (inside, c.requires.names, ← h.ends) at (c.in_err-close_union.ensures.full c.args.self.now.nodes.now) in
-    rw (p.1, p.2) (union_no_room _ _ _ _ _ (in_later c.in_ok-index.ensures.frame.left.room c.in_err-close_union.ensures.room h.follows) (lacks_these c.in_ok-index.ensures.frame.left.room tt full c.in_err-close_union.ensures.lacks))
+    let full =
+    rw (inside, c.requires.names, ← h.ends) at (c.in_err-close_union.ensures.full c.args.self.now.nodes.now) in
+    rw (p.1, p.2) (union_no_room _ _ _ _ _
+    (in_later c.in_ok-index.ensures.frame.left.room c.in_err-close_union.ensures.room h.follows)
+    (lacks_these c.in_ok-index.ensures.frame.left.room tt full c.in_err-close_union.ensures.lacks))
 
 pub union_body-returns-in_err-close_union-clause-level : goal.union_body-returns-in_err-close_union-clause-level
 union_body-returns-in_err-close_union-clause-level g t c =
-    let p = err_from_is_err_and c.from_residual-in_err-close_union.result c.from_residual-in_err-close_union.ensures.1 in
+    let p =
+    err_from_is_err_and c.from_residual-in_err-close_union.result c.from_residual-in_err-close_union.ensures.1 in
     rw p.1 (regrown_stays c.args.self.now.nodes.now _ _ _ c.in_ok-index.ensures.level c.in_err-close_union.ensures.err)
 
 pub union_body-returns-clause-is : goal.union_body-returns-clause-is
@@ -334,10 +428,18 @@ union_body-returns-clause-is g t c =
     let fresh = c.requires.fresh in
     let inside = h.keeps ∙ ap (λ ls. pushed ls (Some h.value)) fresh in
     let n = c.note_made.ensures in
-    let closed = rw (inside, c.requires.names, ← h.ends) at (c.in_ok-close_union.ensures.ok c.args.self.now.nodes.now) in
+    let closed =
+    rw (inside, c.requires.names, ← h.ends) at (c.in_ok-close_union.ensures.ok c.args.self.now.nodes.now) in
     let room = c.in_ok-close_union.ensures.room in
-    let moves = moves_to c.in_ok-index.ensures.frame.left.room (same_room c.close_union.new.self) c.in_ok-close_union.ensures.within c.in_ok-close_union.ensures.moves in
-    record { value = _; kept = closed; ends = h.ends; follows = union_made _ _ _ _ _ (in_later c.in_ok-index.ensures.frame.left.room room h.follows) moves n.steps n.made }
+    let moves = moves_to c.in_ok-index.ensures.frame.left.room (same_room c.close_union.new.self)
+    c.in_ok-close_union.ensures.within c.in_ok-close_union.ensures.moves in
+    record {
+      value = _;
+      kept = closed;
+      ends = h.ends;
+      follows =
+          union_made _ _ _ _ _ (in_later c.in_ok-index.ensures.frame.left.room room h.follows) moves n.steps n.made;
+    }
 
 pub map_fields-loop-field-init : goal.map_fields-loop-field-init
 map_fields-loop-field-init g t c = record {
@@ -356,7 +458,8 @@ map_fields-returns-in_err-tick-clause-is g t c =
     let e = c.in_err-tick.ensures in
     let next = drop_more c.args.fields.now c.loop-field.field-index c.field-item.result (omega arith) in
     let next = rw (← c.field-item.is) at next in
-    rw (p.1, p.2) (follow_on i.so_far (fields_no_tick _ _ _ _ _ _ _ _ _ _ _ next e.err (e.err ∙ e.refused.0 refl ∙ i.frame.limit) e.made))
+    rw (p.1, p.2) (follow_on i.so_far
+    (fields_no_tick _ _ _ _ _ _ _ _ _ _ _ next e.err (e.err ∙ e.refused.0 refl ∙ i.frame.limit) e.made))
 
 pub map_fields-returns-in_err-is_there-clause-is : goal.map_fields-returns-in_err-is_there-clause-is
 map_fields-returns-in_err-is_there-clause-is g t c =
@@ -366,7 +469,8 @@ map_fields-returns-in_err-is_there-clause-is g t c =
     let next = drop_more c.args.fields.now c.loop-field.field-index c.field-item.result (omega arith) in
     let next = rw (← c.field-item.is) at next in
     let there = c.in_err-is_there.ensures in
-    rw (p.1, p.2) (follow_on i.so_far (condition_stops _ _ _ _ _ _ _ _ _ _ _ next (e.limit ∙ i.frame.limit) e.ok e.made there.made _ (omega arith) (rw c.from-origin.ensures at there.is)))
+    rw (p.1, p.2) (follow_on i.so_far (condition_stops _ _ _ _ _ _ _ _ _ _ _ next (e.limit ∙ i.frame.limit) e.ok e.made
+    there.made _ (omega arith) (rw c.from-origin.ensures at there.is)))
 
 pub map_fields-returns-in_err-place-clause-is : goal.map_fields-returns-in_err-place-clause-is
 map_fields-returns-in_err-place-clause-is g t c =
@@ -378,12 +482,15 @@ map_fields-returns-in_err-place-clause-is g t c =
     let there = c.in_ok-is_there.ensures in
     let there_is = rw (c.if-branch.true, c.from-origin.ensures) at there.is in
     let start = c.in_err-place.ensures in
-    rw (p.1, p.2) (follow_on i.so_far (start_stops _ _ _ _ _ _ _ _ _ _ _ next (e.limit ∙ i.frame.limit) e.ok e.made there.made there_is there.limit start.made _ (omega arith) start.is))
+    rw (p.1, p.2) (follow_on i.so_far (start_stops _ _ _ _ _ _ _ _ _ _ _ next (e.limit ∙ i.frame.limit) e.ok e.made
+    there.made there_is there.limit start.made _ (omega arith) start.is))
 
 pub map_fields-map_checked-requires : goal.map_fields-map_checked-requires
 map_fields-map_checked-requires g t c =
-    let bounded = field_bounded c.args.fields.now c.loop-field.field-index c.field-item.result (omega arith) c.field-item.is in
-    let field = of_one (IsFieldOf c.args.self.now.nodes.now (level_count c.args.self.now.store.now)) c.args.fields.now c.loop-field.field-index c.field-item.result c.requires.fields (omega arith) c.field-item.is in
+    let bounded =
+    field_bounded c.args.fields.now c.loop-field.field-index c.field-item.result (omega arith) c.field-item.is in
+    let field = of_one (IsFieldOf c.args.self.now.nodes.now (level_count c.args.self.now.store.now)) c.args.fields.now
+    c.loop-field.field-index c.field-item.result c.requires.fields (omega arith) c.field-item.is in
     let field = rw (← c.loop-field.invariant.level.depth) at field in
     search rules
 
@@ -398,22 +505,29 @@ map_fields-returns-in_err-behind-clause-is g t c =
     let there_is = rw (c.if-branch.true, c.from-origin.ensures) at there.is in
     let start = c.in_ok-place.ensures in
     let h = rw (i.lent.nodes, i.frame.len, c.ordered.ensures) at c.in_err-behind.ensures.is in
-    let h = in_world (g.S.Space.view c.args.space.now) (g.S.Space.view c.loop-field.space) i.frame.bytes i.frame.room c.in_err-behind.ensures.frame.left.room h in
-    rw (p.1, p.2) (follow_on (in_later i.frame.room c.in_err-behind.ensures.frame.left.room i.so_far) (field_stops _ _ _ _ _ _ _ _ _ _ _ next (e.limit ∙ i.frame.limit) e.ok e.made there.made there_is there.limit start.made _ start.is start.limit _ h))
+    let h = in_world (g.S.Space.view c.args.space.now) (g.S.Space.view c.loop-field.space) i.frame.bytes i.frame.room
+    c.in_err-behind.ensures.frame.left.room h in
+    rw (p.1, p.2)
+    (follow_on (in_later i.frame.room c.in_err-behind.ensures.frame.left.room i.so_far) (field_stops _ _ _ _ _ _ _ _ _ _
+    _ next (e.limit ∙ i.frame.limit) e.ok e.made there.made there_is there.limit start.made _ start.is start.limit _ h))
 
 pub map_fields-returns-in_err-push_absent-clause-is : goal.map_fields-returns-in_err-push_absent-clause-is
 map_fields-returns-in_err-push_absent-clause-is g t c =
-    let p = err_from_is_err_and c.from_residual-in_err-push_absent.result c.from_residual-in_err-push_absent.ensures.1 in
+    let p =
+    err_from_is_err_and c.from_residual-in_err-push_absent.result c.from_residual-in_err-push_absent.ensures.1 in
     let i = c.loop-field.invariant in
     let e = c.in_ok-tick.ensures in
     let next = drop_more c.args.fields.now c.loop-field.field-index c.field-item.result (omega arith) in
     let next = rw (← c.field-item.is) at next in
     let there = c.in_ok-is_there.ensures in
     let there_is = rw (c.if-branch.false, c.from-origin.ensures) at there.is in
-    rw (p.1, p.2) (follow_on (in_later i.frame.room c.in_err-push_absent.ensures.room i.so_far) (absent_no_room _ _ _ _ _ _ _ _ _ _ _ next (e.limit ∙ i.frame.limit) e.ok e.made there.made there_is (lacks_these i.frame.room tt (c.in_err-push_absent.ensures.full c.args.self.now.nodes.now) c.in_err-push_absent.ensures.lacks)))
+    rw (p.1, p.2) (follow_on (in_later i.frame.room c.in_err-push_absent.ensures.room i.so_far)
+    (absent_no_room _ _ _ _ _ _ _ _ _ _ _ next (e.limit ∙ i.frame.limit) e.ok e.made there.made there_is (lacks_these
+    i.frame.room tt (c.in_err-push_absent.ensures.full c.args.self.now.nodes.now) c.in_err-push_absent.ensures.lacks)))
 
 pub map_fields-returns-in_err-push_absent-clause-level : goal.map_fields-returns-in_err-push_absent-clause-level
-map_fields-returns-in_err-push_absent-clause-level g t c = regrown_stays c.args.self.now.nodes.now _ _ _ c.loop-field.invariant.level c.in_err-push_absent.ensures.err
+map_fields-returns-in_err-push_absent-clause-level g t c =
+    regrown_stays c.args.self.now.nodes.now _ _ _ c.loop-field.invariant.level c.in_err-push_absent.ensures.err
 
 pub map_fields-loop-field-preserved : goal.map_fields-loop-field-preserved
 map_fields-loop-field-preserved g t c =
@@ -428,38 +542,45 @@ map_fields-loop-field-preserved g t c =
           let start = w.in_ok-place.ensures in
           let m = rw i.lent.nodes at w.in_ok-behind.ensures.is in
           let h = rw (i.frame.len, w.ordered.ensures) at m.follows in
-          let h = in_world (g.S.Space.view c.args.space.now) (g.S.Space.view c.loop-field.space) i.frame.bytes i.frame.room w.in_ok-behind.ensures.frame.left.room h in
+          let h = in_world (g.S.Space.view c.args.space.now) (g.S.Space.view c.loop-field.space) i.frame.bytes
+          i.frame.room w.in_ok-behind.ensures.frame.left.room h in
           rw (w.space-is, w.self-is, w.behind-is, w.top-is) (record {
             lent = search rules;
             frame = search rules;
             after = search rules;
             inside = search rules;
             level = pushed_stays c.args.self.now.nodes.now _ _ _ _ i.level m.kept w.in_ok-behind.ensures.level.depth;
-            so_far = rw m.kept (follow_on (in_later i.frame.room w.in_ok-behind.ensures.frame.left.room i.so_far) (field_goes _ _ _ _ _ _ _ _ _ _ _ next (e.limit ∙ i.frame.limit) e.ok e.made there.made there_is there.limit start.made _ start.is start.limit m.value _ _ m.ends w.max-top.ensures h));
+            so_far = rw m.kept (follow_on (in_later i.frame.room w.in_ok-behind.ensures.frame.left.room i.so_far)
+                (field_goes _ _ _ _ _ _ _ _ _ _ _ next (e.limit ∙ i.frame.limit) e.ok e.made there.made there_is
+                there.limit start.made _ start.is start.limit m.value _ _ m.ends w.max-top.ensures h));
           })
       | map_fields-else-branch+in_ok-push_absent w ↦
           let there_is = rw (w.if-branch.false, c.from-origin.ensures) at there.is in
           let keeps = (w.in_ok-push_absent.ensures.ok c.args.self.now.nodes.now) in
           let room = w.in_ok-push_absent.ensures.room in
-          let moves = moves_to i.frame.room (same_room w.push_absent.new.self) w.in_ok-push_absent.ensures.within w.in_ok-push_absent.ensures.moves in
+          let moves = moves_to i.frame.room (same_room w.push_absent.new.self) w.in_ok-push_absent.ensures.within
+          w.in_ok-push_absent.ensures.moves in
           rw (w.space-is, w.self-is, w.behind-is, w.top-is) (record {
             lent = search rules;
             frame = search rules;
             after = search rules;
             inside = search rules;
             level = pushed_stays c.args.self.now.nodes.now _ _ _ _ i.level keeps w.in_ok-push_absent.ensures.depth;
-            so_far = rw keeps (follow_on (in_later i.frame.room room i.so_far) (absent_goes _ _ _ _ _ _ _ _ _ _ _ next (e.limit ∙ i.frame.limit) e.ok e.made there.made there_is moves));
+            so_far = rw keeps (follow_on (in_later i.frame.room room i.so_far) (absent_goes _ _ _ _ _ _ _ _ _ _ _ next
+                (e.limit ∙ i.frame.limit) e.ok e.made there.made there_is moves));
           })
     ]
 
 pub map_fields-returns-clause-is : goal.map_fields-returns-clause-is
 map_fields-returns-clause-is g t c =
     let i = c.loop-field.invariant in
-    follow_on i.so_far (fields_end _ _ _ _ _ _ _ _ _ (drop_all c.loop-field.field-index c.args.fields.now (omega arith)))
+    follow_on i.so_far
+    (fields_end _ _ _ _ _ _ _ _ _ (drop_all c.loop-field.field-index c.args.fields.now (omega arith)))
 
 pub map_elements-loop-order-init : goal.map_elements-loop-order-init
 map_elements-loop-order-init g t c =
-    let few = few_enough (8 * (g.S.Space.view c.args.space.now).len) (least_width (type_of c.args.self.now.nodes.now c.args.element)) in
+    let few = few_enough (8 * (g.S.Space.view c.args.space.now).len)
+    (least_width (type_of c.args.self.now.nodes.now c.args.element)) in
     record {
       lent = search rules;
       frame = search rules;
@@ -477,7 +598,9 @@ map_elements-returns-in_err-tick-clause-is g t c =
     let e = c.in_err-tick.ensures in
     let due = sym c.is_due.ensures ∙ c.loop-order-test.true in
     let due = rw c.len-bits.ensures at due in
-    rw (p.1, p.2) (follow_on i.so_far.2 (elements_no_tick _ _ _ _ _ _ _ (max 1 (least_width (type_of c.args.self.now.nodes.now c.args.element))) _ i.so_far.1 i.inside due e.err (e.err ∙ e.refused.0 refl ∙ i.frame.limit) e.made))
+    rw (p.1, p.2) (follow_on i.so_far.2
+    (elements_no_tick _ _ _ _ _ _ _ (max 1 (least_width (type_of c.args.self.now.nodes.now c.args.element))) _
+    i.so_far.1 i.inside due e.err (e.err ∙ e.refused.0 refl ∙ i.frame.limit) e.made))
 
 pub map_elements-returns-then-end-place-clause-is : goal.map_elements-returns-then-end-place-clause-is
 map_elements-returns-then-end-place-clause-is g t c =
@@ -487,9 +610,12 @@ map_elements-returns-then-end-place-clause-is g t c =
     let due = rw c.len-bits.ensures at due in
     let m = rw i.lent.nodes at c.in-Ok.ensures.is in
     let h = rw i.frame.len at m.follows in
-    let h = in_world (g.S.Space.view c.args.space.now) (g.S.Space.view c.loop-order.space) i.frame.bytes i.frame.room c.in-Ok.ensures.frame.left.room h in
+    let h = in_world (g.S.Space.view c.args.space.now) (g.S.Space.view c.loop-order.space) i.frame.bytes i.frame.room
+    c.in-Ok.ensures.frame.left.room h in
     let h = element_done (row_of (type_of c.args.self.now.nodes.now c.args.element)) c.requires.apart h in
-    rw c.from.ensures (follow_on (in_later i.frame.room c.in-Ok.ensures.frame.left.room i.so_far.2) (elements_no_bits _ _ _ _ _ _ _ (max 1 (least_width (type_of c.args.self.now.nodes.now c.args.element))) _ i.so_far.1 i.inside due (e.limit ∙ i.frame.limit) e.ok e.made _ (m.ends ∙ c.if-end-place.true) h))
+    rw c.from.ensures (follow_on (in_later i.frame.room c.in-Ok.ensures.frame.left.room i.so_far.2)
+    (elements_no_bits _ _ _ _ _ _ _ (max 1 (least_width (type_of c.args.self.now.nodes.now c.args.element))) _
+    i.so_far.1 i.inside due (e.limit ∙ i.frame.limit) e.ok e.made _ (m.ends ∙ c.if-end-place.true) h))
 
 pub map_elements-loop-order-preserved : goal.map_elements-loop-order-preserved
 map_elements-loop-order-preserved g t c =
@@ -499,13 +625,21 @@ map_elements-loop-order-preserved g t c =
     let due = rw c.len-bits.ensures at due in
     let m = rw i.lent.nodes at c.in-Ok.ensures.is in
     let h = rw i.frame.len at m.follows in
-    let h = in_world (g.S.Space.view c.args.space.now) (g.S.Space.view c.loop-order.space) i.frame.bytes i.frame.room c.in-Ok.ensures.frame.left.room h in
+    let h = in_world (g.S.Space.view c.args.space.now) (g.S.Space.view c.loop-order.space) i.frame.bytes i.frame.room
+    c.in-Ok.ensures.frame.left.room h in
     let wide = followed_wide _ _ _ _ _ h in
     let ends = m.ends in
-    let far : c.loop-order.place + max 1 (least_width (type_of c.args.self.now.nodes.now c.args.element)) ≤ c.in-Ok.end = omega (arith, wide, ends, c.in-Ok.ensures.ends.0, c.if-end-place.false) in
+    let far : c.loop-order.place + max 1 (least_width (type_of c.args.self.now.nodes.now c.args.element))
+    ≤ c.in-Ok.end =
+    omega (arith, wide, ends, c.in-Ok.ensures.ends.0, c.if-end-place.false) in
     let fit = followed_fits _ _ _ _ _ h in
     let h = element_done (row_of (type_of c.args.self.now.nodes.now c.args.element)) c.requires.apart h in
-    let next = elements_goes (element_plan (type_of c.args.self.now.nodes.now c.args.element) (plan (8 * (g.S.Space.view c.args.space.now).len) (type_of c.args.self.now.nodes.now c.args.element) c.args.order)) (8 * (g.S.Space.view c.args.space.now).len) c.args.start c.args.extent c.loop-order.count (levels c.args.self.now.nodes.now c.loop-order.self.store.now) c.loop-order.place (max 1 (least_width (type_of c.args.self.now.nodes.now c.args.element))) _ i.so_far.1 i.inside due (e.limit ∙ i.frame.limit) e.ok e.made m.value c.in-Ok.end (c.loop-order.count + 1) refl ends c.if-end-place.false far h in
+    let next = elements_goes (element_plan (type_of c.args.self.now.nodes.now c.args.element)
+    (plan (8 * (g.S.Space.view c.args.space.now).len) (type_of c.args.self.now.nodes.now c.args.element) c.args.order))
+    (8 * (g.S.Space.view c.args.space.now).len) c.args.start c.args.extent c.loop-order.count
+    (levels c.args.self.now.nodes.now c.loop-order.self.store.now) c.loop-order.place
+    (max 1 (least_width (type_of c.args.self.now.nodes.now c.args.element))) _ i.so_far.1 i.inside due (e.limit
+    ∙ i.frame.limit) e.ok e.made m.value c.in-Ok.end (c.loop-order.count + 1) refl ends c.if-end-place.false far h in
     record {
       lent = search rules;
       frame = search rules;
@@ -513,7 +647,11 @@ map_elements-loop-order-preserved g t c =
       inside = search rules;
       level = pushed_stays c.args.self.now.nodes.now _ _ _ _ i.level m.kept c.in-Ok.ensures.level.depth;
       counted = omega (arith, i.counted, far);
-      so_far = (next.0, next.1, rw m.kept (follow_on (in_later i.frame.room c.in-Ok.ensures.frame.left.room i.so_far.2) next.2));
+      so_far = (
+        next.0,
+        next.1,
+        rw m.kept (follow_on (in_later i.frame.room c.in-Ok.ensures.frame.left.room i.so_far.2) next.2),
+      );
     }
 
 pub map_elements-returns-then-ends-clause-is : goal.map_elements-returns-then-ends-clause-is
@@ -523,11 +661,14 @@ map_elements-returns-then-ends-clause-is g t c =
     let due = sym c.is_due.ensures ∙ c.loop-order-test.true in
     let due = rw c.len-bits.ensures at due in
     let h = rw (i.lent.nodes, i.frame.len) at c.in-Err.ensures.is in
-    let h = in_world (g.S.Space.view c.args.space.now) (g.S.Space.view c.loop-order.space) i.frame.bytes i.frame.room c.in-Err.ensures.frame.left.room h in
+    let h = in_world (g.S.Space.view c.args.space.now) (g.S.Space.view c.loop-order.space) i.frame.bytes i.frame.room
+    c.in-Err.ensures.frame.left.room h in
     let ends = sym c.ends.ensures ∙ c.if-ends.true in
     let h = element_stopped (row_of (type_of c.args.self.now.nodes.now c.args.element)) c.requires.apart _ h in
     let stays = rw i.lent.nodes at c.in-Err.ensures.level in
-    rw stays.same (follow_on (in_later i.frame.room c.in-Err.ensures.frame.left.room i.so_far.2) (elements_over _ _ _ _ _ _ _ (max 1 (least_width (type_of c.args.self.now.nodes.now c.args.element))) _ i.so_far.1 i.inside due (e.limit ∙ i.frame.limit) e.ok e.made _ ends h))
+    rw stays.same (follow_on (in_later i.frame.room c.in-Err.ensures.frame.left.room i.so_far.2)
+    (elements_over _ _ _ _ _ _ _ (max 1 (least_width (type_of c.args.self.now.nodes.now c.args.element))) _ i.so_far.1
+    i.inside due (e.limit ∙ i.frame.limit) e.ok e.made _ ends h))
 
 pub map_elements-returns-in-Err-clause-is : goal.map_elements-returns-in-Err-clause-is
 map_elements-returns-in-Err-clause-is g t c =
@@ -536,24 +677,31 @@ map_elements-returns-in-Err-clause-is g t c =
     let due = sym c.is_due.ensures ∙ c.loop-order-test.true in
     let due = rw c.len-bits.ensures at due in
     let h = rw (i.lent.nodes, i.frame.len) at c.in-Err.ensures.is in
-    let h = in_world (g.S.Space.view c.args.space.now) (g.S.Space.view c.loop-order.space) i.frame.bytes i.frame.room c.in-Err.ensures.frame.left.room h in
+    let h = in_world (g.S.Space.view c.args.space.now) (g.S.Space.view c.loop-order.space) i.frame.bytes i.frame.room
+    c.in-Err.ensures.frame.left.room h in
     let ends = sym c.ends.ensures ∙ c.if-ends.false in
     let h = element_stopped (row_of (type_of c.args.self.now.nodes.now c.args.element)) c.requires.apart _ h in
-    follow_on (in_later i.frame.room c.in-Err.ensures.frame.left.room i.so_far.2) (elements_stop _ _ _ _ _ _ _ (max 1 (least_width (type_of c.args.self.now.nodes.now c.args.element))) _ i.so_far.1 i.inside due (e.limit ∙ i.frame.limit) e.ok e.made _ ends h)
+    follow_on (in_later i.frame.room c.in-Err.ensures.frame.left.room i.so_far.2)
+    (elements_stop _ _ _ _ _ _ _ (max 1 (least_width (type_of c.args.self.now.nodes.now c.args.element))) _ i.so_far.1
+    i.inside due (e.limit ∙ i.frame.limit) e.ok e.made _ ends h)
 
 pub map_elements-returns-then-is_met-clause-is : goal.map_elements-returns-then-is_met-clause-is
 map_elements-returns-then-is_met-clause-is g t c =
     let i = c.loop-order.invariant in
     let over = sym c.is_due.ensures ∙ c.loop-order-test.false in
     let over = rw c.len-bits.ensures at over in
-    follow_on i.so_far.2 (elements_end _ _ _ _ _ _ _ (max 1 (least_width (type_of c.args.self.now.nodes.now c.args.element))) _ i.so_far.1 i.inside over (sym c.is_met.ensures ∙ c.if-is_met.true))
+    follow_on i.so_far.2
+    (elements_end _ _ _ _ _ _ _ (max 1 (least_width (type_of c.args.self.now.nodes.now c.args.element))) _ i.so_far.1
+    i.inside over (sym c.is_met.ensures ∙ c.if-is_met.true))
 
 pub map_elements-returns-else-is_met-clause-is : goal.map_elements-returns-else-is_met-clause-is
 map_elements-returns-else-is_met-clause-is g t c =
     let i = c.loop-order.invariant in
     let over = sym c.is_due.ensures ∙ c.loop-order-test.false in
     let over = rw c.len-bits.ensures at over in
-    rw c.from-else-is_met.ensures (follow_on i.so_far.2 (elements_beyond _ _ _ _ _ _ _ (max 1 (least_width (type_of c.args.self.now.nodes.now c.args.element))) _ i.so_far.1 i.inside over (sym c.is_met.ensures ∙ c.if-is_met.false)))
+    rw c.from-else-is_met.ensures (follow_on i.so_far.2
+    (elements_beyond _ _ _ _ _ _ _ (max 1 (least_width (type_of c.args.self.now.nodes.now c.args.element))) _ i.so_far.1
+    i.inside over (sym c.is_met.ensures ∙ c.if-is_met.false)))
 
 pub map_alternatives-loop-index-init : goal.map_alternatives-loop-index-init
 map_alternatives-loop-index-init g t c = record {
@@ -571,12 +719,16 @@ map_alternatives-returns-in_err-tick-clause-is g t c =
     let e = c.in_err-tick.ensures in
     let next = drop_more c.args.alternatives.now c.loop-index.index c.index-alternatives-index.result (omega arith) in
     let next = rw (← c.index-alternatives-index.is) at next in
-    rw (p.1, p.2) (follow_on i.so_far (alternatives_no_tick _ _ _ _ _ _ _ _ _ next e.err (e.err ∙ e.refused.0 refl ∙ i.frame.limit) e.made))
+    rw (p.1, p.2) (follow_on i.so_far
+    (alternatives_no_tick _ _ _ _ _ _ _ _ _ next e.err (e.err ∙ e.refused.0 refl ∙ i.frame.limit) e.made))
 
 pub map_alternatives-map_checked-requires : goal.map_alternatives-map_checked-requires
 map_alternatives-map_checked-requires g t c =
-    let bounded = part_bounded c.args.alternatives.now c.loop-index.index c.index-alternatives-index.result (omega arith) c.index-alternatives-index.is in
-    let part = of_one (IsPartOf c.args.self.now.nodes.now (level_count c.args.self.now.store.now)) c.args.alternatives.now c.loop-index.index c.index-alternatives-index.result c.requires.alternatives (omega arith) c.index-alternatives-index.is in
+    let bounded = part_bounded c.args.alternatives.now c.loop-index.index c.index-alternatives-index.result
+    (omega arith) c.index-alternatives-index.is in
+    let part = of_one (IsPartOf c.args.self.now.nodes.now (level_count c.args.self.now.store.now))
+    c.args.alternatives.now c.loop-index.index c.index-alternatives-index.result c.requires.alternatives (omega arith)
+    c.index-alternatives-index.is in
     let part = rw (← c.loop-index.invariant.depth) at part in
     search rules
 
@@ -588,10 +740,18 @@ map_alternatives-returns-in-Ok-clause-is g t c =
     let next = rw (← c.index-alternatives-index.is) at next in
     let m = rw i.lent.nodes at c.in-Ok.ensures.is in
     let h = rw (i.frame.len, i.same, c.ordered-prefixed.ensures, c.from-origin.ensures) at m.follows in
-    let h = in_world (g.S.Space.view c.args.space.now) (g.S.Space.view c.loop-index.space) i.frame.bytes i.frame.room c.in-Ok.ensures.frame.left.room h in
+    let h = in_world (g.S.Space.view c.args.space.now) (g.S.Space.view c.loop-index.space) i.frame.bytes i.frame.room
+    c.in-Ok.ensures.frame.left.room h in
     let keeps = m.kept ∙ ap (λ ls. pushed ls (Some m.value)) i.same in
-    let named = name_of_one c.args.alternatives.now c.loop-index.index c.index-alternatives-index.result (omega arith) c.index-alternatives-index.is in
-    record { value = m.value; keeps = keeps; ends = m.ends; follows = rw named (follow_on (in_later i.frame.room c.in-Ok.ensures.frame.left.room i.so_far) (alternatives_fit _ _ _ _ _ _ _ _ _ next (e.limit ∙ i.frame.limit) e.ok e.made m.value h)) }
+    let named = name_of_one c.args.alternatives.now c.loop-index.index c.index-alternatives-index.result (omega arith)
+    c.index-alternatives-index.is in
+    record {
+      value = m.value;
+      keeps = keeps;
+      ends = m.ends;
+      follows = rw named (follow_on (in_later i.frame.room c.in-Ok.ensures.frame.left.room i.so_far)
+          (alternatives_fit _ _ _ _ _ _ _ _ _ next (e.limit ∙ i.frame.limit) e.ok e.made m.value h));
+    }
 
 pub map_alternatives-returns-then-not-misses-clause-is : goal.map_alternatives-returns-then-not-misses-clause-is
 map_alternatives-returns-then-not-misses-clause-is g t c =
@@ -599,9 +759,12 @@ map_alternatives-returns-then-not-misses-clause-is g t c =
     let e = c.in_ok-tick.ensures in
     let next = drop_more c.args.alternatives.now c.loop-index.index c.index-alternatives-index.result (omega arith) in
     let next = rw (← c.index-alternatives-index.is) at next in
-    let h = rw (i.lent.nodes, i.frame.len, i.same, c.ordered-prefixed.ensures, c.from-origin.ensures) at c.in-Err.ensures.is in
-    let h = in_world (g.S.Space.view c.args.space.now) (g.S.Space.view c.loop-index.space) i.frame.bytes i.frame.room c.in-Err.ensures.frame.left.room h in
-    follow_on (in_later i.frame.room c.in-Err.ensures.frame.left.room i.so_far) (alternatives_stop _ _ _ _ _ _ _ _ _ next (e.limit ∙ i.frame.limit) e.ok e.made _ (sym c.misses.ensures ∙ c.if-not-misses.true) h)
+    let h =
+    rw (i.lent.nodes, i.frame.len, i.same, c.ordered-prefixed.ensures, c.from-origin.ensures) at c.in-Err.ensures.is in
+    let h = in_world (g.S.Space.view c.args.space.now) (g.S.Space.view c.loop-index.space) i.frame.bytes i.frame.room
+    c.in-Err.ensures.frame.left.room h in
+    follow_on (in_later i.frame.room c.in-Err.ensures.frame.left.room i.so_far) (alternatives_stop _ _ _ _ _ _ _ _ _
+    next (e.limit ∙ i.frame.limit) e.ok e.made _ (sym c.misses.ensures ∙ c.if-not-misses.true) h)
 
 pub map_alternatives-loop-index-preserved : goal.map_alternatives-loop-index-preserved
 map_alternatives-loop-index-preserved g t c =
@@ -609,10 +772,13 @@ map_alternatives-loop-index-preserved g t c =
     let e = c.in_ok-tick.ensures in
     let next = drop_more c.args.alternatives.now c.loop-index.index c.index-alternatives-index.result (omega arith) in
     let next = rw (← c.index-alternatives-index.is) at next in
-    let h = rw (i.lent.nodes, i.frame.len, i.same, c.ordered-prefixed.ensures, c.from-origin.ensures) at c.in-Err.ensures.is in
-    let h = in_world (g.S.Space.view c.args.space.now) (g.S.Space.view c.loop-index.space) i.frame.bytes i.frame.room c.in-Err.ensures.frame.left.room h in
+    let h =
+    rw (i.lent.nodes, i.frame.len, i.same, c.ordered-prefixed.ensures, c.from-origin.ensures) at c.in-Err.ensures.is in
+    let h = in_world (g.S.Space.view c.args.space.now) (g.S.Space.view c.loop-index.space) i.frame.bytes i.frame.room
+    c.in-Err.ensures.frame.left.room h in
     let h = in_later (room_then i.frame.room c.in-Err.ensures.frame.left.room) c.clear_level.ensures.room h in
-    let clears = moves_to (room_then i.frame.room c.in-Err.ensures.frame.left.room) (same_room c.clear_level.new.self) c.clear_level.ensures.within c.clear_level.ensures.moves in
+    let clears = moves_to (room_then i.frame.room c.in-Err.ensures.frame.left.room) (same_room c.clear_level.new.self)
+    c.clear_level.ensures.within c.clear_level.ensures.moves in
     let cleared = c.clear_level.ensures.levels c.args.self.now.nodes.now in
     let stays = rw i.lent.nodes at c.in-Err.ensures.level in
     record {
@@ -620,10 +786,14 @@ map_alternatives-loop-index-preserved g t c =
       frame = search rules;
       same = cleared ∙ ap (λ o. [] ∷ o) (stays.outer ∙ ap outer_of i.same) ∙ sym c.requires.fresh;
       depth = search rules;
-      so_far = follow_on (in_later i.frame.room (room_then c.in-Err.ensures.frame.left.room c.clear_level.ensures.room) i.so_far) (alternatives_miss _ _ _ _ _ _ _ _ _ next (e.limit ∙ i.frame.limit) e.ok e.made clears _ (sym c.misses.ensures ∙ c.if-not-misses.false) h);
+      so_far = follow_on
+          (in_later i.frame.room (room_then c.in-Err.ensures.frame.left.room c.clear_level.ensures.room) i.so_far)
+          (alternatives_miss _ _ _ _ _ _ _ _ _ next (e.limit ∙ i.frame.limit) e.ok e.made clears _
+          (sym c.misses.ensures ∙ c.if-not-misses.false) h);
     }
 
 pub map_alternatives-returns-clause-is : goal.map_alternatives-returns-clause-is
 map_alternatives-returns-clause-is g t c =
     let i = c.loop-index.invariant in
-    rw c.from.ensures (follow_on i.so_far (alternatives_end _ _ _ _ _ _ _ (drop_all c.loop-index.index c.args.alternatives.now (omega arith))))
+    rw c.from.ensures (follow_on i.so_far
+    (alternatives_end _ _ _ _ _ _ _ (drop_all c.loop-index.index c.args.alternatives.now (omega arith))))

@@ -30,6 +30,8 @@ invariant-place_fields-loop-part g l = record {
   left : l.left ≤ 64;
   level : LevelStays l.initial.self.nodes.now l.initial.self.store.now l.self.store.now;
   so_far : Works l.initial.self.meter.now l.self.meter.now l.initial.self.store.now l.self.store.now
-      (digits_plan (open_parts (type_of l.initial.self.nodes.now) l.fields) l.digits l.width (levels l.initial.self.nodes.now l.initial.self.store.now) l.start)
-      (Partly (digits_plan (open_parts (type_of l.initial.self.nodes.now) (drop l.part-index l.fields)) l.digits l.left (levels l.initial.self.nodes.now l.self.store.now) l.start));
+      (digits_plan (open_parts (type_of l.initial.self.nodes.now) l.fields) l.digits l.width
+      (levels l.initial.self.nodes.now l.initial.self.store.now) l.start)
+      (Partly (digits_plan (open_parts (type_of l.initial.self.nodes.now) (drop l.part-index l.fields)) l.digits l.left
+      (levels l.initial.self.nodes.now l.self.store.now) l.start));
 }

@@ -14,10 +14,17 @@ returns-in_err-check-clause-is g c =
     let p = err_from_is_err_and c.from_residual-in_err-check.result c.from_residual-in_err-check.ensures.1 in
     let h = c.in_ok-end.ensures.is in
     let checked = rw (h.kept, c.from.ensures) at c.in_err-check.ensures.is in
-    rw (p.1, p.2) (checks_stop _ _ _ _ h.value h.follows c.in_ok-end.ensures.frame.left.limit c.in_err-check.ensures.made _ (omega arith) checked)
+    rw (p.1, p.2) (checks_stop _ _ _ _ h.value h.follows c.in_ok-end.ensures.frame.left.limit
+    c.in_err-check.ensures.made _ (omega arith) checked)
 
 pub returns-clause-is : goal.returns-clause-is
 returns-clause-is g c =
     let h = c.in_ok-end.ensures.is in
     let checked = rw (h.kept, c.from.ensures) at c.in_ok-check.ensures.is in
-    record { value = h.value; kept = h.kept; ends = h.ends; follows = checks_ok _ _ _ _ h.value h.follows c.in_ok-end.ensures.frame.left.limit c.in_ok-check.ensures.made tt checked }
+    record {
+      value = h.value;
+      kept = h.kept;
+      ends = h.ends;
+      follows = checks_ok _ _ _ _ h.value h.follows c.in_ok-end.ensures.frame.left.limit
+          c.in_ok-check.ensures.made tt checked;
+    }

@@ -38,7 +38,8 @@ returns-in_err-tick-clause-is g c =
     let e = c.in_err-tick.ensures in
     let next = drop_more c.args.fields.now c.loop-field.field-index c.field-item.result (omega arith) in
     let next = rw (← c.field-item.is) at next in
-    rw (p.1, p.2) (follow_on i.so_far (fields_no_tick _ _ _ _ _ _ _ _ _ _ _ next e.err (e.err ∙ e.refused.0 refl ∙ i.frame.limit) e.made))
+    rw (p.1, p.2) (follow_on i.so_far
+    (fields_no_tick _ _ _ _ _ _ _ _ _ _ _ next e.err (e.err ∙ e.refused.0 refl ∙ i.frame.limit) e.made))
 
 pub map_column-requires : goal.map_column-requires
 map_column-requires g c =
@@ -46,7 +47,8 @@ map_column-requires g c =
     let next = drop_more c.args.fields.now c.loop-field.field-index c.field-item.result (omega arith) in
     let next = rw (← c.field-item.is) at next in
     let first = first_column (type_of c.args.self.now.nodes.now) _ c.field-item.result _ next i.columns in
-    let field = of_one (IsFieldOf c.args.self.now.nodes.now (level_count c.args.self.now.store.now)) c.args.fields.now c.loop-field.field-index c.field-item.result c.requires.fields (omega arith) c.field-item.is in
+    let field = of_one (IsFieldOf c.args.self.now.nodes.now (level_count c.args.self.now.store.now)) c.args.fields.now
+    c.loop-field.field-index c.field-item.result c.requires.fields (omega arith) c.field-item.is in
     let scalar = first.0 in
     search rules
 
@@ -59,8 +61,10 @@ returns-in_err-place-clause-is g c =
     let next = rw (← c.field-item.is) at next in
     let first = first_column (type_of c.args.self.now.nodes.now) _ c.field-item.result _ next i.columns in
     let h = rw (i.lent.nodes, i.frame.len, c.ordered.ensures) at c.in_err-place.ensures.is in
-    let h = in_world (g.S.Space.view c.args.space.now) (g.S.Space.view c.loop-field.space) i.frame.bytes i.frame.room c.in_err-place.ensures.frame.left.room h in
-    rw (p.1, p.2) (follow_on (in_later i.frame.room c.in_err-place.ensures.frame.left.room i.so_far) (column_stops _ _ _ _ _ _ _ _ _ next first.2 first.3 (e.limit ∙ i.frame.limit) e.ok e.made _ h))
+    let h = in_world (g.S.Space.view c.args.space.now) (g.S.Space.view c.loop-field.space) i.frame.bytes i.frame.room
+    c.in_err-place.ensures.frame.left.room h in
+    rw (p.1, p.2) (follow_on (in_later i.frame.room c.in_err-place.ensures.frame.left.room i.so_far)
+    (column_stops _ _ _ _ _ _ _ _ _ next first.2 first.3 (e.limit ∙ i.frame.limit) e.ok e.made _ h))
 
 pub loop-field-preserved : goal.loop-field-preserved
 loop-field-preserved g c =
@@ -71,14 +75,19 @@ loop-field-preserved g c =
     let first = first_column (type_of c.args.self.now.nodes.now) _ c.field-item.result _ next i.columns in
     let m = rw i.lent.nodes at c.in_ok-place.ensures.is in
     let h = rw (i.frame.len, c.ordered.ensures) at m.follows in
-    let h = in_world (g.S.Space.view c.args.space.now) (g.S.Space.view c.loop-field.space) i.frame.bytes i.frame.room c.in_ok-place.ensures.frame.left.room h in
+    let h = in_world (g.S.Space.view c.args.space.now) (g.S.Space.view c.loop-field.space) i.frame.bytes i.frame.room
+    c.in_ok-place.ensures.frame.left.room h in
     let ends = c.in_ok-place.ensures.ends in
     let adds = rw i.lent.nodes at c.in_ok-place.ensures.adds in
     let nodes = c.args.self.now.nodes.now in
     let shape = scalar_shape (type_of nodes c.field-item.result.node) in
-    let more = shapes_more (type_of nodes) c.args.fields.now c.loop-field.field-index c.field-item.result (omega arith) (sym c.field-item.is) in
-    let longer : length c.map_column.new.row.items ≡ length c.loop-field.row.items + bytes_for (number_bits shape) = adds_length _ _ shape _ _ _ _ adds in
-    let rest : struct_bytes (shapes_of (type_of nodes) (drop c.loop-field.field-index c.args.fields.now)) ≡ struct_bytes (shapes_of (type_of nodes) (c.field-item.result ∷ drop (c.loop-field.field-index + 1) c.args.fields.now)) = ap (λ fs. struct_bytes (shapes_of (type_of nodes) fs)) next in
+    let more = shapes_more (type_of nodes) c.args.fields.now c.loop-field.field-index c.field-item.result (omega arith)
+    (sym c.field-item.is) in
+    let longer : length c.map_column.new.row.items ≡ length c.loop-field.row.items + bytes_for (number_bits shape) =
+    adds_length _ _ shape _ _ _ _ adds in
+    let rest : struct_bytes (shapes_of (type_of nodes) (drop c.loop-field.field-index c.args.fields.now)) ≡ struct_bytes
+    (shapes_of (type_of nodes) (c.field-item.result ∷ drop (c.loop-field.field-index + 1) c.args.fields.now)) =
+    ap (λ fs. struct_bytes (shapes_of (type_of nodes) fs)) next in
     record {
       lent = search rules;
       frame = search rules;
@@ -89,18 +98,23 @@ loop-field-preserved g c =
       more = places_more _ _ _ i.more c.in_ok-place.ensures.more;
       adds = rw more (adds_more _ _ _ _ shape c.args.start _ _ _ _ _ i.adds adds);
       room = omega (arith, i.room, rest, longer);
-      so_far = rw m.kept (follow_on (in_later i.frame.room c.in_ok-place.ensures.frame.left.room i.so_far) (column_goes _ _ _ _ _ _ _ _ _ next first.2 first.3 (e.limit ∙ i.frame.limit) e.ok e.made m.value _ m.ends ends.0 h));
+      so_far =
+          rw m.kept (follow_on (in_later i.frame.room c.in_ok-place.ensures.frame.left.room i.so_far) (column_goes _ _ _
+          _ _ _ _ _ _ next first.2 first.3 (e.limit ∙ i.frame.limit) e.ok e.made m.value _ m.ends ends.0 h));
     }
 
 pub returns-clause-is : goal.returns-clause-is
 returns-clause-is g c =
     let i = c.loop-field.invariant in
-    follow_on i.so_far (fields_end _ _ _ _ _ _ _ _ _ (drop_all c.loop-field.field-index c.args.fields.now (omega arith)))
+    follow_on i.so_far
+    (fields_end _ _ _ _ _ _ _ _ _ (drop_all c.loop-field.field-index c.args.fields.now (omega arith)))
 
 pub returns-clause-adds : goal.returns-clause-adds
 returns-clause-adds g c =
     let all = take_all c.loop-field.field-index c.args.fields.now (omega arith) in
-    subst (λ fs. AddsColumns c.args.self.now.store.now c.loop-field.self.store.now (shapes_of (type_of c.args.self.now.nodes.now) fs) c.args.start c.loop-field.place c.args.row.now.items c.loop-field.row.items) all c.loop-field.invariant.adds
+    subst (λ fs.
+    AddsColumns c.args.self.now.store.now c.loop-field.self.store.now (shapes_of (type_of c.args.self.now.nodes.now) fs)
+    c.args.start c.loop-field.place c.args.row.now.items c.loop-field.row.items) all c.loop-field.invariant.adds
 
 pub returns-in_err-place-clause-more : goal.returns-in_err-place-clause-more
 returns-in_err-place-clause-more g c = places_more _ _ _ c.loop-field.invariant.more c.in_err-place.ensures.more

@@ -15,9 +15,11 @@ returns-in_err-digits-clause-is g c =
 pub returns-in_err-place_scalar-clause-is : goal.returns-in_err-place_scalar-clause-is
 unfolding read_plan
 returns-in_err-place_scalar-clause-is g c =
-    let p = err_from_is_err_and c.from_residual-in_err-place_scalar.result c.from_residual-in_err-place_scalar.ensures.1 in
+    let p =
+    err_from_is_err_and c.from_residual-in_err-place_scalar.result c.from_residual-in_err-place_scalar.ensures.1 in
     let r = c.in_ok-digits.ensures in
-    rw (p.1, p.2) (read_goes _ _ _ _ _ _ _ r.limit r.steps r.made r.inside r.ok (c.in_err-place_scalar.ensures.is (known_bits (g.S.Space.view c.args.space.now))))
+    rw (p.1, p.2) (read_goes _ _ _ _ _ _ _ r.limit r.steps r.made r.inside r.ok
+    (c.in_err-place_scalar.ensures.is (known_bits (g.S.Space.view c.args.space.now))))
 
 pub returns-clause-is : goal.returns-clause-is
 unfolding read_plan
@@ -26,4 +28,9 @@ returns-clause-is g c =
     let h = c.in_ok-place_scalar.ensures.is (known_bits (g.S.Space.view c.args.space.now)) in
     let wide = ap width_in c.requires.number in
     let ends = rw wide at h.ends in
-    rw c.from.ensures (record { value = h.value; kept = h.kept; ends = ends; follows = read_goes _ _ _ _ _ _ _ r.limit r.steps r.made r.inside r.ok h.follows })
+    rw c.from.ensures (record {
+      value = h.value;
+      kept = h.kept;
+      ends = ends;
+      follows = read_goes _ _ _ _ _ _ _ r.limit r.steps r.made r.inside r.ok h.follows;
+    })

@@ -14,13 +14,16 @@ returns-in_err-digits-clause-is g c =
 pub returns-in_err-place_integer-clause-is : goal.returns-in_err-place_integer-clause-is
 unfolding read_plan
 returns-in_err-place_integer-clause-is g c =
-    let p = err_from_is_err_and c.from_residual-in_err-place_integer.result c.from_residual-in_err-place_integer.ensures.1 in
+    let p =
+    err_from_is_err_and c.from_residual-in_err-place_integer.result c.from_residual-in_err-place_integer.ensures.1 in
     let r = c.in_ok-digits.ensures in
-    rw (p.1, p.2) (read_goes _ _ _ _ _ _ _ r.limit r.steps r.made r.inside r.ok (c.in_err-place_integer.ensures.is (known_bits (g.S.Space.view c.args.space.now))))
+    rw (p.1, p.2) (read_goes _ _ _ _ _ _ _ r.limit r.steps r.made r.inside r.ok
+    (c.in_err-place_integer.ensures.is (known_bits (g.S.Space.view c.args.space.now))))
 
 pub returns-in_err-place_integer-clause-level : goal.returns-in_err-place_integer-clause-level
 returns-in_err-place_integer-clause-level g c =
-    let p = err_from_is_err_and c.from_residual-in_err-place_integer.result c.from_residual-in_err-place_integer.ensures.1 in
+    let p =
+    err_from_is_err_and c.from_residual-in_err-place_integer.result c.from_residual-in_err-place_integer.ensures.1 in
     let level = c.in_err-place_integer.ensures.level in
     rw p.1 (record { same = level.same; depth = level.depth })
 
@@ -32,4 +35,9 @@ unfolding read_plan
 returns-clause-is g c =
     let r = c.in_ok-digits.ensures in
     let h = c.in_ok-place_integer.ensures.is (known_bits (g.S.Space.view c.args.space.now)) in
-    rw c.from.ensures (record { value = h.value; kept = h.kept; ends = h.ends; follows = read_goes _ _ _ _ _ _ _ r.limit r.steps r.made r.inside r.ok h.follows })
+    rw c.from.ensures (record {
+      value = h.value;
+      kept = h.kept;
+      ends = h.ends;
+      follows = read_goes _ _ _ _ _ _ _ r.limit r.steps r.made r.inside r.ok h.follows;
+    })

@@ -13,7 +13,12 @@ pub returns-in-Ok-clause-is : goal.returns-in-Ok-clause-is
 returns-in-Ok-clause-is g c =
     let e = c.in_ok-tick.ensures in
     let h = c.in-Ok.ensures.is in
-    rw c.in-Ok.is (record { digits = h.digits; adds = h.adds; ends = h.ends; runs = inside_ticks _ _ _ c.requires.inside e.limit e.ok e.made h.runs })
+    rw c.in-Ok.is (record {
+      digits = h.digits;
+      adds = h.adds;
+      ends = h.ends;
+      runs = inside_ticks _ _ _ c.requires.inside e.limit e.ok e.made h.runs;
+    })
 
 pub returns-in-Err-clause-is : goal.returns-in-Err-clause-is
 returns-in-Err-clause-is g c =

@@ -19,16 +19,23 @@ decreases-loop-order g l = 8 * (g.S.Space.view l.initial.space).len - l.place
 abbrev pub invariant-loop-order : goal.invariant-loop-order
 invariant-loop-order g l = record {
   lent : StaysLent l.fn.self l.self;
-  frame : Frame (g.S.Space.view l.fn.space) (g.S.Space.view l.space) l.fn.self.meter.now l.self.meter.now l.fn.self.store.now l.self.store.now 0 under_way;
+  frame : Frame (g.S.Space.view l.fn.space) (g.S.Space.view l.space) l.fn.self.meter.now l.self.meter.now
+      l.fn.self.store.now l.self.store.now 0 under_way;
   after : l.start ≤ l.place;
   inside : l.place ≤ 8 * (g.S.Space.view l.fn.space).len;
   level : LevelStays l.fn.self.nodes.now l.fn.self.store.now l.self.store.now;
   counted : l.count + l.start ≤ l.place;
-  so_far : (rows : List (List ℕ)) × (n : ℕ) × (8 * (g.S.Space.view l.fn.space).len < l.place + n * max 1 (least_width (type_of l.fn.self.nodes.now l.element))) ×
+  so_far : (rows : List (List ℕ)) × (n : ℕ) × (8 * (g.S.Space.view l.fn.space).len
+      < l.place + n * max 1 (least_width (type_of l.fn.self.nodes.now l.element))) ×
       (l.place ≡ l.start + struct_bits (shapes_of (type_of l.fn.self.nodes.now) l.fields) * length rows) ×
-      HasStructs l.fn.self.nodes.now l.self.store.now l.element (shapes_of (type_of l.fn.self.nodes.now) l.fields) l.start (outer_of (levels l.fn.self.nodes.now l.fn.self.store.now)) rows ×
+      HasStructs l.fn.self.nodes.now l.self.store.now l.element (shapes_of (type_of l.fn.self.nodes.now) l.fields)
+      l.start (outer_of (levels l.fn.self.nodes.now l.fn.self.store.now)) rows ×
       Runs (g.S.Space.view l.fn.space) l.fn.self.meter.now l.self.meter.now l.fn.self.store.now l.self.store.now
-      (as_elements l.element l.extent l.order l.start l.fn.self.nodes.now (8 * (g.S.Space.view l.fn.space).len) (levels l.fn.self.nodes.now l.fn.self.store.now))
-      (Partly (elements_plan (element_plan (type_of l.fn.self.nodes.now l.element) (plan (8 * (g.S.Space.view l.fn.space).len) (type_of l.fn.self.nodes.now l.element) l.order)) (8 * (g.S.Space.view l.fn.space).len) l.start l.extent n l.count
-      (structs_of l.fn.self.nodes.now l.element (shapes_of (type_of l.fn.self.nodes.now) l.fields) l.start rows ∷ outer_of (levels l.fn.self.nodes.now l.fn.self.store.now)) l.place));
+      (as_elements l.element l.extent l.order l.start l.fn.self.nodes.now (8 * (g.S.Space.view l.fn.space).len)
+      (levels l.fn.self.nodes.now l.fn.self.store.now))
+      (Partly (elements_plan (element_plan (type_of l.fn.self.nodes.now l.element)
+      (plan (8 * (g.S.Space.view l.fn.space).len) (type_of l.fn.self.nodes.now l.element) l.order))
+      (8 * (g.S.Space.view l.fn.space).len) l.start l.extent n l.count
+      (structs_of l.fn.self.nodes.now l.element (shapes_of (type_of l.fn.self.nodes.now) l.fields) l.start rows
+      ∷ outer_of (levels l.fn.self.nodes.now l.fn.self.store.now)) l.place));
 }

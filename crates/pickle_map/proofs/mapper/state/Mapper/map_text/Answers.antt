@@ -11,13 +11,15 @@ returns-in_err-tick-clause-is g c =
     rw (p.1, p.2) (follow_no_tick e.err (e.err ∙ e.refused.0 refl) e.made)
 
 pub text_body-mapped-requires-clause-writing : goal.text_body-mapped-requires-clause-writing
-text_body-mapped-requires-clause-writing g c = rw (c.open_text.ensures.levels c.args.self.now.nodes.now) (c.open_text.ensures.writes c.args.self.now.nodes.now c.args.start)
+text_body-mapped-requires-clause-writing g c = rw (c.open_text.ensures.levels c.args.self.now.nodes.now)
+    (c.open_text.ensures.writes c.args.self.now.nodes.now c.args.start)
 
 pub text_body-mapped-requires-clause-open : goal.text_body-mapped-requires-clause-open
 text_body-mapped-requires-clause-open g c = omega (arith, c.open_text.ensures.depth)
 
 pub leave_level-requires : goal.leave_level-requires
-leave_level-requires g c = left_open c.args.self.now.nodes.now c.open_text.ensures.room c.text_body-mapped.ensures.frame.left.room c.open_text.ensures.depth _ c.text_body-mapped.ensures.level
+leave_level-requires g c = left_open c.args.self.now.nodes.now c.open_text.ensures.room
+    c.text_body-mapped.ensures.frame.left.room c.open_text.ensures.depth _ c.text_body-mapped.ensures.level
 
 pub returns-clause-is : goal.returns-clause-is
 returns-clause-is g c =
@@ -25,9 +27,11 @@ returns-clause-is g c =
     let o = c.open_text.ensures in
     let left = c.leave_level.ensures in
     let h = rw (o.levels c.args.self.now.nodes.now) at c.text_body-mapped.ensures.is in
-    left_keeps c.args.self.now.nodes.now o.room c.text_body-mapped.ensures.frame.left.room left.room _ o.moves o.within (λ _ h. follow_tick e.limit e.ok e.made h) (λ end. end) _ left.left h
+    left_keeps c.args.self.now.nodes.now o.room c.text_body-mapped.ensures.frame.left.room left.room _ o.moves o.within
+    (λ _ h. follow_tick e.limit e.ok e.made h) (λ end. end) _ left.left h
 
 pub returns-clause-level : goal.returns-clause-level
 returns-clause-level g c =
     let o = c.open_text.ensures in
-    left_adds c.args.self.now.nodes.now o.room c.text_body-mapped.ensures.frame.left.room c.leave_level.ensures.room o.depth (o.levels c.args.self.now.nodes.now) _ c.text_body-mapped.ensures.level c.leave_level.ensures.left
+    left_adds c.args.self.now.nodes.now o.room c.text_body-mapped.ensures.frame.left.room c.leave_level.ensures.room
+    o.depth (o.levels c.args.self.now.nodes.now) _ c.text_body-mapped.ensures.level c.leave_level.ensures.left

@@ -14,7 +14,9 @@ begin_array-requires-clause-stride g c = let t = c.requires.takes in ap length t
 pub returns-clause-adds : goal.returns-clause-adds
 returns-clause-adds g c =
     let t = c.requires.takes in
-    ok_maps c.pack_record.result (row_adds c.args.self.now.nodes.now c.args.self.now.store.now c.begin_array.new.self.store.now c.pack_record.new.self c.args.at _ c.args.start c.args.end c.args.row.now c.in_ok-begin_array.ensures.opens t.ends t.short) c.pack_record.ensures.ok
+    ok_maps c.pack_record.result (row_adds c.args.self.now.nodes.now c.args.self.now.store.now
+    c.begin_array.new.self.store.now c.pack_record.new.self c.args.at _ c.args.start c.args.end c.args.row.now
+    c.in_ok-begin_array.ensures.opens t.ends t.short) c.pack_record.ensures.ok
 
 pub returns-clause-frame : goal.returns-clause-frame
 returns-clause-frame g c =
@@ -22,7 +24,10 @@ returns-clause-frame g c =
     let t = c.requires.takes in
     let stays = c.in_ok-begin_array.ensures.frame.level in
     let level : LevelStays c.args.self.now.nodes.now c.args.self.now.store.now c.pack_record.new.self = record {
-      outer = either_way c.pack_record.result (λ adds. row_stays nodes c.args.self.now.store.now c.pack_record.new.self c.args.at _ c.args.start c.args.row.now t.digits t.among t.are t.is adds) (λ e. ap outer_of (regrown-levels nodes c.begin_array.new.self.store.now c.pack_record.new.self e) ∙ stays.outer) (returns-clause-adds g c) c.pack_record.ensures.err;
+      outer = either_way c.pack_record.result (λ adds. row_stays nodes c.args.self.now.store.now c.pack_record.new.self
+          c.args.at _ c.args.start c.args.row.now t.digits t.among t.are t.is adds)
+          (λ e. ap outer_of (regrown-levels nodes c.begin_array.new.self.store.now c.pack_record.new.self e)
+          ∙ stays.outer) (returns-clause-adds g c) c.pack_record.ensures.err;
       depth = c.pack_record.ensures.depth ∙ stays.depth;
     } in
     let room = room_then c.in_ok-begin_array.ensures.frame.room c.pack_record.ensures.room in
@@ -33,5 +38,9 @@ returns-clause-state g c =
     let b = c.in_ok-begin_array.ensures in
     let h = c.args.self.now.store.now in
     let n = c.begin_array.new.self.store.now in
-    comes_to c.args.self.now.store.now c.pack_record.new.self _ c.pack_record.result (ok_maps c.pack_record.result (packed_is (packs n.room) (length c.args.fields.now) (length c.args.row.now) h n c.pack_record.new.self b.state.0) c.pack_record.ensures.moves) c.pack_record.ensures.within
-    (err_maps c.pack_record.result (pack_passes (length c.args.fields.now) (length c.args.row.now) h n b.frame.room b.state.0) c.pack_record.ensures.lacks)
+    comes_to c.args.self.now.store.now c.pack_record.new.self _ c.pack_record.result (ok_maps c.pack_record.result
+    (packed_is (packs n.room) (length c.args.fields.now) (length c.args.row.now) h n c.pack_record.new.self b.state.0)
+    c.pack_record.ensures.moves) c.pack_record.ensures.within
+    (err_maps c.pack_record.result
+    (pack_passes (length c.args.fields.now) (length c.args.row.now) h n b.frame.room b.state.0)
+    c.pack_record.ensures.lacks)

@@ -11,13 +11,17 @@ pub returns-in_err-push_integer-clause-is : goal.returns-in_err-push_integer-cla
 unfolding number_plan
 returns-in_err-push_integer-clause-is g c =
     let p = err_from_is_err_and c.from_residual.result c.from_residual.ensures.1 in
-    rw (p.1, p.2) (λ known. follow_no_room (lacks_these (same_room c.args.self.now.store.now) tt (c.in_err-push_integer.ensures.full c.args.self.now.nodes.now) c.in_err-push_integer.ensures.lacks))
+    rw (p.1, p.2) (λ known. follow_no_room (lacks_these (same_room c.args.self.now.store.now) tt
+    (c.in_err-push_integer.ensures.full c.args.self.now.nodes.now) c.in_err-push_integer.ensures.lacks))
 
 pub returns-in_err-push_integer-clause-level : goal.returns-in_err-push_integer-clause-level
 returns-in_err-push_integer-clause-level g c =
     let p = err_from_is_err_and c.from_residual.result c.from_residual.ensures.1 in
     let e = c.in_err-push_integer.ensures.err in
-    rw p.1 (record { same = regrown-levels c.args.self.now.nodes.now _ _ e; depth = regrown-depth c.args.self.now.store.now c.push_integer.new.self e })
+    rw p.1 (record {
+      same = regrown-levels c.args.self.now.nodes.now _ _ e;
+      depth = regrown-depth c.args.self.now.store.now c.push_integer.new.self e;
+    })
 
 pub returns-clause-is : goal.returns-clause-is
 unfolding number_plan
@@ -27,5 +31,6 @@ returns-clause-is g c =
       value = integer_value c.args.number c.args.digits c.args.start;
       kept = c.in_ok-push_integer.ensures.ok c.args.self.now.nodes.now;
       ends = refl;
-      follows = follow_made (moves_to (same_room c.args.self.now.store.now) (same_room c.push_integer.new.self) c.in_ok-push_integer.ensures.within c.in_ok-push_integer.ensures.moves) n.limit n.steps n.made follow_done;
+      follows = follow_made (moves_to (same_room c.args.self.now.store.now) (same_room c.push_integer.new.self)
+          c.in_ok-push_integer.ensures.within c.in_ok-push_integer.ensures.moves) n.limit n.steps n.made follow_done;
     }

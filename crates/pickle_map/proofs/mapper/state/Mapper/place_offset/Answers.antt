@@ -11,13 +11,17 @@ pub returns-in_err-push_offset-clause-is : goal.returns-in_err-push_offset-claus
 unfolding number_plan
 returns-in_err-push_offset-clause-is g c =
     let p = err_from_is_err_and c.from_residual.result c.from_residual.ensures.1 in
-    rw (p.1, p.2) (λ known. follow_no_room (lacks_these (same_room c.args.self.now.store.now) tt (c.in_err-push_offset.ensures.full c.args.self.now.nodes.now) c.in_err-push_offset.ensures.lacks))
+    rw (p.1, p.2) (λ known. follow_no_room (lacks_these (same_room c.args.self.now.store.now) tt
+    (c.in_err-push_offset.ensures.full c.args.self.now.nodes.now) c.in_err-push_offset.ensures.lacks))
 
 pub returns-in_err-push_offset-clause-level : goal.returns-in_err-push_offset-clause-level
 returns-in_err-push_offset-clause-level g c =
     let p = err_from_is_err_and c.from_residual.result c.from_residual.ensures.1 in
     let e = c.in_err-push_offset.ensures.err in
-    rw p.1 (record { same = regrown-levels c.args.self.now.nodes.now _ _ e; depth = regrown-depth c.args.self.now.store.now c.push_offset.new.self e })
+    rw p.1 (record {
+      same = regrown-levels c.args.self.now.nodes.now _ _ e;
+      depth = regrown-depth c.args.self.now.store.now c.push_offset.new.self e;
+    })
 
 pub returns-clause-is : goal.returns-clause-is
 unfolding number_plan
@@ -27,5 +31,6 @@ returns-clause-is g c =
       value = offset_value c.args.number c.args.unit c.args.digits c.args.start;
       kept = c.in_ok-push_offset.ensures.ok c.args.self.now.nodes.now;
       ends = refl;
-      follows = follow_made (moves_to (same_room c.args.self.now.store.now) (same_room c.push_offset.new.self) c.in_ok-push_offset.ensures.within c.in_ok-push_offset.ensures.moves) n.limit n.steps n.made follow_done;
+      follows = follow_made (moves_to (same_room c.args.self.now.store.now) (same_room c.push_offset.new.self)
+          c.in_ok-push_offset.ensures.within c.in_ok-push_offset.ensures.moves) n.limit n.steps n.made follow_done;
     }

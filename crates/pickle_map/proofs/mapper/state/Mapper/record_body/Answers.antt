@@ -21,7 +21,10 @@ returns-in_err-end-clause-is g c =
     let m = c.in_err-end.ensures in
     let d = c.drop_level.ensures in
     let h = rw (o.levels c.args.self.now.nodes.now) at m.is in
-    rw (p.1, p.2) (frame_stops c.args.self.now.nodes.now o.room m.frame.left.room d.room o.moves o.within _ _ d.moves d.within _ h, λ other. dropped_is o.room m.frame.left.room d.room o.moves o.slots m.more d.moves d.slots)
+    rw (p.1, p.2) (
+      frame_stops c.args.self.now.nodes.now o.room m.frame.left.room d.room o.moves o.within _ _ d.moves d.within _ h,
+      λ other. dropped_is o.room m.frame.left.room d.room o.moves o.slots m.more d.moves d.slots,
+    )
 
 pub pack_row-requires-clause-takes : goal.pack_row-requires-clause-takes
 pack_row-requires-clause-takes g c =
@@ -51,13 +54,23 @@ returns-in_err-pack_row-clause-is g c =
     let same = dropped_is o.room m.frame.left.room d.room o.moves o.slots m.more d.moves d.slots in
     let row = c.deref.ensures.0 ∙ m.adds.bytes ∙ rw c.requires.empty refl in
     let stride = ap length row ∙ length-row cs m.adds.digits m.adds.are in
-    let filled = filled_is o.room m.frame.left.room d.room o.moves o.slots m.more d.moves d.slots cs _ _ _ _ m.adds ∙ ap (λ n. in_frame n (state_of c.args.self.now.store.now)) (length-map c.args.fields.now (λ (f : Field). scalar_shape (type_of nodes f.node))) in
+    let filled = filled_is o.room m.frame.left.room d.room o.moves o.slots m.more d.moves d.slots cs _ _ _ _ m.adds
+    ∙ ap (λ n. in_frame n (state_of c.args.self.now.store.now))
+    (length-map c.args.fields.now (λ (f : Field). scalar_shape (type_of nodes f.node))) in
     let named = c.requires.record.type.named ∙ sym (fields_named (type_of nodes) c.args.fields.now) in
     let h = rw (o.levels nodes) at m.is in
     let e = c.in_err-pack_row.ensures in
-    let over = subst (λ n. PassesRoom c.drop_level.new.self (packed_state (length c.args.fields.now) n (state_of c.drop_level.new.self))) stride e.state in
-    let over = subst (λ (s : State). PassesRoom c.drop_level.new.self (packed_state (length c.args.fields.now) (struct_bytes cs) s)) (ap state_of same) over in
-    rw (p.1, p.2, e.frame.meter) (frame_lacks nodes o.room m.frame.left.room d.room o.moves o.within c.requires.record.packs e.frame.room (length c.args.fields.now) (struct_bytes cs) filled _ _ _ c.args.start c.in_ok-end.end _ h over, λ other. absurd (other refl))
+    let over = subst
+    (λ n. PassesRoom c.drop_level.new.self (packed_state (length c.args.fields.now) n (state_of c.drop_level.new.self)))
+    stride e.state in
+    let over = subst
+    (λ (s : State). PassesRoom c.drop_level.new.self (packed_state (length c.args.fields.now) (struct_bytes cs) s))
+    (ap state_of same) over in
+    rw (p.1, p.2, e.frame.meter) (
+      frame_lacks nodes o.room m.frame.left.room d.room o.moves o.within c.requires.record.packs e.frame.room
+          (length c.args.fields.now) (struct_bytes cs) filled _ _ _ c.args.start c.in_ok-end.end _ h over,
+      λ other. absurd (other refl),
+    )
 
 pub returns-clause-is : goal.returns-clause-is
 returns-clause-is g c =
@@ -69,18 +82,26 @@ returns-clause-is g c =
     let same = dropped_is o.room m.frame.left.room d.room o.moves o.slots m.more d.moves d.slots in
     let row = c.deref.ensures.0 ∙ m.adds.bytes ∙ rw c.requires.empty refl in
     let stride = ap length row ∙ length-row cs m.adds.digits m.adds.are in
-    let filled = filled_is o.room m.frame.left.room d.room o.moves o.slots m.more d.moves d.slots cs _ _ _ _ m.adds ∙ ap (λ n. in_frame n (state_of c.args.self.now.store.now)) (length-map c.args.fields.now (λ (f : Field). scalar_shape (type_of nodes f.node))) in
+    let filled = filled_is o.room m.frame.left.room d.room o.moves o.slots m.more d.moves d.slots cs _ _ _ _ m.adds
+    ∙ ap (λ n. in_frame n (state_of c.args.self.now.store.now))
+    (length-map c.args.fields.now (λ (f : Field). scalar_shape (type_of nodes f.node))) in
     let named = c.requires.record.type.named ∙ sym (fields_named (type_of nodes) c.args.fields.now) in
     let h = rw (o.levels nodes) at m.is in
     let n = c.note_made.ensures in
     let k = c.in_ok-pack_row.ensures in
-    let is = k.state.0 ∙ ap (λ (s : State). packed_state (length c.args.fields.now) (length c.deref.result.now) s) (ap state_of same) ∙ ap (λ n. packed_state (length c.args.fields.now) n (state_of c.args.self.now.store.now)) stride in
+    let is = k.state.0
+    ∙ ap (λ (s : State). packed_state (length c.args.fields.now) (length c.deref.result.now) s) (ap state_of same)
+    ∙ ap (λ n. packed_state (length c.args.fields.now) n (state_of c.args.self.now.store.now)) stride in
     let adds = rw m.frame.lent.nodes at k.adds in
-    let value = struct_is nodes c.args.at c.args.fields.now c.args.start c.in_ok-end.end m.adds.digits _ _ named (m.adds.more nodes [] _ (o.levels nodes)) m.adds.ends in
-    let runs = frame_packs nodes o.room m.frame.left.room d.room o.moves o.within c.requires.record.packs k.frame.room (length c.args.fields.now) (struct_bytes cs) filled _ _ _ c.args.start c.in_ok-end.end _ h k.state.1 is (n.steps ∙ ap (λ (x : Meter). x.steps) k.frame.meter) (n.made ∙ ap (λ (x : Meter). x.made + 1) k.frame.meter) in
+    let value = struct_is nodes c.args.at c.args.fields.now c.args.start c.in_ok-end.end m.adds.digits _ _ named
+    (m.adds.more nodes [] _ (o.levels nodes)) m.adds.ends in
+    let runs = frame_packs nodes o.room m.frame.left.room d.room o.moves o.within c.requires.record.packs k.frame.room
+    (length c.args.fields.now) (struct_bytes cs) filled _ _ _ c.args.start c.in_ok-end.end _ h k.state.1 is
+    (n.steps ∙ ap (λ (x : Meter). x.steps) k.frame.meter) (n.made ∙ ap (λ (x : Meter). x.made + 1) k.frame.meter) in
     record {
       digits = m.adds.digits;
-      adds = λ first rows outer has begins. adds m.adds.digits m.adds.are row first rows outer (structs_stay nodes _ _ c.args.at cs first outer rows same has) begins;
+      adds = λ first rows outer has begins. adds m.adds.digits m.adds.are row first rows outer
+          (structs_stay nodes _ _ c.args.at cs first outer rows same has) begins;
       ends = m.adds.ends;
       runs = rw (← value) runs;
     }

@@ -24,32 +24,41 @@ returns-in_err-end-clause-is g c =
 
 pub returns-in_err-close_array-clause-level : goal.returns-in_err-close_array-clause-level
 returns-in_err-close_array-clause-level g c =
-    let p = err_from_is_err_and c.from_residual-in_err-close_array.result c.from_residual-in_err-close_array.ensures.1 in
+    let p =
+    err_from_is_err_and c.from_residual-in_err-close_array.result c.from_residual-in_err-close_array.ensures.1 in
     rw p.1 (regrown_stays c.args.self.now.nodes.now _ _ _ c.in_ok-end.ensures.level c.in_err-close_array.ensures.err)
 
 pub returns-in_err-close_array-clause-is : goal.returns-in_err-close_array-clause-is
 returns-in_err-close_array-clause-is g c =
-    let p = err_from_is_err_and c.from_residual-in_err-close_array.result c.from_residual-in_err-close_array.ensures.1 in
+    let p =
+    err_from_is_err_and c.from_residual-in_err-close_array.result c.from_residual-in_err-close_array.ensures.1 in
     let nodes = c.args.self.now.nodes.now in
     let cs = shapes_of (type_of nodes) c.args.fields.now in
     let outer = outer_of (levels nodes c.args.self.now.store.now) in
     let r = c.requires.record.type in
     let m = c.in_ok-end.ensures in
     let e = c.in_err-close_array.ensures in
-    let none = none_mapped _ c.args.start c.in_ok-end.end m.is.rows (record_some nodes c.args.element c.args.fields.now r) m.is.ends c.if-end-start.true in
-    let fresh = has_none nodes c.map_records.new.self.store.now c.args.element cs c.args.start outer m.is.rows m.is.has none in
+    let none = none_mapped _ c.args.start c.in_ok-end.end m.is.rows
+    (record_some nodes c.args.element c.args.fields.now r) m.is.ends c.if-end-start.true in
+    let fresh =
+    has_none nodes c.map_records.new.self.store.now c.args.element cs c.args.start outer m.is.rows m.is.has none in
     let full = rw fresh.levels at (e.full nodes) in
-    let full = rw (ap (λ rs. array_value c.args.start c.in_ok-end.end (structs_of nodes c.args.element cs c.args.start rs ∷ outer)) (sym none)) at full in
+    let full =
+    rw (ap (λ rs. array_value c.args.start c.in_ok-end.end (structs_of nodes c.args.element cs c.args.start rs ∷ outer))
+    (sym none)) at full in
     let lacks = none_lacks m.frame.left.room c.requires.record.packs c.close_array.new.self fresh.opened full e.lacks in
-    rw (p.1, p.2) (array_no_room _ _ _ _ (in_later m.frame.left.room e.room m.is.runs) (type_of nodes c.args.element) (rw (ap array_move r.row) lacks))
+    rw (p.1, p.2) (array_no_room _ _ _ _ (in_later m.frame.left.room e.room m.is.runs) (type_of nodes c.args.element)
+    (rw (ap array_move r.row) lacks))
 
 pub close_records-requires : goal.close_records-requires
 close_records-requires g c =
     let nodes = c.args.self.now.nodes.now in
     let m = c.in_ok-end.ensures in
     let outer = outer_of (levels nodes c.args.self.now.store.now) in
-    is_open nodes c.map_records.new.self.store.now c.args.element (shapes_of (type_of nodes) c.args.fields.now) c.args.start outer m.is.rows
-    (has_some nodes c.map_records.new.self.store.now c.args.element (shapes_of (type_of nodes) c.args.fields.now) c.args.start outer m.is.rows m.is.has (λ none. c.if-end-start.false (m.is.ends ∙ rw none (omega arith))))
+    is_open nodes c.map_records.new.self.store.now c.args.element (shapes_of (type_of nodes) c.args.fields.now)
+    c.args.start outer m.is.rows
+    (has_some nodes c.map_records.new.self.store.now c.args.element (shapes_of (type_of nodes) c.args.fields.now)
+    c.args.start outer m.is.rows m.is.has (λ none. c.if-end-start.false (m.is.ends ∙ rw none (omega arith))))
 
 pub returns-clause-is : goal.returns-clause-is
 returns-clause-is g c =
@@ -62,25 +71,36 @@ returns-clause-is g c =
     elim c.if-end-start.branch [
       | then-end-start+in_ok-close_array w ↦
           let e = w.in_ok-close_array.ensures in
-          let none = none_mapped _ c.args.start c.in_ok-end.end m.is.rows (record_some nodes c.args.element c.args.fields.now r) m.is.ends w.if-end-start.true in
-          let fresh = has_none nodes c.map_records.new.self.store.now c.args.element cs c.args.start outer m.is.rows m.is.has none in
+          let none = none_mapped _ c.args.start c.in_ok-end.end m.is.rows
+          (record_some nodes c.args.element c.args.fields.now r) m.is.ends w.if-end-start.true in
+          let fresh = has_none nodes c.map_records.new.self.store.now c.args.element cs c.args.start outer
+          m.is.rows m.is.has none in
           let moves = none_moves m.frame.left.room c.requires.record.packs fresh.opened e.within e.moves in
           let n = rw w.self-is at n in
           rw w.self-is (record {
-            value = array_value c.args.start c.in_ok-end.end (structs_of nodes c.args.element cs c.args.start m.is.rows ∷ outer);
-            kept = none_closed nodes c.map_records.new.self.store.now c.args.element cs c.args.start outer w.close_array.new.self c.in_ok-end.end m.is.rows none fresh e.ok;
+            value = array_value c.args.start c.in_ok-end.end
+                (structs_of nodes c.args.element cs c.args.start m.is.rows ∷ outer);
+            kept = none_closed nodes c.map_records.new.self.store.now c.args.element cs c.args.start outer
+                w.close_array.new.self c.in_ok-end.end m.is.rows none fresh e.ok;
             ends = refl;
-            follows = array_made _ _ _ _ (in_later m.frame.left.room e.room m.is.runs) (type_of nodes c.args.element) (rw (ap array_move r.row) moves) n.steps n.made;
+            follows = array_made _ _ _ _ (in_later m.frame.left.room e.room m.is.runs) (type_of nodes c.args.element)
+                (rw (ap array_move r.row) moves) n.steps n.made;
           })
       | else-end-start w ↦
           let e = w.close_records.ensures in
-          let some = has_some nodes c.map_records.new.self.store.now c.args.element cs c.args.start outer m.is.rows m.is.has (λ none. w.if-end-start.false (m.is.ends ∙ rw none (omega arith))) in
-          let moves = some_moves m.frame.left.room c.requires.record.packs (packing_nodes nodes c.map_records.new.self.store.now c.args.element cs c.args.start m.is.rows outer some) e.within e.moves in
+          let some = has_some nodes c.map_records.new.self.store.now c.args.element cs c.args.start outer m.is.rows
+          m.is.has (λ none. w.if-end-start.false (m.is.ends ∙ rw none (omega arith))) in
+          let moves = some_moves m.frame.left.room c.requires.record.packs
+          (packing_nodes nodes c.map_records.new.self.store.now c.args.element cs c.args.start m.is.rows outer some)
+          e.within e.moves in
           let n = rw w.self-is at n in
           rw w.self-is (record {
-            value = array_value c.args.start c.in_ok-end.end (structs_of nodes c.args.element cs c.args.start m.is.rows ∷ outer);
-            kept = some_closed nodes c.map_records.new.self.store.now c.args.element cs c.args.start outer w.close_records.new.self c.in_ok-end.end m.is.rows some e.ok m.is.ends;
+            value = array_value c.args.start c.in_ok-end.end
+                (structs_of nodes c.args.element cs c.args.start m.is.rows ∷ outer);
+            kept = some_closed nodes c.map_records.new.self.store.now c.args.element cs c.args.start outer
+                w.close_records.new.self c.in_ok-end.end m.is.rows some e.ok m.is.ends;
             ends = refl;
-            follows = array_made _ _ _ _ (in_later m.frame.left.room e.room m.is.runs) (type_of nodes c.args.element) (rw (ap array_move r.row) moves) n.steps n.made;
+            follows = array_made _ _ _ _ (in_later m.frame.left.room e.room m.is.runs) (type_of nodes c.args.element)
+                (rw (ap array_move r.row) moves) n.steps n.made;
           })
     ]

@@ -25,7 +25,9 @@ returns-in_err-close_row-clause-is g c =
     let full = rw closed at (c.in_err-close_row.ensures.full c.args.self.now.nodes.now m.numbers outer m.packing) in
     let lacks = lacks_these c.in_ok-end.ensures.frame.left.room tt full c.in_err-close_row.ensures.lacks in
     let move = row_move c.args.shape (type_of c.args.self.now.nodes.now c.args.element) c.requires.shape.is in
-    rw (p.1, p.2) (array_no_room _ _ _ _ (in_later c.in_ok-end.ensures.frame.left.room c.in_err-close_row.ensures.room m.runs) (type_of c.args.self.now.nodes.now c.args.element) (rw move lacks))
+    rw (p.1, p.2)
+    (array_no_room _ _ _ _ (in_later c.in_ok-end.ensures.frame.left.room c.in_err-close_row.ensures.room m.runs)
+    (type_of c.args.self.now.nodes.now c.args.element) (rw move lacks))
 
 pub returns-in_err-close_row-clause-level : goal.returns-in_err-close_row-clause-level
 returns-in_err-close_row-clause-level g c =
@@ -37,8 +39,16 @@ returns-clause-is g c =
     let n = c.note_made.ensures in
     let m = c.in_ok-end.ensures.is in
     let outer = outer_of (levels c.args.self.now.nodes.now c.args.self.now.store.now) in
-    let kept = c.in_ok-close_row.ensures.ok c.args.self.now.nodes.now m.numbers outer m.packing ∙ ap (λ v. pushed outer (Some v)) (row_closed c.args.shape m.numbers c.args.start c.in_ok-end.end outer m.ends) in
+    let kept = c.in_ok-close_row.ensures.ok c.args.self.now.nodes.now m.numbers outer m.packing
+    ∙ ap (λ v. pushed outer (Some v)) (row_closed c.args.shape m.numbers c.args.start c.in_ok-end.end outer m.ends) in
     let room = c.in_ok-close_row.ensures.room in
-    let moves = moves_to c.in_ok-end.ensures.frame.left.room (same_room c.close_row.new.self) c.in_ok-close_row.ensures.within c.in_ok-close_row.ensures.moves in
+    let moves = moves_to c.in_ok-end.ensures.frame.left.room (same_room c.close_row.new.self)
+    c.in_ok-close_row.ensures.within c.in_ok-close_row.ensures.moves in
     let move = row_move c.args.shape (type_of c.args.self.now.nodes.now c.args.element) c.requires.shape.is in
-    record { value = _; kept = kept; ends = refl; follows = array_made _ _ _ _ (in_later c.in_ok-end.ensures.frame.left.room room m.runs) (type_of c.args.self.now.nodes.now c.args.element) (rw move moves) n.steps n.made }
+    record {
+      value = _;
+      kept = kept;
+      ends = refl;
+      follows = array_made _ _ _ _ (in_later c.in_ok-end.ensures.frame.left.room room m.runs)
+          (type_of c.args.self.now.nodes.now c.args.element) (rw move moves) n.steps n.made;
+    }

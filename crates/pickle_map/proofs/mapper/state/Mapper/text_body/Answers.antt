@@ -25,7 +25,8 @@ returns-in-Err-clause-is g c =
     let i = c.loop-byte.invariant in
     let e = c.in-Err.ensures in
     let stops = refusal_stops c.in-Err.fault c.args.start (c.loop-byte.place + 8) _ _ _ _ _ e.err in
-    rw c.refusal_at.ensures (follow_on i.so_far.5 (text_stops _ _ _ _ _ _ i.so_far.2 i.inside _ _ _ i.frame.limit (ap (λ l. 8 * l) (sym i.frame.len)) stops e.made))
+    rw c.refusal_at.ensures (follow_on i.so_far.5
+    (text_stops _ _ _ _ _ _ i.so_far.2 i.inside _ _ _ i.frame.limit (ap (λ l. 8 * l) (sym i.frame.len)) stops e.made))
 
 pub returns-in-Err-clause-level : goal.returns-in-Err-clause-level
 returns-in-Err-clause-level g c = c.loop-byte.invariant.level
@@ -37,15 +38,19 @@ returns-in_err-close_text-in-Ok-clause-is g c =
     let r = c.in-Ok.ensures in
     let fits = rw i.frame.len at r.inside in
     let may = may_same _ _ _ _ i.frame.bytes r.ok in
-    let full = c.in_err-close_text-in-Ok.ensures.full c.args.self.now.nodes.now i.so_far.0 (outer_of (levels c.args.self.now.nodes.now c.args.self.now.store.now)) i.so_far.4 in
+    let full = c.in_err-close_text-in-Ok.ensures.full c.args.self.now.nodes.now i.so_far.0
+    (outer_of (levels c.args.self.now.nodes.now c.args.self.now.store.now)) i.so_far.4 in
     let end : c.args.start + 8 * (length i.so_far.0 + 1) ≡ c.loop-byte.place + 8 = omega (arith, i.so_far.3) in
     let full = rw end at full in
-    rw (p.1, p.2) (follow_on (in_later i.frame.room c.in_err-close_text-in-Ok.ensures.room i.so_far.5) (text_not_closed _ _ _ _ _ _ i.so_far.2 i.inside _ (r.limit ∙ i.frame.limit) r.steps r.made fits may c.if-byte-eq0.true (lacks_these i.frame.room tt full c.in_err-close_text-in-Ok.ensures.lacks)))
+    rw (p.1, p.2) (follow_on (in_later i.frame.room c.in_err-close_text-in-Ok.ensures.room i.so_far.5)
+    (text_not_closed _ _ _ _ _ _ i.so_far.2 i.inside _ (r.limit ∙ i.frame.limit) r.steps r.made fits may
+    c.if-byte-eq0.true (lacks_these i.frame.room tt full c.in_err-close_text-in-Ok.ensures.lacks)))
 
 pub returns-in_err-close_text-in-Ok-clause-level : goal.returns-in_err-close_text-in-Ok-clause-level
 returns-in_err-close_text-in-Ok-clause-level g c =
     let p = err_from_is_err_and c.from_residual.result c.from_residual.ensures.1 in
-    rw p.1 (regrown_stays c.args.self.now.nodes.now _ _ _ c.loop-byte.invariant.level c.in_err-close_text-in-Ok.ensures.err)
+    rw p.1
+    (regrown_stays c.args.self.now.nodes.now _ _ _ c.loop-byte.invariant.level c.in_err-close_text-in-Ok.ensures.err)
 
 pub returns-then-byte-eq0-clause-is : goal.returns-then-byte-eq0-clause-is
 returns-then-byte-eq0-clause-is g c =
@@ -54,32 +59,41 @@ returns-then-byte-eq0-clause-is g c =
     let r = c.in-Ok.ensures in
     let fits = rw i.frame.len at r.inside in
     let may = may_same _ _ _ _ i.frame.bytes r.ok in
-    let keeps = c.in_ok-close_text-in-Ok.ensures.ok c.args.self.now.nodes.now i.so_far.0 (outer_of (levels c.args.self.now.nodes.now c.args.self.now.store.now)) i.so_far.4 in
+    let keeps = c.in_ok-close_text-in-Ok.ensures.ok c.args.self.now.nodes.now i.so_far.0
+    (outer_of (levels c.args.self.now.nodes.now c.args.self.now.store.now)) i.so_far.4 in
     let end : c.args.start + 8 * (length i.so_far.0 + 1) ≡ c.loop-byte.place + 8 = omega (arith, i.so_far.3) in
     let keeps = rw end at keeps in
     let room = c.in_ok-close_text-in-Ok.ensures.room in
-    let moves = moves_to i.frame.room (same_room c.close_text.new.self) c.in_ok-close_text-in-Ok.ensures.within c.in_ok-close_text-in-Ok.ensures.moves in
+    let moves = moves_to i.frame.room (same_room c.close_text.new.self) c.in_ok-close_text-in-Ok.ensures.within
+    c.in_ok-close_text-in-Ok.ensures.moves in
     record {
       value = text_value i.so_far.0 c.args.start (c.loop-byte.place + 8);
       kept = keeps;
       ends = refl;
-      follows = follow_on (in_later i.frame.room room i.so_far.5) (text_closed _ _ _ _ _ _ i.so_far.2 i.inside _ (r.limit ∙ i.frame.limit) r.steps r.made fits may moves c.if-byte-eq0.true n.steps n.made);
+      follows = follow_on (in_later i.frame.room room i.so_far.5) (text_closed _ _ _ _ _ _ i.so_far.2 i.inside _
+          (r.limit ∙ i.frame.limit) r.steps r.made fits may moves c.if-byte-eq0.true n.steps n.made);
     }
 
 pub returns-in_err-push_byte-in-Ok-clause-is : goal.returns-in_err-push_byte-in-Ok-clause-is
 returns-in_err-push_byte-in-Ok-clause-is g c =
-    let p = err_from_is_err_and c.from_residual-in_err-push_byte-in-Ok.result c.from_residual-in_err-push_byte-in-Ok.ensures.1 in
+    let p = err_from_is_err_and c.from_residual-in_err-push_byte-in-Ok.result
+    c.from_residual-in_err-push_byte-in-Ok.ensures.1 in
     let i = c.loop-byte.invariant in
     let r = c.in-Ok.ensures in
     let fits = rw i.frame.len at r.inside in
     let may = may_same _ _ _ _ i.frame.bytes r.ok in
-    let full = c.in_err-push_byte-in-Ok.ensures.full c.args.self.now.nodes.now i.so_far.0 (outer_of (levels c.args.self.now.nodes.now c.args.self.now.store.now)) i.so_far.4 in
-    rw (p.1, p.2) (follow_on (in_later i.frame.room c.in_err-push_byte-in-Ok.ensures.room i.so_far.5) (text_no_room _ _ _ _ _ _ i.so_far.2 i.inside _ (r.limit ∙ i.frame.limit) r.steps r.made fits may c.if-byte-eq0.false (lacks_these i.frame.room tt full c.in_err-push_byte-in-Ok.ensures.lacks)))
+    let full = c.in_err-push_byte-in-Ok.ensures.full c.args.self.now.nodes.now i.so_far.0
+    (outer_of (levels c.args.self.now.nodes.now c.args.self.now.store.now)) i.so_far.4 in
+    rw (p.1, p.2) (follow_on (in_later i.frame.room c.in_err-push_byte-in-Ok.ensures.room i.so_far.5)
+    (text_no_room _ _ _ _ _ _ i.so_far.2 i.inside _ (r.limit ∙ i.frame.limit) r.steps r.made fits may
+    c.if-byte-eq0.false (lacks_these i.frame.room tt full c.in_err-push_byte-in-Ok.ensures.lacks)))
 
 pub returns-in_err-push_byte-in-Ok-clause-level : goal.returns-in_err-push_byte-in-Ok-clause-level
 returns-in_err-push_byte-in-Ok-clause-level g c =
-    let p = err_from_is_err_and c.from_residual-in_err-push_byte-in-Ok.result c.from_residual-in_err-push_byte-in-Ok.ensures.1 in
-    rw p.1 (regrown_stays c.args.self.now.nodes.now _ _ _ c.loop-byte.invariant.level c.in_err-push_byte-in-Ok.ensures.err)
+    let p = err_from_is_err_and c.from_residual-in_err-push_byte-in-Ok.result
+    c.from_residual-in_err-push_byte-in-Ok.ensures.1 in
+    rw p.1
+    (regrown_stays c.args.self.now.nodes.now _ _ _ c.loop-byte.invariant.level c.in_err-push_byte-in-Ok.ensures.err)
 
 pub loop-byte-preserved : goal.loop-byte-preserved
 loop-byte-preserved g c =
@@ -92,14 +106,28 @@ loop-byte-preserved g c =
     let more = longer i.so_far.0 c.in-Ok.byte in
     let room = c.in_ok-push_byte-in-Ok.ensures.room in
     let outer = outer_of (levels c.args.self.now.nodes.now c.args.self.now.store.now) in
-    let writes = c.in_ok-push_byte-in-Ok.ensures.writes c.args.self.now.nodes.now i.so_far.0 outer i.so_far.4 (omega (arith, i.so_far.3, fits, short)) in
-    let shows = c.in_ok-push_byte-in-Ok.ensures.levels c.args.self.now.nodes.now i.so_far.0 outer i.so_far.4 (omega (arith, i.so_far.3, fits, short)) in
-    let moves = moves_to i.frame.room (same_room c.push_byte.new.self) c.in_ok-push_byte-in-Ok.ensures.within c.in_ok-push_byte-in-Ok.ensures.moves in
-    let next = text_goes _ _ _ _ _ _ i.so_far.2 i.inside _ (r.limit ∙ i.frame.limit) r.steps r.made fits may c.if-byte-eq0.false moves n.steps n.made in
+    let writes = c.in_ok-push_byte-in-Ok.ensures.writes c.args.self.now.nodes.now i.so_far.0 outer i.so_far.4
+    (omega (arith, i.so_far.3, fits, short)) in
+    let shows = c.in_ok-push_byte-in-Ok.ensures.levels c.args.self.now.nodes.now i.so_far.0 outer i.so_far.4
+    (omega (arith, i.so_far.3, fits, short)) in
+    let moves = moves_to i.frame.room (same_room c.push_byte.new.self) c.in_ok-push_byte-in-Ok.ensures.within
+    c.in_ok-push_byte-in-Ok.ensures.moves in
+    let next = text_goes _ _ _ _ _ _ i.so_far.2 i.inside _ (r.limit ∙ i.frame.limit) r.steps r.made fits may
+    c.if-byte-eq0.false moves n.steps n.made in
     record {
       frame = search rules;
       after = search rules;
       inside = search rules;
-      level = record { outer = writing-outer c.args.self.now.nodes.now c.push_byte.new.self _ c.args.start outer writes; depth = c.in_ok-push_byte-in-Ok.ensures.depth ∙ i.level.depth };
-      so_far = (i.so_far.0 ++ c.in-Ok.byte ∷ [], next.0, next.1, omega (arith, i.so_far.3, more), writes, follow_on (in_later i.frame.room room i.so_far.5) next.2);
+      level = record {
+        outer = writing-outer c.args.self.now.nodes.now c.push_byte.new.self _ c.args.start outer writes;
+        depth = c.in_ok-push_byte-in-Ok.ensures.depth ∙ i.level.depth;
+      };
+      so_far = (
+        i.so_far.0 ++ c.in-Ok.byte ∷ [],
+        next.0,
+        next.1,
+        omega (arith, i.so_far.3, more),
+        writes,
+        follow_on (in_later i.frame.room room i.so_far.5) next.2,
+      );
     }

@@ -29,34 +29,41 @@ type_at-push-requires-clause-depth t c = refl
 pub type_at-returns-in-Reference-clause-builds : goal.type_at-returns-in-Reference-clause-builds
 type_at-returns-in-Reference-clause-builds t c =
     let b = c.args.self.now in
-    let w : form_tree c.args.form.now ≡ Plain (reference_tree c.in-Reference.reference) = ap form_tree c.in-Reference.is ∙ reference_form c.in-Reference.reference in
-    let m = meaning_plain (known_types b) (visible_in b) c.args.levels (bytes_now c.args.title.name) c.args.room (reference_tree c.in-Reference.reference) (omega arith) in
+    let w : form_tree c.args.form.now ≡ Plain (reference_tree c.in-Reference.reference) = ap form_tree c.in-Reference.is
+    ∙ reference_form c.in-Reference.reference in
+    let m = meaning_plain (known_types b) (visible_in b) c.args.levels (bytes_now c.args.title.name) c.args.room
+    (reference_tree c.in-Reference.reference) (omega arith) in
     builds_as _ _ c.plain_at.result _ _ (rw (w, m) refl) c.plain_at.ensures.builds
 
 pub type_at-returns-in-String-clause-builds : goal.type_at-returns-in-String-clause-builds
 type_at-returns-in-String-clause-builds t c =
     let b = c.args.self.now in
     let w : form_tree c.args.form.now ≡ StringForm = ap form_tree c.in-String.is ∙ string_form in
-    let m = meaning_string (known_types b) (visible_in b) c.args.levels (bytes_now c.args.title.name) c.args.room (omega arith) in
+    let m = meaning_string (known_types b) (visible_in b) c.args.levels (bytes_now c.args.title.name)
+    c.args.room (omega arith) in
     builds_as _ _ c.push.result _ _ (rw (w, m) refl) c.push.ensures.builds
 
 pub type_at-returns-in-Offset-clause-builds : goal.type_at-returns-in-Offset-clause-builds
 type_at-returns-in-Offset-clause-builds t c =
     let b = c.args.self.now in
-    let w : form_tree c.args.form.now ≡ OffsetForm (reference_tree c.in-Offset.reference.value) c.in-Offset.unit = ap form_tree c.in-Offset.is ∙ offset_form c.in-Offset.reference c.in-Offset.unit in
-    let m = meaning_offset (known_types b) (visible_in b) c.args.levels (bytes_now c.args.title.name) c.args.room (reference_tree c.in-Offset.reference.value) c.in-Offset.unit (omega arith) in
+    let w : form_tree c.args.form.now ≡ OffsetForm (reference_tree c.in-Offset.reference.value) c.in-Offset.unit =
+    ap form_tree c.in-Offset.is ∙ offset_form c.in-Offset.reference c.in-Offset.unit in
+    let m = meaning_offset (known_types b) (visible_in b) c.args.levels (bytes_now c.args.title.name) c.args.room
+    (reference_tree c.in-Offset.reference.value) c.in-Offset.unit (omega arith) in
     builds_as _ _ c.offset_at.result _ _ (rw (w, m, c.deref.ensures) refl) c.offset_at.ensures.builds
 
 pub array_at-returns-in-Err-clause-builds : goal.array_at-returns-in-Err-clause-builds
 array_at-returns-in-Err-clause-builds t c =
     let b = c.args.self.now in
-    let m = meaning_array (known_types b) (visible_in b) c.args.levels (bytes_now c.args.title.name) c.args.room (form_tree c.args.element.now) (boxed_tree c.args.bound.now) (omega arith) in
+    let m = meaning_array (known_types b) (visible_in b) c.args.levels (bytes_now c.args.title.name) c.args.room
+    (form_tree c.args.element.now) (boxed_tree c.args.bound.now) (omega arith) in
     rw m (fails_bind _ _ _ c.in-Err.ensures.builds)
 
 pub array_at-returns-in-Err-bound_expression-clause-builds : goal.array_at-returns-in-Err-bound_expression-clause-builds
 array_at-returns-in-Err-bound_expression-clause-builds t c =
     let b = c.args.self.now in
-    let m = meaning_array (known_types b) (visible_in b) c.args.levels (bytes_now c.args.title.name) c.args.room (form_tree c.args.element.now) (boxed_tree c.args.bound.now) (omega arith) in
+    let m = meaning_array (known_types b) (visible_in b) c.args.levels (bytes_now c.args.title.name) c.args.room
+    (form_tree c.args.element.now) (boxed_tree c.args.bound.now) (omega arith) in
     let e = c.in-Ok.ensures.builds in
     let seen = visible_kept b c.type_at.new.self c.requires.table e.2.keeps e.2.seen c.args.levels c.requires.seen in
     let h = rw (e.2.keeps.known, seen) at c.in-Err-bound_expression.ensures.gives in
@@ -71,7 +78,8 @@ array_at-push-requires-clause-depth t c =
 pub array_at-returns-clause-builds : goal.array_at-returns-clause-builds
 array_at-returns-clause-builds t c =
     let b = c.args.self.now in
-    let m = meaning_array (known_types b) (visible_in b) c.args.levels (bytes_now c.args.title.name) c.args.room (form_tree c.args.element.now) (boxed_tree c.args.bound.now) (omega arith) in
+    let m = meaning_array (known_types b) (visible_in b) c.args.levels (bytes_now c.args.title.name) c.args.room
+    (form_tree c.args.element.now) (boxed_tree c.args.bound.now) (omega arith) in
     let e = c.in-Ok.ensures.builds in
     let seen = visible_kept b c.type_at.new.self c.requires.table e.2.keeps e.2.seen c.args.levels c.requires.seen in
     let h = rw (e.2.keeps.known, seen) at c.in-Ok-bound_expression.ensures.gives in
@@ -81,9 +89,11 @@ pub struct_at-returns-in_err-fields-clause-builds : goal.struct_at-returns-in_er
 struct_at-returns-in_err-fields-clause-builds t c =
     let p = err_from_is_err_and c.from_residual.result c.from_residual.ensures.1 in
     let b = c.args.self.now in
-    let m = meaning_struct (known_types b) (visible_in b) c.args.levels (bytes_now c.args.title.name) c.args.room c.args.pinned (fields_tree c.args.written.now) (omega arith) in
+    let m = meaning_struct (known_types b) (visible_in b) c.args.levels (bytes_now c.args.title.name) c.args.room
+    c.args.pinned (fields_tree c.args.written.now) (omega arith) in
     let h = rw c.struct_place.ensures at c.in_err-fields.ensures.builds in
-    let meant = fields_meaning (known_types b) (struct_place c.args.pinned) (visible_in b) c.args.levels (c.args.room - 1) [] (fields_tree c.args.written.now) in
+    let meant = fields_meaning (known_types b) (struct_place c.args.pinned) (visible_in b) c.args.levels
+    (c.args.room - 1) [] (fields_tree c.args.written.now) in
     rw (p.1, p.2, m) (fails_bind _ meant (λ fs. Ok (StructOf (bytes_now c.args.title.name) c.args.pinned fs)) h)
 
 pub struct_at-push-requires-clause-depth : goal.struct_at-push-requires-clause-depth
@@ -95,16 +105,19 @@ struct_at-push-requires-clause-depth t c =
 pub struct_at-returns-clause-builds : goal.struct_at-returns-clause-builds
 struct_at-returns-clause-builds t c =
     let b = c.args.self.now in
-    let m = meaning_struct (known_types b) (visible_in b) c.args.levels (bytes_now c.args.title.name) c.args.room c.args.pinned (fields_tree c.args.written.now) (omega arith) in
+    let m = meaning_struct (known_types b) (visible_in b) c.args.levels (bytes_now c.args.title.name) c.args.room
+    c.args.pinned (fields_tree c.args.written.now) (omega arith) in
     let e = c.in_ok-fields.ensures.builds in
     let h = rw c.struct_place.ensures at e.1 in
-    built_then _ _ _ c.push.result _ _ e.2.keeps e.2.seen (rw (m, h, c.into_parts-fields.ensures.fields, e.2.opened, c.in_ok-name.ensures.ok) refl) c.push.ensures.builds
+    built_then _ _ _ c.push.result _ _ e.2.keeps e.2.seen
+    (rw (m, h, c.into_parts-fields.ensures.fields, e.2.opened, c.in_ok-name.ensures.ok) refl) c.push.ensures.builds
 
 pub integral_at-returns-in_err-number-clause-builds : goal.integral_at-returns-in_err-number-clause-builds
 integral_at-returns-in_err-number-clause-builds t c =
     let p = err_from_is_err_and c.from_residual.result c.from_residual.ensures.1 in
     let b = c.args.self.now in
-    let m = meaning_integral (known_types b) (visible_in b) c.args.levels (bytes_now c.args.title.name) c.args.room (reference_tree c.args.reference.now) (fields_tree c.args.written.now) (omega arith) in
+    let m = meaning_integral (known_types b) (visible_in b) c.args.levels (bytes_now c.args.title.name) c.args.room
+    (reference_tree c.args.reference.now) (fields_tree c.args.written.now) (omega arith) in
     let h = c.in_err-number.ensures.gives in
     rw (p.1, p.2, m) (fails_bind _ _ _ h)
 
@@ -112,47 +125,74 @@ pub integral_at-returns-in_err-fields-clause-builds : goal.integral_at-returns-i
 integral_at-returns-in_err-fields-clause-builds t c =
     let p = err_from_is_err_and c.from_residual-in_err-fields.result c.from_residual-in_err-fields.ensures.1 in
     let b = c.args.self.now in
-    let m = meaning_integral (known_types b) (visible_in b) c.args.levels (bytes_now c.args.title.name) c.args.room (reference_tree c.args.reference.now) (fields_tree c.args.written.now) (omega arith) in
+    let m = meaning_integral (known_types b) (visible_in b) c.args.levels (bytes_now c.args.title.name) c.args.room
+    (reference_tree c.args.reference.now) (fields_tree c.args.written.now) (omega arith) in
     let n = c.in_ok-number.ensures.gives in
     rw (p.1, p.2, m, n) (fails_bind _ _ _ c.in_err-fields.ensures.builds)
 
 pub integral_at-returns-then-width-from-clause-builds : goal.integral_at-returns-then-width-from-clause-builds
 integral_at-returns-then-width-from-clause-builds t c =
     let b = c.args.self.now in
-    let m = meaning_integral (known_types b) (visible_in b) c.args.levels (bytes_now c.args.title.name) c.args.room (reference_tree c.args.reference.now) (fields_tree c.args.written.now) (omega arith) in
+    let m = meaning_integral (known_types b) (visible_in b) c.args.levels (bytes_now c.args.title.name) c.args.room
+    (reference_tree c.args.reference.now) (fields_tree c.args.written.now) (omega arith) in
     let n = c.in_ok-number.ensures.gives in
     let e = c.in_ok-fields.ensures.builds in
     let w = rw (c.deref.ensures.value, c.into_parts-fields.ensures.fields, e.2.opened) at c.total_width-width.ensures in
-    let wrong = integral_wrong (bytes_now c.args.title.name) c.in_ok-number.number e.0 (λ eq. c.if-width-from.true (w ∙ eq ∙ sym c.from.ensures)) in
+    let wrong = integral_wrong (bytes_now c.args.title.name) c.in_ok-number.number e.0
+    (λ eq. c.if-width-from.true (w ∙ eq ∙ sym c.from.ensures)) in
     rw (m, n, e.1) wrong
 
 pub integral_at-push-requires-clause-below : goal.integral_at-push-requires-clause-below
-integral_at-push-requires-clause-below t c = (c.in_ok-number.ensures.wide, rw (c.in_ok-fields-2.ensures.ok, c.into_parts-fields.ensures.fields) (parts_below _ c.in_ok-fields.fields.fields.items c.in_ok-fields.ensures.builds.2.below))
+integral_at-push-requires-clause-below t c = (
+  c.in_ok-number.ensures.wide,
+  rw (c.in_ok-fields-2.ensures.ok, c.into_parts-fields.ensures.fields)
+      (parts_below _ c.in_ok-fields.fields.fields.items c.in_ok-fields.ensures.builds.2.below),
+)
 
 pub integral_at-push-requires-clause-sound : goal.integral_at-push-requires-clause-sound
-integral_at-push-requires-clause-sound t c = rw (c.in_ok-fields-2.ensures.ok, c.into_parts-fields.ensures.fields) (parts_sound c.in_ok-fields.fields.fields.items c.in_ok-fields.ensures.sound)
+integral_at-push-requires-clause-sound t c = rw (c.in_ok-fields-2.ensures.ok, c.into_parts-fields.ensures.fields)
+    (parts_sound c.in_ok-fields.fields.fields.items c.in_ok-fields.ensures.sound)
 
 pub integral_at-push-requires-clause-depth : goal.integral_at-push-requires-clause-depth
 integral_at-push-requires-clause-depth t c =
     let e = c.in_ok-fields.ensures.builds in
     let d = e.2.deep in
-    rw (c.in_ok-fields-2.ensures.ok, c.into_parts-fields.ensures.fields, parts_opened _ c.in_ok-fields.fields.fields.items, e.2.opened, integral_depth _ _ _) (omega arith)
+    rw (
+      c.in_ok-fields-2.ensures.ok,
+      c.into_parts-fields.ensures.fields,
+      parts_opened _ c.in_ok-fields.fields.fields.items,
+      e.2.opened,
+      integral_depth _ _ _,
+    ) (omega arith)
 
 pub integral_at-returns-clause-builds : goal.integral_at-returns-clause-builds
 integral_at-returns-clause-builds t c =
     let b = c.args.self.now in
-    let m = meaning_integral (known_types b) (visible_in b) c.args.levels (bytes_now c.args.title.name) c.args.room (reference_tree c.args.reference.now) (fields_tree c.args.written.now) (omega arith) in
+    let m = meaning_integral (known_types b) (visible_in b) c.args.levels (bytes_now c.args.title.name) c.args.room
+    (reference_tree c.args.reference.now) (fields_tree c.args.written.now) (omega arith) in
     let n = c.in_ok-number.ensures.gives in
     let e = c.in_ok-fields.ensures.builds in
     let w = rw (c.deref.ensures.value, c.into_parts-fields.ensures.fields, e.2.opened) at c.total_width-width.ensures in
-    let fits = integral_fits (bytes_now c.args.title.name) c.in_ok-number.number e.0 (sym w ∙ c.if-width-from.false ∙ c.from.ensures) in
+    let fits = integral_fits (bytes_now c.args.title.name) c.in_ok-number.number e.0
+    (sym w ∙ c.if-width-from.false ∙ c.from.ensures) in
     let parts = parts_opened (type_of c.fields_at.new.self.nodes) c.in_ok-fields.fields.fields.items in
-    built_then _ _ _ c.push.result _ _ e.2.keeps e.2.seen (rw (m, n, e.1, fits, c.in_ok-fields-2.ensures.ok, c.into_parts-fields.ensures.fields, parts, e.2.opened, c.in_ok-name.ensures.ok) refl) c.push.ensures.builds
+    built_then _ _ _ c.push.result _ _ e.2.keeps e.2.seen (rw (
+      m,
+      n,
+      e.1,
+      fits,
+      c.in_ok-fields-2.ensures.ok,
+      c.into_parts-fields.ensures.fields,
+      parts,
+      e.2.opened,
+      c.in_ok-name.ensures.ok,
+    ) refl) c.push.ensures.builds
 
 pub union_at-returns-then-is_empty-clause-builds : goal.union_at-returns-then-is_empty-clause-builds
 union_at-returns-then-is_empty-clause-builds t c =
     let b = c.args.self.now in
-    let m = meaning_union (known_types b) (visible_in b) c.args.levels (bytes_now c.args.title.name) c.args.room (fields_tree c.args.written.now) (omega arith) in
+    let m = meaning_union (known_types b) (visible_in b) c.args.levels (bytes_now c.args.title.name) c.args.room
+    (fields_tree c.args.written.now) (omega arith) in
     let none = no_alternative c.args.written.now (eqb-true _ _ (sym c.if-is_empty.ensures)) in
     rw (m, none) refl
 
@@ -160,13 +200,15 @@ pub union_at-returns-in_err-fields-clause-builds : goal.union_at-returns-in_err-
 union_at-returns-in_err-fields-clause-builds t c =
     let p = err_from_is_err_and c.from_residual.result c.from_residual.ensures.1 in
     let b = c.args.self.now in
-    let m = meaning_union (known_types b) (visible_in b) c.args.levels (bytes_now c.args.title.name) c.args.room (fields_tree c.args.written.now) (omega arith) in
+    let m = meaning_union (known_types b) (visible_in b) c.args.levels (bytes_now c.args.title.name) c.args.room
+    (fields_tree c.args.written.now) (omega arith) in
     let nonzero : length c.args.written.now ≡ 0 → ⊥ = eqb-false _ _ (sym c.if-is_empty.ensures) in
     let some = some_alternative c.args.written.now (omega arith) in
     rw (p.1, p.2, m, some) (fails_bind _ _ _ c.in_err-fields.ensures.builds)
 
 pub union_at-push-requires-clause-below : goal.union_at-push-requires-clause-below
-union_at-push-requires-clause-below t c = rw (c.in_ok-alternatives.ensures.ok, c.into_parts-fields.ensures.fields) (parts_below _ c.in_ok-fields.fields.fields.items c.in_ok-fields.ensures.builds.2.below)
+union_at-push-requires-clause-below t c = rw (c.in_ok-alternatives.ensures.ok, c.into_parts-fields.ensures.fields)
+    (parts_below _ c.in_ok-fields.fields.fields.items c.in_ok-fields.ensures.builds.2.below)
 
 pub union_at-push-requires-clause-sound : goal.union_at-push-requires-clause-sound
 union_at-push-requires-clause-sound t c = rw (c.in_ok-alternatives.ensures.ok, c.into_parts-fields.ensures.fields) (
@@ -178,29 +220,51 @@ pub union_at-push-requires-clause-depth : goal.union_at-push-requires-clause-dep
 union_at-push-requires-clause-depth t c =
     let e = c.in_ok-fields.ensures.builds in
     let d = e.2.deep in
-    rw (c.in_ok-alternatives.ensures.ok, c.into_parts-fields.ensures.fields, parts_opened _ c.in_ok-fields.fields.fields.items, e.2.opened, union_depth _ _) (omega arith)
+    rw (
+      c.in_ok-alternatives.ensures.ok,
+      c.into_parts-fields.ensures.fields,
+      parts_opened _ c.in_ok-fields.fields.fields.items,
+      e.2.opened,
+      union_depth _ _,
+    ) (omega arith)
 
 pub union_at-returns-clause-builds : goal.union_at-returns-clause-builds
 union_at-returns-clause-builds t c =
     let b = c.args.self.now in
-    let m = meaning_union (known_types b) (visible_in b) c.args.levels (bytes_now c.args.title.name) c.args.room (fields_tree c.args.written.now) (omega arith) in
+    let m = meaning_union (known_types b) (visible_in b) c.args.levels (bytes_now c.args.title.name) c.args.room
+    (fields_tree c.args.written.now) (omega arith) in
     let nonzero : length c.args.written.now ≡ 0 → ⊥ = eqb-false _ _ (sym c.if-is_empty.ensures) in
     let some = some_alternative c.args.written.now (omega arith) in
     let e = c.in_ok-fields.ensures.builds in
     let parts = parts_opened (type_of c.fields_at.new.self.nodes) c.in_ok-fields.fields.fields.items in
-    built_then _ _ _ c.push.result _ _ e.2.keeps e.2.seen (rw (m, some, e.1, c.in_ok-alternatives.ensures.ok, c.into_parts-fields.ensures.fields, parts, e.2.opened, c.in_ok-name.ensures.ok) refl) c.push.ensures.builds
+    built_then _ _ _ c.push.result _ _ e.2.keeps e.2.seen (rw (
+      m,
+      some,
+      e.1,
+      c.in_ok-alternatives.ensures.ok,
+      c.into_parts-fields.ensures.fields,
+      parts,
+      e.2.opened,
+      c.in_ok-name.ensures.ok,
+    ) refl) c.push.ensures.builds
 
 pub field_at-returns-clause-builds : goal.field_at-returns-clause-builds
 field_at-returns-clause-builds t c =
     let b = c.args.self.now in
     let e = c.in_ok-found.ensures.builds in
     let given = rw c.form_in.ensures at e.1 in
-    let seen = visible_kept b c.type_at.new.self c.requires.table e.2.keeps e.2.seen (c.args.levels + 1) c.requires.seen in
+    let seen =
+    visible_kept b c.type_at.new.self c.requires.table e.2.keeps e.2.seen (c.args.levels + 1) c.requires.seen in
     let g = c.in_ok-field.ensures.gives in
     let h = rw (e.2.keeps.known, seen, e.2.type) at g.1 in
-    let same = type_kept c.type_at.new.self.nodes c.field_of.new.self.nodes e.2.keeps.table g.2.keeps.grows c.in_ok-found.found.node e.2.inside in
-    let node = rw c.in_ok-field.ensures.node at g.2.type in
-    (g.0, rw given h, field_on b c.type_at.new.self c.field_of.new.self c.args.place c.args.levels _ _ _ _ e.2.keeps e.2.seen seen g.2, e.2.deep ∙ ap depth (sym e.2.type ∙ sym same ∙ node))
+    let same = type_kept c.type_at.new.self.nodes c.field_of.new.self.nodes e.2.keeps.table g.2.keeps.grows
+    c.in_ok-found.found.node e.2.inside in
+    let node = rw c.in_ok-field.ensures.node at g.2.type in (
+      g.0,
+      rw given h,
+      field_on b c.type_at.new.self c.field_of.new.self c.args.place c.args.levels _ _ _ _ e.2.keeps e.2.seen seen g.2,
+      e.2.deep ∙ ap depth (sym e.2.type ∙ sym same ∙ node),
+    )
 
 pub fields_at-loop-f-init : goal.fields_at-loop-f-init
 fields_at-loop-f-init t c = record {
@@ -221,14 +285,21 @@ fields_at-field_at-requires t c =
     let e = drop_item c.args.written.now c.loop-f.f-index c.f-item.result (omega arith) c.f-item.is in
     let before = rw e at i.few in
     -- the measure falls; then what is required
-    (omega arith, (i.so_far.keeps.table, (i.so_far.keeps.named, (i.below, (c.requires.few, (i.list, ((rw e at i.within).0, omega arith)))))))
+    (
+      omega arith,
+      (
+        i.so_far.keeps.table,
+        (i.so_far.keeps.named, (i.below, (c.requires.few, (i.list, ((rw e at i.within).0, omega arith))))),
+      ),
+    )
 
 pub fields_at-loop-f-preserved : goal.fields_at-loop-f-preserved
 fields_at-loop-f-preserved t c =
     let a = c.args.self.now in
     let b = c.loop-f.self in
     let n = c.field_at.new.self in
-    let m : Builder = record { alloc = n.alloc; names = c.push.new.names; nodes = n.nodes; seen = n.seen; site = n.site } in
+    let m : Builder =
+    record { alloc = n.alloc; names = c.push.new.names; nodes = n.nodes; seen = n.seen; site = n.site } in
     let fields = c.loop-f.fields.fields.items in
     let i = c.loop-f.invariant in
     let h = c.in-Ok.ensures.builds in
@@ -237,7 +308,8 @@ fields_at-loop-f-preserved t c =
     let given = rw i.so_far.keeps.known at h.1 in
     let before = rw e at i.few in
     let added = c.in-Ok.ensures.few in
-    let next = fields_next (known_types a) c.args.place (visible_in b) (visible_in n) c.args.levels c.args.room fields c.in-Ok.built.0 c.f-item.result (drop (c.loop-f.f-index + 1) c.args.written.now) h.0 given h.2.name h.2.seen in
+    let next = fields_next (known_types a) c.args.place (visible_in b) (visible_in n) c.args.levels c.args.room fields
+    c.in-Ok.built.0 c.f-item.result (drop (c.loop-f.f-index + 1) c.args.written.now) h.0 given h.2.name h.2.seen in
     record {
       low = rw c.max-deepest.ensures (omega arith);
       count = rw c.in_ok-push.ensures.ok (length-append fields (c.in-Ok.built.0 ∷ []) ∙ ap (λ k. k + 1) i.count);
@@ -245,10 +317,13 @@ fields_at-loop-f-preserved t c =
       few = omega arith;
       kept = kept_on c.len-mark.result a.seen b.seen n.seen i.kept (omega arith) h.2.kept;
       below = h.2.below;
-      sound = rw c.in_ok-push.ensures.ok (All-append IsSoundField fields (c.in-Ok.built.0 ∷ []) i.sound (λ k d lt. let z : k ≡ 0 = omega arith in rw z c.in-Ok.ensures.sound));
+      sound = rw c.in_ok-push.ensures.ok (All-append IsSoundField fields (c.in-Ok.built.0 ∷ []) i.sound
+          (λ k d lt. let z : k ≡ 0 = omega arith in rw z c.in-Ok.ensures.sound));
       list = c.in_ok-push.ensures.list;
       so_far = rw (c.in_ok-push.ensures.ok, c.max-deepest.ensures)
-          (so_far_numbered a n m _ _ _ _ (so_far_more a b n fields c.in-Ok.built.0 c.loop-f.deepest c.in-Ok.built.1 c.args.place c.args.levels _ _ h.0 _ _ _ i.so_far h.2 h.3 (rw e next)) refl c.in_ok-push.ensures.types c.in_ok-push.ensures.kept);
+          (so_far_numbered a n m _ _ _ _ (so_far_more a b n fields c.in-Ok.built.0 c.loop-f.deepest c.in-Ok.built.1
+          c.args.place c.args.levels _ _ h.0 _ _ _ i.so_far h.2 h.3 (rw e next))
+          refl c.in_ok-push.ensures.types c.in_ok-push.ensures.kept);
     }
 
 pub field_at-returns-in_err-field-clause-builds : goal.field_at-returns-in_err-field-clause-builds
@@ -257,7 +332,8 @@ field_at-returns-in_err-field-clause-builds t c =
     let b = c.args.self.now in
     let e = c.in_ok-found.ensures.builds in
     let given = rw c.form_in.ensures at e.1 in
-    let seen = visible_kept b c.type_at.new.self c.requires.table e.2.keeps e.2.seen (c.args.levels + 1) c.requires.seen in
+    let seen =
+    visible_kept b c.type_at.new.self c.requires.table e.2.keeps e.2.seen (c.args.levels + 1) c.requires.seen in
     let h = rw (e.2.keeps.known, seen, e.2.type) at c.in_err-field.ensures.gives in
     rw (p.1, p.2, given) h
 
@@ -265,23 +341,34 @@ pub fields_at-returns-clause-builds : goal.fields_at-returns-clause-builds
 fields_at-returns-clause-builds t c =
     let a = c.args.self.now in
     let b = c.loop-f.self in
-    let n : Builder = record { alloc = b.alloc; names = b.names; nodes = b.nodes; seen = c.truncate.new.self; site = b.site } in
+    let n : Builder =
+    record { alloc = b.alloc; names = b.names; nodes = b.nodes; seen = c.truncate.new.self; site = b.site } in
     let i = c.loop-f.invariant in
     let none = drop_all c.loop-f.f-index c.args.written.now (omega arith) in
     let end = fields_end (known_types a) c.args.place (visible_in b) c.args.levels c.args.room _ _ none in
-    all_built a b n c.loop-f.fields.fields.items c.loop-f.deepest _ _ i.so_far end refl refl (c.truncate.ensures ∙ i.kept)
+    all_built a b n c.loop-f.fields.fields.items c.loop-f.deepest _ _ i.so_far end refl refl
+    (c.truncate.ensures ∙ i.kept)
 
 pub integral_at-push-requires-clause-distinct : goal.integral_at-push-requires-clause-distinct
-integral_at-push-requires-clause-distinct t c = rw (c.in_ok-fields-2.ensures.ok, c.into_parts-fields.ensures.fields, names_of_parts c.in_ok-fields.fields.fields.items) (for_any c.into_parts-fields.result.1 c.in_ok-fields.ensures.distinct)
+integral_at-push-requires-clause-distinct t c = rw
+    (c.in_ok-fields-2.ensures.ok, c.into_parts-fields.ensures.fields, names_of_parts c.in_ok-fields.fields.fields.items)
+    (for_any c.into_parts-fields.result.1 c.in_ok-fields.ensures.distinct)
 
 pub union_at-push-requires-clause-distinct : goal.union_at-push-requires-clause-distinct
-union_at-push-requires-clause-distinct t c = rw (c.in_ok-alternatives.ensures.ok, c.into_parts-fields.ensures.fields, names_of_parts c.in_ok-fields.fields.fields.items) (for_any c.into_parts-fields.result.1 c.in_ok-fields.ensures.distinct)
+union_at-push-requires-clause-distinct t c = rw (
+  c.in_ok-alternatives.ensures.ok,
+  c.into_parts-fields.ensures.fields,
+  names_of_parts c.in_ok-fields.fields.fields.items,
+) (for_any c.into_parts-fields.result.1 c.in_ok-fields.ensures.distinct)
 
 pub struct_at-push-requires-clause-distinct : goal.struct_at-push-requires-clause-distinct
-struct_at-push-requires-clause-distinct t c = rw c.into_parts-fields.ensures.fields (for_any c.into_parts-fields.result.1 c.in_ok-fields.ensures.distinct)
+struct_at-push-requires-clause-distinct t c =
+    rw c.into_parts-fields.ensures.fields (for_any c.into_parts-fields.result.1 c.in_ok-fields.ensures.distinct)
 
 pub field_at-field_of-requires-clause-list : goal.field_at-field_of-requires-clause-list
-field_at-field_of-requires-clause-list t c = list_on _ _ c.args.before.now c.requires.list c.in_ok-found.ensures.builds.2.keeps.numbers
+field_at-field_of-requires-clause-list t c =
+    list_on _ _ c.args.before.now c.requires.list c.in_ok-found.ensures.builds.2.keeps.numbers
 
 pub fields_at-push-requires-clause-list : goal.fields_at-push-requires-clause-list
-fields_at-push-requires-clause-list t c = list_on _ _ c.loop-f.fields c.loop-f.invariant.list c.in-Ok.ensures.builds.2.keeps.numbers
+fields_at-push-requires-clause-list t c =
+    list_on _ _ c.loop-f.fields c.loop-f.invariant.list c.in-Ok.ensures.builds.2.keeps.numbers

@@ -35,12 +35,15 @@ invariant-fields_at-loop-f l = record {
   low : l.deepest ≤ l.room;
   count : length l.fields.fields.items ≡ l.f-index;
   within : AreFieldsWithin standard (fields_tree (drop l.f-index l.written));
-  few : length l.self.nodes + fields_form_count (fields_tree (drop l.f-index l.written)) ≤ length l.initial.self.nodes + fields_form_count (fields_tree l.written);
+  few : length l.self.nodes + fields_form_count (fields_tree (drop l.f-index l.written))
+      ≤ length l.initial.self.nodes + fields_form_count (fields_tree l.written);
   kept : take l.mark l.self.seen ≡ l.initial.self.seen;
   below : AreBelow (length l.self.nodes) (l.levels + 1) l.self.seen;
   sound : All IsSoundField l.fields.fields.items;
   list : IsFieldList (words_in l.self.names) l.fields;
   so_far : FieldsSoFar l.initial.self l.self l.fields.fields.items l.deepest
-      (fields_meaning (known_types l.initial.self) l.place (visible_in l.initial.self) l.levels l.room [] (fields_tree l.written))
-      (fields_meaning (known_types l.initial.self) l.place (visible_in l.self) l.levels l.room (names_in l.fields.fields.items) (fields_tree (drop l.f-index l.written)));
+      (fields_meaning (known_types l.initial.self) l.place (visible_in l.initial.self) l.levels l.room []
+      (fields_tree l.written))
+      (fields_meaning (known_types l.initial.self) l.place (visible_in l.self) l.levels l.room
+      (names_in l.fields.fields.items) (fields_tree (drop l.f-index l.written)));
 }

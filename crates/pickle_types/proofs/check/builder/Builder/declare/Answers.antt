@@ -8,14 +8,16 @@ use Rattle.pickle_types.proofs.check.builder.Builder.declare.Goals as goal
 pub returns-then-is_some-clause-adds : goal.returns-then-is_some-clause-adds
 returns-then-is_some-clause-adds c =
     let b = c.args.self.now in
-    let twice = declared_twice b.nodes c.find_name.result _ (c.find_name.ensures.found b.nodes) (sym c.if-is_some.ensures) in
+    let twice =
+    declared_twice b.nodes c.find_name.result _ (c.find_name.ensures.found b.nodes) (sym c.if-is_some.ensures) in
     duplicate (known_types b) (declaration_tree c.args.declaration.now) twice
 
 pub returns-in_err-found-clause-adds : goal.returns-in_err-found-clause-adds
 returns-in_err-found-clause-adds c =
     let b = c.args.self.now in
     let p = err_from_is_err_and c.from_residual.result c.from_residual.ensures.1 in
-    let once = declared_once b.nodes c.find_name.result _ (c.find_name.ensures.found b.nodes) (sym c.if-is_some.ensures) in
+    let once =
+    declared_once b.nodes c.find_name.result _ (c.find_name.ensures.found b.nodes) (sym c.if-is_some.ensures) in
     let n = new_type (known_types b) (declaration_tree c.args.declaration.now) once in
     let h = rw c.requires.ready.none at c.in_err-found.ensures.builds in
     rw (p.1, p.2, n) h
@@ -23,7 +25,8 @@ returns-in_err-found-clause-adds c =
 pub returns-clause-adds : goal.returns-clause-adds
 returns-clause-adds c =
     let b = c.args.self.now in
-    let once = declared_once b.nodes c.find_name.result _ (c.find_name.ensures.found b.nodes) (sym c.if-is_some.ensures) in
+    let once =
+    declared_once b.nodes c.find_name.result _ (c.find_name.ensures.found b.nodes) (sym c.if-is_some.ensures) in
     let n = new_type (known_types b) (declaration_tree c.args.declaration.now) once in
     let e = c.in_ok-found.ensures.builds in
     let given = rw c.requires.ready.none at e.1 in

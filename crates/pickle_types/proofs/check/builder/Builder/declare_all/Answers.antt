@@ -14,32 +14,40 @@ use Rattle.pickle_types.proofs.check.builder.Builder.declare_all.Goals as goal
 pub returns-in-Err-clause-err : goal.returns-in-Err-clause-err
 returns-in-Err-clause-err c =
     let b = c.loop-i.self in
-    let e = drop_item c.args.declarations.now c.loop-i.i c.index-declarations-i.result (omega arith) c.index-declarations-i.is in
-    rw c.fault_in.ensures.kind (fails_along _ _ _ (c.loop-i.invariant.rest ∙ ap (λ (l : List Declaration). declared (known_types b) (map declaration_tree l)) e)
+    let e = drop_item c.args.declarations.now c.loop-i.i c.index-declarations-i.result (omega arith)
+    c.index-declarations-i.is in
+    rw c.fault_in.ensures.kind (fails_along _ _ _
+    (c.loop-i.invariant.rest ∙ ap (λ (l : List Declaration). declared (known_types b) (map declaration_tree l)) e)
     (declared_fails (known_types b) (declaration_tree c.index-declarations-i.result) _ _ c.in-Err.ensures.adds))
 
 pub returns-in-Err-clause-place : goal.returns-in-Err-clause-place
 returns-in-Err-clause-place c =
     let b = c.loop-i.self in
-    let e = drop_item c.args.declarations.now c.loop-i.i c.index-declarations-i.result (omega arith) c.index-declarations-i.is in
-    rw c.fault_in.ensures.kind (tells_along _ _ _ _ (c.loop-i.invariant.place ∙ ap (λ (l : List Declaration). first_wrong (c.loop-i.i + 1) (known_types b) (map declaration_tree l)) e)
-    (wrong_here _ (c.loop-i.i + 1) (known_types b) (declaration_tree c.index-declarations-i.result) _ _ c.in-Err.ensures.adds c.fault_in.ensures.place))
+    let e = drop_item c.args.declarations.now c.loop-i.i c.index-declarations-i.result (omega arith)
+    c.index-declarations-i.is in
+    rw c.fault_in.ensures.kind (tells_along _ _ _ _ (c.loop-i.invariant.place
+    ∙ ap (λ (l : List Declaration). first_wrong (c.loop-i.i + 1) (known_types b) (map declaration_tree l)) e)
+    (wrong_here _ (c.loop-i.i + 1) (known_types b) (declaration_tree c.index-declarations-i.result) _ _
+    c.in-Err.ensures.adds c.fault_in.ensures.place))
 
 pub declare-requires-clause-within : goal.declare-requires-clause-within
 declare-requires-clause-within c =
-    let e = drop_item c.args.declarations.now c.loop-i.i c.index-declarations-i.result (omega arith) c.index-declarations-i.is in
+    let e = drop_item c.args.declarations.now c.loop-i.i c.index-declarations-i.result (omega arith)
+    c.index-declarations-i.is in
     (rw e at c.loop-i.invariant.within).0
 
 pub declare-requires-clause-space : goal.declare-requires-clause-space
 declare-requires-clause-space c =
-    let e = drop_item c.args.declarations.now c.loop-i.i c.index-declarations-i.result (omega arith) c.index-declarations-i.is in
+    let e = drop_item c.args.declarations.now c.loop-i.i c.index-declarations-i.result (omega arith)
+    c.index-declarations-i.is in
     let space = rw e at c.loop-i.invariant.space in
     omega arith
 
 pub loop-i-preserved : goal.loop-i-preserved
 loop-i-preserved c =
     let b = c.loop-i.self in
-    let e = drop_item c.args.declarations.now c.loop-i.i c.index-declarations-i.result (omega arith) c.index-declarations-i.is in
+    let e = drop_item c.args.declarations.now c.loop-i.i c.index-declarations-i.result (omega arith)
+    c.index-declarations-i.is in
     let h = c.in-Ok.ensures.adds in
     let rest = map declaration_tree (drop (c.loop-i.i + 1) c.args.declarations.now) in
     let space = rw e at c.loop-i.invariant.space in
@@ -48,13 +56,19 @@ loop-i-preserved c =
       ready = h.3;
       within = (rw e at c.loop-i.invariant.within).2;
       space = omega arith;
-      rest = c.loop-i.invariant.rest ∙ ap (λ (l : List Declaration). declared (known_types b) (map declaration_tree l)) e
-          ∙ declared_next (known_types b) (declaration_tree c.index-declarations-i.result) rest h.0 h.1 ∙ ap (λ (names : Names). declared names rest) (sym h.2);
-      place = c.loop-i.invariant.place ∙ ap (λ (l : List Declaration). first_wrong (c.loop-i.i + 1) (known_types b) (map declaration_tree l)) e
-          ∙ wrong_next (c.loop-i.i + 1) (known_types b) (declaration_tree c.index-declarations-i.result) rest h.0 h.1 ∙ ap (λ (names : Names). first_wrong (c.loop-i.i + 1 + 1) names rest) (sym h.2);
+      rest = c.loop-i.invariant.rest
+          ∙ ap (λ (l : List Declaration). declared (known_types b) (map declaration_tree l)) e
+          ∙ declared_next (known_types b) (declaration_tree c.index-declarations-i.result) rest h.0 h.1
+          ∙ ap (λ (names : Names). declared names rest) (sym h.2);
+      place = c.loop-i.invariant.place
+          ∙ ap (λ (l : List Declaration). first_wrong (c.loop-i.i + 1) (known_types b) (map declaration_tree l)) e
+          ∙ wrong_next (c.loop-i.i + 1) (known_types b) (declaration_tree c.index-declarations-i.result) rest h.0 h.1
+          ∙ ap (λ (names : Names). first_wrong (c.loop-i.i + 1 + 1) names rest) (sym h.2);
     }
 
 pub returns-clause-ok : goal.returns-clause-ok
 returns-clause-ok c =
     let e = drop_all c.loop-i.i c.args.declarations.now (omega arith) in
-    c.loop-i.invariant.rest ∙ ap (λ (l : List Declaration). declared (known_types c.loop-i.self) (map declaration_tree l)) e ∙ declared_end (known_types c.loop-i.self)
+    c.loop-i.invariant.rest
+    ∙ ap (λ (l : List Declaration). declared (known_types c.loop-i.self) (map declaration_tree l)) e
+    ∙ declared_end (known_types c.loop-i.self)

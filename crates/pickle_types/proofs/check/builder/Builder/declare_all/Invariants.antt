@@ -11,6 +11,8 @@ invariant-loop-i l = record {
   ready : IsReady l.self;
   within : AreDeclarationsWithin standard (map declaration_tree (drop l.i l.declarations));
   space : HasRoom l.self (pickle_form_count (map declaration_tree (drop l.i l.declarations)));
-  rest : declared (known_types l.initial.self) (map declaration_tree l.declarations) ≡ declared (known_types l.self) (map declaration_tree (drop l.i l.declarations));
-  place : first_wrong 1 (known_types l.initial.self) (map declaration_tree l.declarations) ≡ first_wrong (l.i + 1) (known_types l.self) (map declaration_tree (drop l.i l.declarations));
+  rest : declared (known_types l.initial.self) (map declaration_tree l.declarations)
+      ≡ declared (known_types l.self) (map declaration_tree (drop l.i l.declarations));
+  place : first_wrong 1 (known_types l.initial.self) (map declaration_tree l.declarations)
+      ≡ first_wrong (l.i + 1) (known_types l.self) (map declaration_tree (drop l.i l.declarations));
 }

@@ -7,5 +7,6 @@ invariant-loop-entry l = record {
   ready : IsReady l.self;
   few : length l.self.nodes ≤ length l.initial.self.nodes + l.entry-index;
   new : may_add (known_types l.self) (drop l.entry-index l.types) ≡ true;
-  rest : known_types l.self ++ named_types (drop l.entry-index l.types) ≡ known_types l.initial.self ++ named_types l.types;
+  rest : known_types l.self ++ named_types (drop l.entry-index l.types)
+      ≡ known_types l.initial.self ++ named_types l.types;
 }

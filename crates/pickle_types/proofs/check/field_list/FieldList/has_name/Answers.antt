@@ -8,7 +8,8 @@ use Rattle.pickle_types.proofs.check.field_list.FieldList.has_name.Goals as goal
 
 pub returns-in_default : goal.returns-in_default
 returns-in_default c =
-    c.is_some.ensures ∙ ap is_some c.field_place.ensures ∙ rw c.deref.ensures.value (placed_is c.args.word.now (names_in c.args.self.now.fields.items))
+    c.is_some.ensures ∙ ap is_some c.field_place.ensures
+    ∙ rw c.deref.ensures.value (placed_is c.args.word.now (names_in c.args.self.now.fields.items))
 
 pub returns-in-None : goal.returns-in-None
 returns-in-None c =

@@ -14,67 +14,88 @@ use Rattle.value_text.proofs.print.printer.Printer.+flat.Goals as goal
 pub put_each-loop-place-preserved : goal.put_each-loop-place-preserved
 put_each-loop-place-preserved g t c =
     let all = members_of (typed_shown c.args.value.now) in
-    let len : c.len-count.result ≡ member_count all = c.len-count.ensures ∙ ap (λ v. member_count (members_of (typed_shown v))) c.new-elements.ensures in
+    let len : c.len-count.result ≡ member_count all =
+    c.len-count.ensures ∙ ap (λ v. member_count (members_of (typed_shown v))) c.new-elements.ensures in
     let limit = c.args.style.now.elements in
-    let kept : c.kept_count-kept.result ≡ kept_count limit (member_count all) = c.kept_count-kept.ensures.is ∙ ap (kept_count limit) len in
+    let kept : c.kept_count-kept.result ≡ kept_count limit (member_count all) =
+    c.kept_count-kept.ensures.is ∙ ap (kept_count limit) len in
     let i = c.loop-place.place in
-    let before : is_past limit i ≡ false = kept_before limit (member_count all) i (omega (arith, kept, c.loop-place-test.true)) in
+    let before : is_past limit i ≡ false =
+    kept_before limit (member_count all) i (omega (arith, kept, c.loop-place-test.true)) in
     let lt : i < member_count all = omega (arith, kept, kept_within limit (member_count all), c.loop-place-test.true) in
     elim c.match-get.branch [
       | put_each-in-Some w ↦
-          (let is : Some (typed_shown w.in-Some.element) ≡ member_at all i = w.in-Some.ensures.member ∙ ap (λ v. member_at (members_of (typed_shown v)) i) c.new-elements.ensures in
+          (let is : Some (typed_shown w.in-Some.element) ≡ member_at all i =
+          w.in-Some.ensures.member ∙ ap (λ v. member_at (members_of (typed_shown v)) i) c.new-elements.ensures in
           rw (w.self-is, w.first-is) (record {
             within = omega (arith, kept, c.loop-place-test.true);
-            told = told_next (text_present c.args.style.now limit ArrayLabel all i c.loop-place.first _ lt before is) c.loop-place.invariant.told w.put_member.ensures;
+            told = told_next (text_present c.args.style.now limit ArrayLabel all i c.loop-place.first _ lt before is)
+                c.loop-place.invariant.told w.put_member.ensures;
           }))
       | put_each-in_default w ↦
           rw (w.self-is, w.first-is) (record {
             within = omega (arith, kept, c.loop-place-test.true);
             told = told_same (text_absent c.args.style.now limit ArrayLabel all i c.loop-place.first lt before
-                (w.in_default.ensures.member ∙ ap (λ v. member_at (members_of (typed_shown v)) i) c.new-elements.ensures)) c.loop-place.invariant.told;
+                (w.in_default.ensures.member
+                ∙ ap (λ v. member_at (members_of (typed_shown v)) i) c.new-elements.ensures))
+                c.loop-place.invariant.told;
           })
     ]
 
 pub put_each-returns : goal.put_each-returns
 put_each-returns g t c =
     let all = members_of (typed_shown c.args.value.now) in
-    let len : c.len-count.result ≡ member_count all = c.len-count.ensures ∙ ap (λ v. member_count (members_of (typed_shown v))) c.new-elements.ensures in
+    let len : c.len-count.result ≡ member_count all =
+    c.len-count.ensures ∙ ap (λ v. member_count (members_of (typed_shown v))) c.new-elements.ensures in
     let limit = c.args.style.now.elements in
-    let kept : c.kept_count-kept.result ≡ kept_count limit (member_count all) = c.kept_count-kept.ensures.is ∙ ap (kept_count limit) len in
-    let end : c.loop-place.place ≡ kept_count limit (member_count all) = omega (arith, kept, c.loop-place.invariant.within, c.loop-place-test.false) in
-    told_last (told_same (text_left c.args.style.now limit ArrayLabel all c.loop-place.place c.loop-place.first end) c.loop-place.invariant.told) (rw (end, sym kept, sym len) c.put_left.ensures)
+    let kept : c.kept_count-kept.result ≡ kept_count limit (member_count all) =
+    c.kept_count-kept.ensures.is ∙ ap (kept_count limit) len in
+    let end : c.loop-place.place ≡ kept_count limit (member_count all) =
+    omega (arith, kept, c.loop-place.invariant.within, c.loop-place-test.false) in
+    told_last (told_same (text_left c.args.style.now limit ArrayLabel all c.loop-place.place c.loop-place.first end)
+    c.loop-place.invariant.told) (rw (end, sym kept, sym len) c.put_left.ensures)
 
 pub put_members-loop-place-preserved : goal.put_members-loop-place-preserved
 put_members-loop-place-preserved g t c =
     let all = members_of (typed_shown c.args.value.now) in
     let label = label_of (typed_shown c.args.value.now) in
-    let len : c.len-place-end.result ≡ member_count all = c.len-place-end.ensures ∙ ap (λ v. member_count (members_of (typed_shown v))) c.new-members.ensures in
+    let len : c.len-place-end.result ≡ member_count all =
+    c.len-place-end.ensures ∙ ap (λ v. member_count (members_of (typed_shown v))) c.new-members.ensures in
     let i = c.loop-place.place in
     let lt : i < member_count all = omega (arith, len, c.loop-place-test.true) in
     elim c.match-get.branch [
       | put_members-in-Some w ↦
-          (let is : Some (typed_shown w.in-Some.member) ≡ member_at all i = w.in-Some.ensures.member ∙ ap (λ v. member_at (members_of (typed_shown v)) i) c.new-members.ensures in
-          rw (w.self-is, w.first-is) (told_next (text_present c.args.style.now None label all i c.loop-place.first _ lt refl is) c.loop-place.invariant
+          (let is : Some (typed_shown w.in-Some.member) ≡ member_at all i =
+          w.in-Some.ensures.member ∙ ap (λ v. member_at (members_of (typed_shown v)) i) c.new-members.ensures in
+          rw (w.self-is, w.first-is) (told_next
+          (text_present c.args.style.now None label all i c.loop-place.first _ lt refl is) c.loop-place.invariant
           (rw (w.get-in-Some.ensures ∙ c.member_names-names.ensures i) at w.put_member.ensures)))
       | put_members-in_default w ↦
-          rw (w.self-is, w.first-is) (told_same (text_absent c.args.style.now None label all i c.loop-place.first lt refl
-          (w.in_default.ensures.member ∙ ap (λ v. member_at (members_of (typed_shown v)) i) c.new-members.ensures)) c.loop-place.invariant)
+          rw (w.self-is, w.first-is)
+          (told_same (text_absent c.args.style.now None label all i c.loop-place.first lt refl
+          (w.in_default.ensures.member ∙ ap (λ v. member_at (members_of (typed_shown v)) i) c.new-members.ensures))
+          c.loop-place.invariant)
     ]
 
 pub put_members-returns : goal.put_members-returns
 put_members-returns g t c =
     let len : c.len-place-end.result ≡ member_count (members_of (typed_shown c.args.value.now)) =
     c.len-place-end.ensures ∙ ap (λ v. member_count (members_of (typed_shown v))) c.new-members.ensures in
-    told_all (text_end c.args.style.now None (label_of (typed_shown c.args.value.now)) (members_of (typed_shown c.args.value.now)) c.loop-place.place c.loop-place.first (omega (arith, len, c.loop-place-test.false))) c.loop-place.invariant
+    told_all (text_end c.args.style.now None (label_of (typed_shown c.args.value.now))
+    (members_of (typed_shown c.args.value.now)) c.loop-place.place c.loop-place.first
+    (omega (arith, len, c.loop-place-test.false))) c.loop-place.invariant
 
 pub put_elements-returns-in-Some : goal.put_elements-returns-in-Some
 put_elements-returns-in-Some g t c =
     let are : AreBytesOf c.in-Some.number c.in-Some.bytes.now (typed_shown c.args.value.now) =
-    subst (λ v. AreBytesOf c.in-Some.number c.in-Some.bytes.now (typed_shown v)) c.new-elements.ensures c.in-Some.ensures in
-    let len : c.len.result ≡ member_count (members_of (typed_shown c.args.value.now)) = c.len.ensures ∙ ap (λ v. member_count (members_of (typed_shown v))) c.new-elements.ensures in
+    subst (λ v. AreBytesOf c.in-Some.number c.in-Some.bytes.now (typed_shown v)) c.new-elements.ensures
+    c.in-Some.ensures in
+    let len : c.len.result ≡ member_count (members_of (typed_shown c.args.value.now)) =
+    c.len.ensures ∙ ap (λ v. member_count (members_of (typed_shown v))) c.new-elements.ensures in
     let whole : is_cut c.args.style.now.elements (member_count (members_of (typed_shown c.args.value.now))) ≡ false =
     ap (is_cut c.args.style.now.elements) (sym len) ∙ sym c.is_cut.ensures ∙ c.if-is_cut.false in
-    subst (Puts g.W.Write.contents c.args.self.now c.put_byte_row.new.self) (byte_row c.args.style.now _ _ _ are whole) c.put_byte_row.ensures
+    subst (Puts g.W.Write.contents c.args.self.now c.put_byte_row.new.self) (byte_row c.args.style.now _ _ _ are whole)
+    c.put_byte_row.ensures
 
 pub put_each-returns-then-self : goal.put_each-returns-then-self
 put_each-returns-then-self g t c = told_failed c.if-self.true c.loop-place.invariant.told

@@ -33,13 +33,15 @@ decreases-put_value g l = 5 * rank_of (value_in l.value.now) + 4
 abbrev pub invariant-put_members-loop-place : goal.invariant-put_members-loop-place
 invariant-put_members-loop-place g l =
     Told g.W.Write.contents l.initial.self l.self
-    (styled_members l.fn.style None (label_of (typed_shown l.fn.value)) l.place l.first (members_from l.place (members_of (typed_shown l.fn.value))))
+    (styled_members l.fn.style None (label_of (typed_shown l.fn.value)) l.place l.first
+    (members_from l.place (members_of (typed_shown l.fn.value))))
     (all_members_text l.fn.style (typed_shown l.fn.value))
 
 abbrev pub invariant-put_each-loop-place : goal.invariant-put_each-loop-place
 invariant-put_each-loop-place g l = record {
   within : l.place ≤ kept_count l.fn.style.elements (member_count (members_of (typed_shown l.fn.value)));
   told : Told g.W.Write.contents l.initial.self l.self
-      (styled_members l.fn.style l.fn.style.elements ArrayLabel l.place l.first (members_from l.place (members_of (typed_shown l.fn.value))))
+      (styled_members l.fn.style l.fn.style.elements ArrayLabel l.place l.first
+      (members_from l.place (members_of (typed_shown l.fn.value))))
       (elements_text l.fn.style (typed_shown l.fn.value));
 }

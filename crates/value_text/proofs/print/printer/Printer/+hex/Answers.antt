@@ -7,5 +7,6 @@ use Rattle.value_text.proofs.print.printer.Printer.+hex.Goals as goal
 
 pub put_hex_digits-returns-then-most-gt0 : goal.put_hex_digits-returns-then-most-gt0
 put_hex_digits-returns-then-most-gt0 g t c =
-    let last : Puts g.W.Write.contents c.put_upper_digits.new.self c.put.new.self (hex_digit (c.args.number % 16) ∷ []) = search rules in
+    let last : Puts g.W.Write.contents c.put_upper_digits.new.self c.put.new.self
+    (hex_digit (c.args.number % 16) ∷ []) = search rules in
     rw (digits_end c.args.most c.args.number c.if-most-gt0.true) (puts_next c.put_upper_digits.ensures last)

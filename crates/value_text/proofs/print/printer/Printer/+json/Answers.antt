@@ -12,57 +12,76 @@ use Rattle.value_text.proofs.print.printer.Printer.+json.Goals as goal
 pub put_json_elements-loop-place-preserved : goal.put_json_elements-loop-place-preserved
 put_json_elements-loop-place-preserved g t c =
     let all = members_of (typed_shown c.args.value.now) in
-    let len : c.len-count.result ≡ member_count all = c.len-count.ensures ∙ ap (λ v. member_count (members_of (typed_shown v))) c.new-elements.ensures in
+    let len : c.len-count.result ≡ member_count all =
+    c.len-count.ensures ∙ ap (λ v. member_count (members_of (typed_shown v))) c.new-elements.ensures in
     let limit = c.args.style.now.elements in
-    let kept : c.kept_count-kept.result ≡ kept_count limit (member_count all) = c.kept_count-kept.ensures.is ∙ ap (kept_count limit) len in
+    let kept : c.kept_count-kept.result ≡ kept_count limit (member_count all) =
+    c.kept_count-kept.ensures.is ∙ ap (kept_count limit) len in
     let i = c.loop-place.place in
-    let before : is_past limit i ≡ false = kept_before limit (member_count all) i (omega (arith, kept, c.loop-place-test.true)) in
+    let before : is_past limit i ≡ false =
+    kept_before limit (member_count all) i (omega (arith, kept, c.loop-place-test.true)) in
     let lt : i < member_count all = omega (arith, kept, kept_within limit (member_count all), c.loop-place-test.true) in
     elim c.match-get.branch [
       | put_json_elements-in-Some w ↦
-          (let is : Some (typed_shown w.in-Some.element) ≡ member_at all i = w.in-Some.ensures.member ∙ ap (λ v. member_at (members_of (typed_shown v)) i) c.new-elements.ensures in
+          (let is : Some (typed_shown w.in-Some.element) ≡ member_at all i =
+          w.in-Some.ensures.member ∙ ap (λ v. member_at (members_of (typed_shown v)) i) c.new-elements.ensures in
           rw (w.self-is, w.first-is) (record {
             within = omega (arith, kept, c.loop-place-test.true);
-            told = told_next (element_present c.args.style.now limit all i c.loop-place.first _ lt before is) c.loop-place.invariant.told w.put_json_element.ensures;
+            told = told_next (element_present c.args.style.now limit all i c.loop-place.first _ lt before is)
+                c.loop-place.invariant.told w.put_json_element.ensures;
           }))
       | put_json_elements-in_default w ↦
           rw (w.self-is, w.first-is) (record {
             within = omega (arith, kept, c.loop-place-test.true);
             told = told_same (json_absent c.args.style.now limit no_key all i c.loop-place.first lt before
-                (w.in_default.ensures.member ∙ ap (λ v. member_at (members_of (typed_shown v)) i) c.new-elements.ensures)) c.loop-place.invariant.told;
+                (w.in_default.ensures.member
+                ∙ ap (λ v. member_at (members_of (typed_shown v)) i) c.new-elements.ensures))
+                c.loop-place.invariant.told;
           })
     ]
 
 pub put_json_elements-returns : goal.put_json_elements-returns
 put_json_elements-returns g t c =
     let all = members_of (typed_shown c.args.value.now) in
-    let len : c.len-count.result ≡ member_count all = c.len-count.ensures ∙ ap (λ v. member_count (members_of (typed_shown v))) c.new-elements.ensures in
+    let len : c.len-count.result ≡ member_count all =
+    c.len-count.ensures ∙ ap (λ v. member_count (members_of (typed_shown v))) c.new-elements.ensures in
     let limit = c.args.style.now.elements in
-    let kept : c.kept_count-kept.result ≡ kept_count limit (member_count all) = c.kept_count-kept.ensures.is ∙ ap (kept_count limit) len in
-    let end : c.loop-place.place ≡ kept_count limit (member_count all) = omega (arith, kept, c.loop-place.invariant.within, c.loop-place-test.false) in
-    told_last (told_same (json_left c.args.style.now limit no_key all c.loop-place.place c.loop-place.first end) c.loop-place.invariant.told) (rw (end, sym kept, sym len) c.put_left_item.ensures)
+    let kept : c.kept_count-kept.result ≡ kept_count limit (member_count all) =
+    c.kept_count-kept.ensures.is ∙ ap (kept_count limit) len in
+    let end : c.loop-place.place ≡ kept_count limit (member_count all) =
+    omega (arith, kept, c.loop-place.invariant.within, c.loop-place-test.false) in
+    told_last (told_same (json_left c.args.style.now limit no_key all c.loop-place.place c.loop-place.first end)
+    c.loop-place.invariant.told) (rw (end, sym kept, sym len) c.put_left_item.ensures)
 
 pub put_fields-loop-place-preserved : goal.put_fields-loop-place-preserved
 put_fields-loop-place-preserved g t c =
     let all = members_of (typed_shown c.args.value.now) in
     let before = key_before (label_of (typed_shown c.args.value.now)) in
-    let len : c.len-place-end.result ≡ member_count all = c.len-place-end.ensures ∙ ap (λ v. member_count (members_of (typed_shown v))) c.new-fields.ensures in
+    let len : c.len-place-end.result ≡ member_count all =
+    c.len-place-end.ensures ∙ ap (λ v. member_count (members_of (typed_shown v))) c.new-fields.ensures in
     let i = c.loop-place.place in
     let lt : i < member_count all = omega (arith, len, c.loop-place-test.true) in
     elim c.match-get.branch [
       | put_fields-in-Some w ↦
-          (let is : Some (typed_shown w.in-Some.field) ≡ member_at all i = w.in-Some.ensures.member ∙ ap (λ v. member_at (members_of (typed_shown v)) i) c.new-fields.ensures in
-          rw (w.self-is, w.first-is) (told_next (json_present c.args.style.now None before all i c.loop-place.first _ lt refl is) c.loop-place.invariant w.put_field.ensures))
+          (let is : Some (typed_shown w.in-Some.field) ≡ member_at all i =
+          w.in-Some.ensures.member ∙ ap (λ v. member_at (members_of (typed_shown v)) i) c.new-fields.ensures in
+          rw (w.self-is, w.first-is)
+          (told_next (json_present c.args.style.now None before all i c.loop-place.first _ lt refl is)
+          c.loop-place.invariant w.put_field.ensures))
       | put_fields-in_default w ↦
-          rw (w.self-is, w.first-is) (told_same (json_absent c.args.style.now None before all i c.loop-place.first lt refl
-          (w.in_default.ensures.member ∙ ap (λ v. member_at (members_of (typed_shown v)) i) c.new-fields.ensures)) c.loop-place.invariant)
+          rw (w.self-is, w.first-is)
+          (told_same (json_absent c.args.style.now None before all i c.loop-place.first lt refl
+          (w.in_default.ensures.member ∙ ap (λ v. member_at (members_of (typed_shown v)) i) c.new-fields.ensures))
+          c.loop-place.invariant)
     ]
 
 pub put_fields-returns : goal.put_fields-returns
 put_fields-returns g t c =
     let len : c.len-place-end.result ≡ member_count (members_of (typed_shown c.args.value.now)) =
     c.len-place-end.ensures ∙ ap (λ v. member_count (members_of (typed_shown v))) c.new-fields.ensures in
-    told_all (json_end c.args.style.now None (key_before (label_of (typed_shown c.args.value.now))) (members_of (typed_shown c.args.value.now)) c.loop-place.place c.loop-place.first (omega (arith, len, c.loop-place-test.false)))
+    told_all (json_end c.args.style.now None (key_before (label_of (typed_shown c.args.value.now)))
+    (members_of (typed_shown c.args.value.now)) c.loop-place.place c.loop-place.first
+    (omega (arith, len, c.loop-place-test.false)))
     c.loop-place.invariant
 
 pub put_json_elements-returns-then-self : goal.put_json_elements-returns-then-self

@@ -35,12 +35,14 @@ abbrev pub invariant-put_json_elements-loop-place : goal.invariant-put_json_elem
 invariant-put_json_elements-loop-place g l = record {
   within : l.place ≤ kept_count l.fn.style.elements (member_count (members_of (typed_shown l.fn.value)));
   told : Told g.W.Write.contents l.initial.self l.self
-      (styled_json_members l.fn.style l.fn.style.elements no_key l.place l.first (members_from l.place (members_of (typed_shown l.fn.value))))
+      (styled_json_members l.fn.style l.fn.style.elements no_key l.place l.first
+      (members_from l.place (members_of (typed_shown l.fn.value))))
       (elements_json l.fn.style (typed_shown l.fn.value));
 }
 
 abbrev pub invariant-put_fields-loop-place : goal.invariant-put_fields-loop-place
 invariant-put_fields-loop-place g l =
     Told g.W.Write.contents l.initial.self l.self
-    (styled_json_members l.style None (key_before (label_of (typed_shown l.value))) l.place l.first (members_from l.place (members_of (typed_shown l.value))))
+    (styled_json_members l.style None (key_before (label_of (typed_shown l.value))) l.place l.first
+    (members_from l.place (members_of (typed_shown l.value))))
     (fields_json l.style (typed_shown l.value))

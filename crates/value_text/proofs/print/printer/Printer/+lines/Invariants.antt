@@ -21,8 +21,10 @@ decreases-put_branch g l = 4 * rank_of (value_in l.part.now) + 4
 
 abbrev pub invariant-put_branches-loop-place : goal.invariant-put_branches-loop-place
 invariant-put_branches-loop-place g l = record {
-  within : l.place ≤ kept_count (limit_of l.style (label_of (typed_shown l.value))) (member_count (members_of (typed_shown l.value)));
+  within : l.place ≤ kept_count (limit_of l.style (label_of (typed_shown l.value)))
+      (member_count (members_of (typed_shown l.value)));
   told : Told g.W.Write.contents l.initial.self l.self
-      (styled_branches l.style (limit_of l.style (label_of (typed_shown l.value))) (steps_of l.steps) (typed_shown l.value) l.place (members_from l.place (members_of (typed_shown l.value))))
+      (styled_branches l.style (limit_of l.style (label_of (typed_shown l.value))) (steps_of l.steps)
+      (typed_shown l.value) l.place (members_from l.place (members_of (typed_shown l.value))))
       (branches_at l.style l.steps l.value);
 }

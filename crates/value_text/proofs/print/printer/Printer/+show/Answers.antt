@@ -18,14 +18,22 @@ put_shown_parts-loop-place-preserved g t c =
     let i = c.loop-place.place in
     let owner : owner_of c.members-parts.result ≡ value_in c.args.value = c.members-parts.ensures ∙ c.value.ensures in
     let count : c.part_count-place-end.result ≡ at_most (cut_of view.elements label) (member_count all) =
-    subst (λ v. c.part_count-place-end.result ≡ at_most (cut_of view.elements (label_of (value_shown v))) (member_count (members_of (value_shown v)))) c.value-2.ensures c.part_count-place-end.ensures in
-    let here : i < at_most (cut_of view.elements label) (member_count all) = subst (λ n. i < n) count c.loop-place-test.true in
+    subst (λ v. c.part_count-place-end.result
+    ≡ at_most (cut_of view.elements (label_of (value_shown v))) (member_count (members_of (value_shown v))))
+    c.value-2.ensures c.part_count-place-end.ensures in
+    let here : i < at_most (cut_of view.elements label) (member_count all) =
+    subst (λ n. i < n) count c.loop-place-test.true in
     elim c.match-get.branch [
       | put_shown_parts-in-Some w ↦
-          (let is : Some (value_shown w.in-Some.part) ≡ member_at all i = subst (λ v. Some (value_shown w.in-Some.part) ≡ member_at (members_of (value_shown v)) i) owner w.in-Some.ensures.member in
-          rw w.self-is (told_next (parts_present view (c.args.level + 1) (node_in c.args.value) label all i _ here is) c.loop-place.invariant w.put_shown_part.ensures))
+          (let is : Some (value_shown w.in-Some.part) ≡ member_at all i =
+          subst (λ v. Some (value_shown w.in-Some.part) ≡ member_at (members_of (value_shown v)) i) owner
+          w.in-Some.ensures.member in
+          rw w.self-is (told_next (parts_present view (c.args.level + 1) (node_in c.args.value) label all i _ here is)
+          c.loop-place.invariant w.put_shown_part.ensures))
       | put_shown_parts-in_default w ↦
-          rw w.self-is (told_same (parts_absent view (c.args.level + 1) (node_in c.args.value) label all i here (subst (λ v. None ≡ member_at (members_of (value_shown v)) i) owner w.in_default.ensures.member)) c.loop-place.invariant)
+          rw w.self-is (told_same (parts_absent view (c.args.level + 1) (node_in c.args.value) label all i here
+          (subst (λ v. None ≡ member_at (members_of (value_shown v)) i) owner w.in_default.ensures.member))
+          c.loop-place.invariant)
     ]
 
 pub put_shown_parts-returns : goal.put_shown_parts-returns
@@ -34,8 +42,11 @@ put_shown_parts-returns g t c =
     let label = label_of (mapped_in c.args.value) in
     let all = members_of (mapped_in c.args.value) in
     let count : c.part_count-place-end.result ≡ at_most (cut_of view.elements label) (member_count all) =
-    subst (λ v. c.part_count-place-end.result ≡ at_most (cut_of view.elements (label_of (value_shown v))) (member_count (members_of (value_shown v)))) c.value-2.ensures c.part_count-place-end.ensures in
-    told_all (parts_end view (c.args.level + 1) (node_in c.args.value) label all c.loop-place.place (subst (λ n. n ≤ c.loop-place.place) count c.loop-place-test.false)) c.loop-place.invariant
+    subst (λ v. c.part_count-place-end.result
+    ≡ at_most (cut_of view.elements (label_of (value_shown v))) (member_count (members_of (value_shown v))))
+    c.value-2.ensures c.part_count-place-end.ensures in
+    told_all (parts_end view (c.args.level + 1) (node_in c.args.value) label all c.loop-place.place
+    (subst (λ n. n ≤ c.loop-place.place) count c.loop-place-test.false)) c.loop-place.invariant
 
 pub put_shown_parts-returns-then-self : goal.put_shown_parts-returns-then-self
 put_shown_parts-returns-then-self g t c = told_failed c.if-self.true c.loop-place.invariant

@@ -28,4 +28,7 @@ decreases-put_shown_part g l = 6 * rank_of l.part + 6
 
 abbrev pub invariant-put_shown_parts-loop-place : goal.invariant-put_shown_parts-loop-place
 invariant-put_shown_parts-loop-place g l =
-    Told g.W.Write.contents l.initial.self l.self (shown_parts (look_at l.fn.look l.fn.value) (l.fn.level + 1) (node_in l.fn.value) (label_of (mapped_in l.fn.value)) l.place (members_from l.place (members_of (mapped_in l.fn.value)))) (all_parts_text (look_at l.fn.look l.fn.value) l.fn.level (node_in l.fn.value) (mapped_in l.fn.value))
+    Told g.W.Write.contents l.initial.self l.self
+    (shown_parts (look_at l.fn.look l.fn.value) (l.fn.level + 1) (node_in l.fn.value) (label_of (mapped_in l.fn.value))
+    l.place (members_from l.place (members_of (mapped_in l.fn.value))))
+    (all_parts_text (look_at l.fn.look l.fn.value) l.fn.level (node_in l.fn.value) (mapped_in l.fn.value))

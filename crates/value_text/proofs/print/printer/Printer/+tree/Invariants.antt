@@ -23,8 +23,10 @@ decreases-put_rest g l = 4 * rank_of (value_in l.value.now) + 3
 
 abbrev pub invariant-put_parts-loop-place : goal.invariant-put_parts-loop-place
 invariant-put_parts-loop-place g l = record {
-  within : l.place ≤ kept_count (limit_of l.style (label_of (typed_shown l.value))) (member_count (members_of (typed_shown l.value)));
+  within : l.place ≤ kept_count (limit_of l.style (label_of (typed_shown l.value)))
+      (member_count (members_of (typed_shown l.value)));
   told : Told g.W.Write.contents l.initial.self l.self
-      (styled_parts l.style (limit_of l.style (label_of (typed_shown l.value))) (l.level + 1) (label_of (typed_shown l.value)) l.place (members_from l.place (members_of (typed_shown l.value))))
+      (styled_parts l.style (limit_of l.style (label_of (typed_shown l.value)))
+      (l.level + 1) (label_of (typed_shown l.value)) l.place (members_from l.place (members_of (typed_shown l.value))))
       (all_parts_text l.style l.level (typed_shown l.value));
 }

@@ -11,7 +11,8 @@ loop-done-preserved g c =
     let left = take_rest bytes c.loop-done.done in
     record {
       within = omega (arith, rw left at e.within, length-drop c.loop-done.done bytes, i.within);
-      told = told_next (bytes_next (escape_of c.args.escapes) c.loop-done.done c.put_next-done.result bytes) i.told (rw left at e.puts);
+      told = told_next (bytes_next (escape_of c.args.escapes) c.loop-done.done c.put_next-done.result bytes) i.told
+          (rw left at e.puts);
     }
 
 pub returns-then-self : goal.returns-then-self

@@ -7,7 +7,8 @@ use Rattle.value_text.proofs.print.printer.Printer.put_bytes.Given as goal
 abbrev pub invariant-loop-done : goal.invariant-loop-done
 invariant-loop-done g l = record {
   within : l.done ≤ length l.bytes;
-  told : Told g.W.Write.contents l.initial.self l.self (spelled (escape_of l.escapes) (drop l.done l.bytes)) (spelled (escape_of l.escapes) l.bytes);
+  told : Told g.W.Write.contents l.initial.self l.self (spelled (escape_of l.escapes) (drop l.done l.bytes))
+      (spelled (escape_of l.escapes) l.bytes);
 }
 
 abbrev pub decreases-loop-done : goal.decreases-loop-done

@@ -9,5 +9,6 @@ use Rattle.value_text.proofs.print.printer.Printer.put_char_text.Goals as goal
 
 pub returns : goal.returns
 returns g c =
-    subst (Puts g.W.Write.contents c.args.self.now c.put-2.new.self) (quotes_are c.args.escapes (trimmed (chars_in (members_of (mapped_in c.args.array.now)))))
+    subst (Puts g.W.Write.contents c.args.self.now c.put-2.new.self)
+    (quotes_are c.args.escapes (trimmed (chars_in (members_of (mapped_in c.args.array.now)))))
     (puts_next c.put.ensures (puts_next c.put_chars.ensures c.put-2.ensures))

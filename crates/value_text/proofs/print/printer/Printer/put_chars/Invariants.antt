@@ -8,5 +8,6 @@ use Rattle.value_text.proofs.print.printer.Printer.put_chars.Given as goal
 
 abbrev pub invariant-loop-place : goal.invariant-loop-place
 invariant-loop-place g l =
-    Told g.W.Write.contents l.initial.self l.self (spelled_by l.fn.escapes (drop l.place (trimmed (chars_in (members_of (mapped_in l.fn.array))))))
+    Told g.W.Write.contents l.initial.self l.self
+    (spelled_by l.fn.escapes (drop l.place (trimmed (chars_in (members_of (mapped_in l.fn.array))))))
     (spelled_by l.fn.escapes (trimmed (chars_in (members_of (mapped_in l.fn.array)))))

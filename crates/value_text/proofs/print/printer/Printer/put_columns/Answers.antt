@@ -11,7 +11,9 @@ unfolding columns
 loop-i-init g c = told_none
 
 pub loop-i-preserved : goal.loop-i-preserved
-loop-i-preserved g c = told_next (flat_first (column (members_of (value_shown c.args.value)) c.args.from) c.loop-i.i 16 (omega (arith, c.loop-i-test.true))) c.loop-i.invariant c.put_column.ensures
+loop-i-preserved g c = told_next (flat_first (column (members_of (value_shown c.args.value)) c.args.from) c.loop-i.i 16
+    (omega (arith, c.loop-i-test.true))) c.loop-i.invariant c.put_column.ensures
 
 pub returns : goal.returns
-returns g c = told_all (flat_none (column (members_of (value_shown c.args.value)) c.args.from) c.loop-i.i 16 (omega (arith, c.loop-i-test.false))) c.loop-i.invariant
+returns g c = told_all (flat_none (column (members_of (value_shown c.args.value)) c.args.from) c.loop-i.i 16
+    (omega (arith, c.loop-i-test.false))) c.loop-i.invariant

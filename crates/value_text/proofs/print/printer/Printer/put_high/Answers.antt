@@ -7,4 +7,5 @@ use Rattle.value_text.proofs.print.printer.Printer.put_high.Goals as goal
 
 pub returns-then-high-eq0 : goal.returns-then-high-eq0
 returns-then-high-eq0 g c =
-    subst (λ n. Puts g.W.Write.contents c.args.self.now c.args.self.now (hex_text n)) (sym c.if-high-eq0.true) (rw zero_text puts_none)
+    subst (λ n. Puts g.W.Write.contents c.args.self.now c.args.self.now (hex_text n)) (sym c.if-high-eq0.true)
+    (rw zero_text puts_none)

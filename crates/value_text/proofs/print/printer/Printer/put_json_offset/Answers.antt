@@ -8,4 +8,5 @@ pub returns : goal.returns
 unfolding json_offset_in
 returns g c =
     let n : to_z w128 (of_z w128 c.args.magnitude) ≡ c.args.magnitude = search rules in
-    puts_next c.put.ensures (puts_next (rw n at c.put_json_number.ensures) (puts_next c.put-2.ensures (puts_next c.put_digits.ensures c.put-3.ensures)))
+    puts_next c.put.ensures (puts_next (rw n at c.put_json_number.ensures)
+    (puts_next c.put-2.ensures (puts_next c.put_digits.ensures c.put-3.ensures)))

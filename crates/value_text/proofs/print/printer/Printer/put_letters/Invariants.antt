@@ -8,4 +8,6 @@ use Rattle.value_text.proofs.print.printer.Printer.put_letters.Given as goal
 
 abbrev pub invariant-loop-place : goal.invariant-loop-place
 invariant-loop-place g l =
-    Told g.W.Write.contents l.initial.self l.self (bytes_text (drop l.place (take l.count (chars_in (members_of (value_shown l.fn.value)))))) (bytes_text (trimmed (chars_in (members_of (value_shown l.fn.value)))))
+    Told g.W.Write.contents l.initial.self l.self
+    (bytes_text (drop l.place (take l.count (chars_in (members_of (value_shown l.fn.value))))))
+    (bytes_text (trimmed (chars_in (members_of (value_shown l.fn.value)))))

@@ -20,27 +20,38 @@ pub loop-place-preserved : goal.loop-place-preserved
 loop-place-preserved g c =
     let all = members_of (typed_shown c.args.value.now) in
     let style = c.args.style.now in
-    let len : c.len-place-end.result ≡ member_count all = c.len-place-end.ensures ∙ ap (λ v. member_count (members_of (typed_shown v))) c.new-elements.ensures in
+    let len : c.len-place-end.result ≡ member_count all =
+    c.len-place-end.ensures ∙ ap (λ v. member_count (members_of (typed_shown v))) c.new-elements.ensures in
     let i = c.loop-place.place in
     let lt : i < member_count all = omega (arith, len, c.loop-place-test.true) in
-    let before : is_past style.elements i ≡ false = whole_before style.elements (member_count all) i c.requires.whole lt in
+    let before : is_past style.elements i ≡ false =
+    whole_before style.elements (member_count all) i c.requires.whole lt in
     elim c.match-get.branch [
       | in-Some w ↦
           (let u = typed_shown w.in-Some.element in
-          let is : Some u ≡ member_at all i = w.in-Some.ensures.member ∙ ap (λ v. member_at (members_of (typed_shown v)) i) c.new-elements.ensures in
-          let text = row_text style c.loop-place.first u c.args.number (subst (λ o. IfSome o (IsIntegerOf c.args.number)) (sym is) (c.requires.integers i)) in
-          let item : Puts g.W.Write.contents c.loop-place.self w.put_item.new.self (comma c.loop-place.first ++ integer_in style.numbers c.args.number (number_of (label_of u))) = search rules in
-          rw (w.self-is, w.first-is) (told_next {x = member_text style c.loop-place.first None u} (text_present style style.elements ArrayLabel all i c.loop-place.first u lt before is) c.loop-place.invariant (rw text item)))
+          let is : Some u ≡ member_at all i =
+          w.in-Some.ensures.member ∙ ap (λ v. member_at (members_of (typed_shown v)) i) c.new-elements.ensures in
+          let text = row_text style c.loop-place.first u c.args.number
+          (subst (λ o. IfSome o (IsIntegerOf c.args.number)) (sym is) (c.requires.integers i)) in
+          let item : Puts g.W.Write.contents c.loop-place.self w.put_item.new.self
+          (comma c.loop-place.first ++ integer_in style.numbers c.args.number (number_of (label_of u))) =
+          search rules in
+          rw (w.self-is, w.first-is) (told_next {x = member_text style c.loop-place.first None u}
+          (text_present style style.elements ArrayLabel all i c.loop-place.first u lt before is)
+          c.loop-place.invariant (rw text item)))
       | in_default w ↦
-          rw (w.self-is, w.first-is) (told_same (text_absent style style.elements ArrayLabel all i c.loop-place.first lt before
-          (w.in_default.ensures.member ∙ ap (λ v. member_at (members_of (typed_shown v)) i) c.new-elements.ensures)) c.loop-place.invariant)
+          rw (w.self-is, w.first-is)
+          (told_same (text_absent style style.elements ArrayLabel all i c.loop-place.first lt before
+          (w.in_default.ensures.member ∙ ap (λ v. member_at (members_of (typed_shown v)) i) c.new-elements.ensures))
+          c.loop-place.invariant)
     ]
 
 pub returns : goal.returns
 returns g c =
     let len : c.len-place-end.result ≡ member_count (members_of (typed_shown c.args.value.now)) =
     c.len-place-end.ensures ∙ ap (λ v. member_count (members_of (typed_shown v))) c.new-elements.ensures in
-    told_all (text_end c.args.style.now c.args.style.now.elements ArrayLabel (members_of (typed_shown c.args.value.now)) c.loop-place.place c.loop-place.first (omega (arith, len, c.loop-place-test.false))) c.loop-place.invariant
+    told_all (text_end c.args.style.now c.args.style.now.elements ArrayLabel (members_of (typed_shown c.args.value.now))
+    c.loop-place.place c.loop-place.first (omega (arith, len, c.loop-place-test.false))) c.loop-place.invariant
 
 pub returns-then-self : goal.returns-then-self
 returns-then-self g c = told_failed c.if-self.true c.loop-place.invariant

@@ -9,5 +9,6 @@ use Rattle.value_text.proofs.print.printer.Printer.put_row.Given as goal
 abbrev pub invariant-loop-place : goal.invariant-loop-place
 invariant-loop-place g l =
     Told g.W.Write.contents l.initial.self l.self
-    (styled_members l.fn.style l.fn.style.elements ArrayLabel l.place l.first (members_from l.place (members_of (typed_shown l.fn.value))))
+    (styled_members l.fn.style l.fn.style.elements ArrayLabel l.place l.first
+    (members_from l.place (members_of (typed_shown l.fn.value))))
     (elements_text l.fn.style (typed_shown l.fn.value))

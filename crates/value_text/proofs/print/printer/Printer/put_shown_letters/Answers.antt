@@ -11,7 +11,9 @@ unfolding shown_letters
 loop-i-init g c = told_none
 
 pub loop-i-preserved : goal.loop-i-preserved
-loop-i-preserved g c = told_next (flat_first (shown_letter (members_of (value_shown c.args.value)) c.args.from) c.loop-i.i 16 (omega (arith, c.loop-i-test.true))) c.loop-i.invariant c.put_letter.ensures
+loop-i-preserved g c = told_next (flat_first (shown_letter (members_of (value_shown c.args.value)) c.args.from)
+    c.loop-i.i 16 (omega (arith, c.loop-i-test.true))) c.loop-i.invariant c.put_letter.ensures
 
 pub returns : goal.returns
-returns g c = told_all (flat_none (shown_letter (members_of (value_shown c.args.value)) c.args.from) c.loop-i.i 16 (omega (arith, c.loop-i-test.false))) c.loop-i.invariant
+returns g c = told_all (flat_none (shown_letter (members_of (value_shown c.args.value)) c.args.from) c.loop-i.i 16
+    (omega (arith, c.loop-i-test.false))) c.loop-i.invariant

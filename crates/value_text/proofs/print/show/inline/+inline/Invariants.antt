@@ -15,4 +15,5 @@ abbrev pub decreases-is_inline_at : goal.decreases-is_inline_at
 decreases-is_inline_at l = 3 * rank_of l.value
 
 abbrev pub invariant-are_inline-loop-place : goal.invariant-are_inline-loop-place
-invariant-are_inline-loop-place l = are_inline (members_of (value_shown l.fn.value)) ≡ are_inline (members_from l.place (members_of (value_shown l.fn.value)))
+invariant-are_inline-loop-place l = are_inline (members_of (value_shown l.fn.value))
+    ≡ are_inline (members_from l.place (members_of (value_shown l.fn.value)))

@@ -8,11 +8,13 @@ use Rattle.value_text.proofs.print.show.text.char_at.Goals as goal
 pub returns-in-Some : goal.returns-in-Some
 returns-in-Some c =
     let is : Some (value_shown c.in-Some.element) ≡ member_at (members_of (value_shown c.args.value)) c.args.place =
-    subst (λ v. Some (value_shown c.in-Some.element) ≡ member_at (members_of (value_shown v)) c.args.place) c.members.ensures c.in-Some.ensures.member in
+    subst (λ v. Some (value_shown c.in-Some.element) ≡ member_at (members_of (value_shown v)) c.args.place)
+    c.members.ensures c.in-Some.ensures.member in
     c.char_of.ensures ∙ sym (chars_at (members_of (value_shown c.args.value)) c.args.place ∙ ap char_if (sym is))
 
 pub returns-in-None : goal.returns-in-None
 returns-in-None c =
     let is : None ≡ member_at (members_of (value_shown c.args.value)) c.args.place =
-    subst (λ v. None ≡ member_at (members_of (value_shown v)) c.args.place) c.members.ensures c.in-None.ensures.member in
+    subst (λ v. None ≡ member_at (members_of (value_shown v)) c.args.place) c.members.ensures
+    c.in-None.ensures.member in
     sym (chars_at (members_of (value_shown c.args.value)) c.args.place ∙ ap char_if (sym is))

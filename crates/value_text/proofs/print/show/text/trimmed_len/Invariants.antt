@@ -6,6 +6,7 @@ use Rattle.value_text.proofs.print.show.text.trimmed_len.Given as goal
 
 abbrev pub invariant-loop-place : goal.invariant-loop-place
 invariant-loop-place l = record {
-  kept : take l.end (chars_in (members_of (value_shown l.fn.value))) ≡ trimmed (take l.place (chars_in (members_of (value_shown l.fn.value))));
+  kept : take l.end (chars_in (members_of (value_shown l.fn.value)))
+      ≡ trimmed (take l.place (chars_in (members_of (value_shown l.fn.value))));
   most : l.end ≤ l.place;
 }

@@ -10,13 +10,16 @@ pub returns-in-Some-clause-member : goal.returns-in-Some-clause-member
 returns-in-Some-clause-member c =
     let t = whole_of c.args.self.now in
     let i = c.args.place in
-    ap Some (part_shown t (record { value = c.in-Some.part; types = c.args.self.now.types; node = c.part_node.result }) c.in-Some.part i refl refl c.part_node.ensures)
-    ∙ ap (option_map (with_texts (nodes_in (types_in t)) (char_node_in (types_in t)) (part_node_in t i))) c.in-Some.ensures.member
+    ap Some (part_shown t (record { value = c.in-Some.part; types = c.args.self.now.types; node = c.part_node.result })
+    c.in-Some.part i refl refl c.part_node.ensures)
+    ∙ ap (option_map (with_texts (nodes_in (types_in t)) (char_node_in (types_in t)) (part_node_in t i)))
+    c.in-Some.ensures.member
     ∙ sym (whole_at t i c.requires)
 
 pub returns-in-None-clause-member : goal.returns-in-None-clause-member
 returns-in-None-clause-member c =
     let t = whole_of c.args.self.now in
     let i = c.args.place in
-    ap (option_map (with_texts (nodes_in (types_in t)) (char_node_in (types_in t)) (part_node_in t i))) c.in-None.ensures.member
+    ap (option_map (with_texts (nodes_in (types_in t)) (char_node_in (types_in t)) (part_node_in t i)))
+    c.in-None.ensures.member
     ∙ sym (whole_at t i c.requires)

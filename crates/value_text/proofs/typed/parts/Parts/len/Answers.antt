@@ -7,5 +7,6 @@ use Rattle.value_text.proofs.typed.parts.Parts.len.Goals as goal
 pub returns-else-is_of_chars : goal.returns-else-is_of_chars
 returns-else-is_of_chars c =
     let t = whole_of c.args.self.now in
-    let other : is_of_chars t ≡ false = sym (ap is_of_chars c.whole.ensures) ∙ sym c.is_of_chars.ensures ∙ c.if-is_of_chars.false in
+    let other : is_of_chars t ≡ false =
+    sym (ap is_of_chars c.whole.ensures) ∙ sym c.is_of_chars.ensures ∙ c.if-is_of_chars.false in
     c.len.ensures ∙ sym (whole_count t other)

@@ -7,5 +7,6 @@ use Rattle.value_text.proofs.typed.parts.Parts.row_type.Goals as goal
 pub returns : goal.returns
 returns c =
     let t = whole_of c.args.self.now in
-    let other : is_of_chars t ≡ false = sym (ap is_of_chars c.whole.ensures) ∙ sym c.is_of_chars.ensures ∙ c.if-is_of_chars.false in
+    let other : is_of_chars t ≡ false =
+    sym (ap is_of_chars c.whole.ensures) ∙ sym c.is_of_chars.ensures ∙ c.if-is_of_chars.false in
     whole_integers t c.row_type.result other c.row_type.ensures
