@@ -37,9 +37,7 @@ start_is _ = tt
 
 pub prefix_start : (op : Prefix) → start_of (prefix_sign op) ≡ start.Prefix op
 prefix_start prefix.Plus = refl
-prefix_start prefix.Minus = refl
-prefix_start prefix.Complement = refl
-prefix_start prefix.Not = refl
+prefix_start _ = refl
 
 -- the token that the next operator stands for
 abbrev pub FrontIs : Next → List Token → Type 0
@@ -53,29 +51,19 @@ FrontIs next.Convert toks = toks ≡ Reserved word.As ∷ drop 1 toks
 FrontIs next.Nothing toks = Unit {0}
 
 sign_front : (s : Sign) (rest : List Token) → FrontIs (sign_next s) (Mark s ∷ rest)
-sign_front sign.OrOr rest = refl
-sign_front sign.AndAnd rest = refl
-sign_front sign.Or rest = refl
-sign_front sign.Caret rest = refl
-sign_front sign.And rest = refl
-sign_front sign.EqualEqual rest = refl
-sign_front sign.BangEqual rest = refl
-sign_front sign.Less rest = refl
-sign_front sign.LessEqual rest = refl
-sign_front sign.Greater rest = refl
-sign_front sign.GreaterEqual rest = refl
-sign_front sign.ShiftLeft rest = refl
-sign_front sign.ShiftRight rest = refl
-sign_front sign.Plus rest = refl
-sign_front sign.Minus rest = refl
-sign_front sign.Star rest = refl
-sign_front sign.Slash rest = refl
-sign_front sign.Percent rest = refl
-sign_front sign.Question rest = refl
-sign_front sign.OpenBracket rest = refl
-sign_front sign.Dot rest = refl
-sign_front sign.Hash rest = refl
-sign_front _ rest = tt
+sign_front sign.OpenBrace rest = tt
+sign_front sign.CloseBrace rest = tt
+sign_front sign.OpenParen rest = tt
+sign_front sign.CloseParen rest = tt
+sign_front sign.CloseBracket rest = tt
+sign_front sign.Semicolon rest = tt
+sign_front sign.Comma rest = tt
+sign_front sign.Colon rest = tt
+sign_front sign.At rest = tt
+sign_front sign.Assign rest = tt
+sign_front sign.Tilde rest = tt
+sign_front sign.Bang rest = tt
+sign_front _ rest = refl
 
 pub front_is : (toks : List Token) → FrontIs (next_of toks) toks
 front_is [] = tt
@@ -87,23 +75,7 @@ front_is (_ ∷ rest) = tt
 
 pub infix_next : (op : Infix) → sign_next (infix_sign op) ≡ next.Infix op
 infix_next infix_op.LogicalOr = refl
-infix_next infix_op.LogicalAnd = refl
-infix_next infix_op.BitOr = refl
-infix_next infix_op.BitXor = refl
-infix_next infix_op.BitAnd = refl
-infix_next infix_op.Equal = refl
-infix_next infix_op.NotEqual = refl
-infix_next infix_op.Less = refl
-infix_next infix_op.LessEqual = refl
-infix_next infix_op.Greater = refl
-infix_next infix_op.GreaterEqual = refl
-infix_next infix_op.ShiftLeft = refl
-infix_next infix_op.ShiftRight = refl
-infix_next infix_op.Add = refl
-infix_next infix_op.Subtract = refl
-infix_next infix_op.Multiply = refl
-infix_next infix_op.Divide = refl
-infix_next infix_op.Remainder = refl
+infix_next _ = refl
 
 -- an operator between two operands stands above the choice and below the conversion
 pub record Middle (n : ℕ) : Type 0 where
@@ -115,23 +87,7 @@ middle n least most = record { least = least; most = most }
 
 pub level_middle : (op : Infix) → Middle (level op)
 level_middle infix_op.LogicalOr = middle 2 (omega arith) (omega arith)
-level_middle infix_op.LogicalAnd = middle 3 (omega arith) (omega arith)
-level_middle infix_op.BitOr = middle 4 (omega arith) (omega arith)
-level_middle infix_op.BitXor = middle 5 (omega arith) (omega arith)
-level_middle infix_op.BitAnd = middle 6 (omega arith) (omega arith)
-level_middle infix_op.Equal = middle 7 (omega arith) (omega arith)
-level_middle infix_op.NotEqual = middle 7 (omega arith) (omega arith)
-level_middle infix_op.Less = middle 8 (omega arith) (omega arith)
-level_middle infix_op.LessEqual = middle 8 (omega arith) (omega arith)
-level_middle infix_op.Greater = middle 8 (omega arith) (omega arith)
-level_middle infix_op.GreaterEqual = middle 8 (omega arith) (omega arith)
-level_middle infix_op.ShiftLeft = middle 9 (omega arith) (omega arith)
-level_middle infix_op.ShiftRight = middle 9 (omega arith) (omega arith)
-level_middle infix_op.Add = middle 10 (omega arith) (omega arith)
-level_middle infix_op.Subtract = middle 10 (omega arith) (omega arith)
-level_middle infix_op.Multiply = middle 11 (omega arith) (omega arith)
-level_middle infix_op.Divide = middle 11 (omega arith) (omega arith)
-level_middle infix_op.Remainder = middle 11 (omega arith) (omega arith)
+level_middle _ = middle _ (omega arith) (omega arith)
 
 -- how the level of what an operator makes and that of its left operand lie
 pub record Fair (own left : ℕ) : Type 0 where
@@ -168,15 +124,7 @@ level_pos _ = omega arith
 
 pub depth_pos : (t : Tree) → 1 ≤ depth t
 depth_pos (Literal n) = omega arith
-depth_pos (tree.Character b) = omega arith
-depth_pos (tree.Text bytes) = omega arith
-depth_pos (Name n) = omega arith
-depth_pos (Bracket e) = omega arith
-depth_pos (Before op e) = omega arith
-depth_pos (Between op a b) = omega arith
-depth_pos (Choice c x y) = omega arith
-depth_pos (Index e i) = omega arith
-depth_pos (After e s) = omega arith
+depth_pos _ = omega arith
 
 -- what stands at the right end of a tree doesn't take this operator
 abbrev pub Closed : Tree → Next → Type 0
