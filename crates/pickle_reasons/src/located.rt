@@ -3,7 +3,7 @@
 use pickle_source::anatomy::{FieldParts, base, bound, field_at, field_parts, opening_brace};
 use pickle_source::script::{Part, Script};
 use pickle_syntax::tree::{Clauses, Expression, Field, Form};
-use pickle_types::refused::{RefusedPart, Site, Step};
+use pickle_types::refused::{RefusedPart, Site, TypeStep};
 
 /// A type with its tokens, and the innermost field that it is in.
 #[derive(Clone, Copy)]
@@ -41,15 +41,15 @@ impl<'p, 't> Located<'p, 't> {
         Some(located)
     }
 
-    fn part(self, script: &Script<'_>, step: Step) -> Option<Located<'p, 't>> {
+    fn part(self, script: &Script<'_>, step: TypeStep) -> Option<Located<'p, 't>> {
         match (step, self.form) {
-            (Step::Element, Form::Array(element, _)) => Some(Located {
+            (TypeStep::Element, Form::Array(element, _)) => Some(Located {
                 form: element,
                 tokens: base(script, self.tokens),
                 field: self.field,
             }),
             (
-                Step::Field(place),
+                TypeStep::Field(place),
                 Form::Struct(_, fields) | Form::Integral(_, fields) | Form::Union(fields),
             ) => self.field_at(script, fields.get(place)?, place),
             _ => None,

@@ -13,8 +13,8 @@ use Rattle.pickle_types.specs.declared.fault.FaultKind.{FaultKind}
 use Rattle.pickle_types.specs.declared.fault.FaultKind.TheVariants.{Memory, IntegralWidths, NotHere}
 use Rattle.pickle_types.specs.declared.node.Node.{Node}
 use Rattle.pickle_types.specs.declared.node.Field.{Field}
-use Rattle.pickle_types.specs.declared.check.places.Place.{Place}
-use Rattle.pickle_types.specs.declared.check.places.Place.TheVariants as place
+use Rattle.pickle_types.specs.declared.check.enclosing.Enclosing.{Enclosing}
+use Rattle.pickle_types.specs.declared.check.enclosing.Enclosing.TheVariants as enclosing
 use Rattle.pickle_types.specs.declared.check.builder.Builder.{Builder}
 use Rattle.pickle_types.specs.declared.check.builder.Found.{Found}
 use Rattle.pickle_types.specs.declared.scopes.Seen.{Seen}
@@ -95,14 +95,14 @@ module _ (names : Names) (seen : List Visible) (levels : ℕ) (title : Option (L
 
   pub meaning_integral : (room : ℕ) (r : TreeReference) (fields : FieldTrees) → 0 < room →
       meaning names seen levels title room (IntegralForm r fields) ≡ (integer_referred names r >>= λ t.
-      fields_meaning names place.Integral seen levels (room - 1) [] fields >>= integral_type title t)
+      fields_meaning names enclosing.Integral seen levels (room - 1) [] fields >>= integral_type title t)
   unfolding meaning
   meaning_integral zero r forms some = absurd (omega arith)
   meaning_integral (suc room) r forms some = let e : suc room - 1 ≡ room = omega arith in rw e refl
 
   pub meaning_union : (room : ℕ) (alternatives : FieldTrees) → 0 < room →
       meaning names seen levels title room (UnionForm alternatives) ≡ (if_some_alternative alternatives >>= λ u.
-      fields_meaning names place.Union seen levels (room - 1) [] alternatives >>= λ fs.
+      fields_meaning names enclosing.Union seen levels (room - 1) [] alternatives >>= λ fs.
       Ok (UnionOf title (parts_of fs)))
   unfolding meaning
   meaning_union zero alternatives some = absurd (omega arith)
@@ -218,7 +218,7 @@ front_none at (Ok fs) = refl
 front_none at (Err e) = refl
 
 -- one more field that is built
-pub so_far_more : (a b c : Builder) (fields : List Field) (field : Field) (deepest deepness : ℕ) (here : Place)
+pub so_far_more : (a b c : Builder) (fields : List Field) (field : Field) (deepest deepness : ℕ) (here : Enclosing)
     (levels index : ℕ) (parts : FieldParts) (f : FieldMeaning) (whole rest rest' : Result Fields FaultKind) →
     FieldsSoFar a b fields deepest whole rest → IsFieldBuilt b c here levels index parts field f →
     deepness ≡ depth f.type → rest ≡ (rest' >>= λ fs. Ok (field_then parts f fs)) →
@@ -246,7 +246,7 @@ so_far_more a b c fields field deepest deepness here levels index parts f whole 
     }
 
 -- the first of some fields, and the rest
-pub fields_step : (names : Names) (here : Place) (seen : List Visible) (levels room : ℕ)
+pub fields_step : (names : Names) (here : Enclosing) (seen : List Visible) (levels room : ℕ)
     (before : List (Option (List ℕ))) (f : tree.Field) (fs : List tree.Field) (m : FieldMeaning) →
     field_meaning names here seen levels before (field_tree f).parts
     (meaning names seen (levels + 1) None room (field_tree f).form) ≡ Ok m →
@@ -257,7 +257,7 @@ pub fields_step : (names : Names) (here : Place) (seen : List Visible) (levels r
 unfolding fields_meaning
 fields_step names here seen levels room before f fs m h = rw h refl
 
-pub fields_stop : (names : Names) (here : Place) (seen : List Visible) (levels room : ℕ)
+pub fields_stop : (names : Names) (here : Enclosing) (seen : List Visible) (levels room : ℕ)
     (before : List (Option (List ℕ))) (f : tree.Field) (fs : List tree.Field) (e : FaultKind) →
     Fails e (field_meaning names here seen levels before (field_tree f).parts
     (meaning names seen (levels + 1) None room (field_tree f).form)) →
@@ -274,42 +274,43 @@ names_more [] f = refl
 names_more (g ∷ fs) f = rw (names_more fs f) refl
 
 -- one more visible field
-pub itself_seen : (nodes : List Node) (seen : List Seen) (s : Seen) (here : Place) (index : ℕ) (parts : FieldParts) →
+pub itself_seen : (nodes : List Node) (seen : List Seen) (s : Seen) (here : Enclosing) (index : ℕ)
+    (parts : FieldParts) →
     bytes_now s.name ≡ parts.name → s.place ≡ place_in here index →
     views_of nodes (seen ++ s ∷ []) ≡ with_itself here (views_of nodes seen) s.level index parts (type_of nodes s.node)
 itself_seen nodes seen s here index parts en ep = map_push (view_of nodes) seen s ∙ rw (en, ep) refl
 
-after_views : (nodes : List Node) (seen : List Seen) (s : Seen) (here : Place) (more : List Visible) →
+after_views : (nodes : List Node) (seen : List Seen) (s : Seen) (here : Enclosing) (more : List Visible) →
     views_of nodes (seen ++ s ∷ []) ≡ more →
     views_of nodes (after_itself here seen s) ≡ after_field here (views_of nodes seen) more
-after_views nodes seen s place.Struct more e = e
-after_views nodes seen s place.Pinned more e = e
-after_views nodes seen s place.Integral more e = e
-after_views nodes seen s place.Union more e = refl
+after_views nodes seen s enclosing.Struct more e = e
+after_views nodes seen s enclosing.Pinned more e = e
+after_views nodes seen s enclosing.Integral more e = e
+after_views nodes seen s enclosing.Union more e = refl
 
 push_kept : (seen : List Seen) (s : Seen) → take (length seen) (seen ++ s ∷ []) ≡ seen
 push_kept seen s = take-append-le (length seen) seen (s ∷ []) (omega arith) ∙ take_all _ _ (omega arith)
 
-after_kept : (seen : List Seen) (s : Seen) (here : Place) → take (length seen) (after_itself here seen s) ≡ seen
-after_kept seen s place.Struct = push_kept seen s
-after_kept seen s place.Pinned = push_kept seen s
-after_kept seen s place.Integral = push_kept seen s
-after_kept seen s place.Union = take_all _ _ (omega arith)
+after_kept : (seen : List Seen) (s : Seen) (here : Enclosing) → take (length seen) (after_itself here seen s) ≡ seen
+after_kept seen s enclosing.Struct = push_kept seen s
+after_kept seen s enclosing.Pinned = push_kept seen s
+after_kept seen s enclosing.Integral = push_kept seen s
+after_kept seen s enclosing.Union = take_all _ _ (omega arith)
 
 push_below : (n levels : ℕ) (seen : List Seen) (s : Seen) → AreBelow n levels seen → IsInLevel n levels s →
     AreBelow n levels (seen ++ s ∷ [])
 push_below n levels seen s below h =
     All-append (IsInLevel n levels) seen (s ∷ []) below (λ k d lt. let e : k ≡ 0 = omega arith in rw e h)
 
-after_below : (n levels : ℕ) (seen : List Seen) (s : Seen) (here : Place) → AreBelow n levels seen →
+after_below : (n levels : ℕ) (seen : List Seen) (s : Seen) (here : Enclosing) → AreBelow n levels seen →
     IsInLevel n levels s → AreBelow n levels (after_itself here seen s)
-after_below n levels seen s place.Struct below h = push_below n levels seen s below h
-after_below n levels seen s place.Pinned below h = push_below n levels seen s below h
-after_below n levels seen s place.Integral below h = push_below n levels seen s below h
-after_below n levels seen s place.Union below h = below
+after_below n levels seen s enclosing.Struct below h = push_below n levels seen s below h
+after_below n levels seen s enclosing.Pinned below h = push_below n levels seen s below h
+after_below n levels seen s enclosing.Integral below h = push_below n levels seen s below h
+after_below n levels seen s enclosing.Union below h = below
 
 -- a field that is built on a table that stays the same
-pub field_built : (old new : Builder) (s : Seen) (here : Place) (index : ℕ) (parts : FieldParts) (field : Field) →
+pub field_built : (old new : Builder) (s : Seen) (here : Enclosing) (index : ℕ) (parts : FieldParts) (field : Field) →
     IsTable old.nodes → AreNamed old.nodes old.names → AreBelow (length old.nodes) (s.level + 1) old.seen →
     s.node < length old.nodes →
     new.names ≡ old.names → new.nodes ≡ old.nodes → new.seen ≡ after_itself here old.seen s →
@@ -342,7 +343,7 @@ field_built old new s here index parts field table named below inside names node
           (after_views old.nodes old.seen s here _ (itself_seen old.nodes old.seen s here index parts en ep));
     }
 
-pub field_meaning_is : (names : Names) (here : Place) (seen : List Visible) (levels : ℕ)
+pub field_meaning_is : (names : Names) (here : Enclosing) (seen : List Visible) (levels : ℕ)
     (before : List (Option (List ℕ))) (parts : FieldParts) (t : PokeType) (l d c : Option Term) →
     if_here (may_stand here (has_some (bit_width t)) parts) ≡ Ok tt → fresh parts.name before ≡ Ok tt →
     offset_expression names seen (levels + 1) parts.label ≡ Ok l →
@@ -354,7 +355,7 @@ pub field_meaning_is : (names : Names) (here : Place) (seen : List Visible) (lev
 field_meaning_is names here seen levels before parts t l d c stands new label condition constraint =
     rw (stands, new, label, condition, constraint) refl
 
-pub field_meaning_fails : (names : Names) (here : Place) (seen : List Visible) (levels : ℕ)
+pub field_meaning_fails : (names : Names) (here : Enclosing) (seen : List Visible) (levels : ℕ)
     (before : List (Option (List ℕ))) (parts : FieldParts) (t : PokeType) (l d : Option Term) (e : FaultKind) →
     if_here (may_stand here (has_some (bit_width t)) parts) ≡ Ok tt → fresh parts.name before ≡ Ok tt →
     offset_expression names seen (levels + 1) parts.label ≡ Ok l →
@@ -398,7 +399,7 @@ so_far_none b fields whole table named none = rw none (record {
   deep = refl;
 })
 
-pub fields_next : (names : Names) (here : Place) (seen seen' : List Visible) (levels room : ℕ) (fields : List Field)
+pub fields_next : (names : Names) (here : Enclosing) (seen seen' : List Visible) (levels room : ℕ) (fields : List Field)
     (field : Field) (f : tree.Field) (fs : List tree.Field) (m : FieldMeaning) →
     field_meaning names here seen levels (names_in fields) (field_tree f).parts
     (meaning names seen (levels + 1) None room (field_tree f).form) ≡ Ok m →
@@ -422,7 +423,7 @@ no_alternative [] e = refl
 no_alternative (f ∷ fs) e = absurd (omega arith)
 
 -- a field that is built on a table that had grown
-pub field_on : (a b c : Builder) (here : Place) (levels index : ℕ) (parts : FieldParts) (field : Field)
+pub field_on : (a b c : Builder) (here : Enclosing) (levels index : ℕ) (parts : FieldParts) (field : Field)
     (f : FieldMeaning) → Keeps a b → b.seen ≡ a.seen → visible_in b ≡ visible_in a →
     IsFieldBuilt b c here levels index parts field f → IsFieldBuilt a c here levels index parts field f
 field_on a b c here levels index parts field f g s v h = record {
@@ -436,7 +437,7 @@ field_on a b c here levels index parts field f g s v h = record {
   seen = h.seen ∙ ap (λ w. after_field here w (with_itself here w levels index parts f.type)) v;
 }
 
-pub fields_end : (names : Names) (here : Place) (seen : List Visible) (levels room : ℕ)
+pub fields_end : (names : Names) (here : Enclosing) (seen : List Visible) (levels room : ℕ)
     (before : List (Option (List ℕ))) (fs : List tree.Field) →
     fs ≡ [] → fields_meaning names here seen levels room before (fields_tree fs) ≡ Ok NoFields
 unfolding fields_meaning

@@ -10,8 +10,8 @@ use Rattle.pickle_types.specs.declared.fault.FaultKind.{FaultKind}
 use Rattle.pickle_types.specs.declared.fault.FaultKind.TheVariants.{UnknownType, Mismatch, IntegralWidths, TooDeep}
 use Rattle.pickle_types.specs.declared.check.operators.Scalar.{Scalar}
 use Rattle.pickle_types.specs.declared.check.operators.Scalar.TheVariants.{Integer, Offset}
-use Rattle.pickle_types.specs.declared.check.places.Place.{Place}
-use Rattle.pickle_types.specs.declared.check.places.Place.TheVariants as place
+use Rattle.pickle_types.specs.declared.check.enclosing.Enclosing.{Enclosing}
+use Rattle.pickle_types.specs.declared.check.enclosing.Enclosing.TheVariants as enclosing
 use Rattle.pickle_types.specs.Types.{Term, Bound, PokeType, IntegerOf, OffsetOf, StringOf, ArrayOf, StructOf, IntegralOf, UnionOf, Fields, NoFields, FieldThen, depth, fields_depth, parts_depth}
 use Rattle.pickle_types.specs.Scopes.{Visible}
 use Rattle.pickle_types.specs.Names.{Names, find_type}
@@ -123,18 +123,18 @@ named_is : (o : Option (List ℕ)) → has_some o ≡ true → (word : List ℕ)
 named_is None h = cc
 named_is (Some word) h = (word, refl)
 
-stand_sound : (here : Place) (t : PokeType) (parts : FieldParts) →
+stand_sound : (here : Enclosing) (t : PokeType) (parts : FieldParts) →
     may_stand here (has_some (bit_width t)) parts ≡ true → MayStand here t parts
-stand_sound place.Struct t parts h = MayStand.in_struct (prefixed_sound parts.order t h)
-stand_sound place.Pinned t parts h =
+stand_sound enclosing.Struct t parts h = MayStand.in_struct (prefixed_sound parts.order t h)
+stand_sound enclosing.Pinned t parts h =
     let p = and_parts _ _ h in MayStand.in_pinned (prefixed_sound parts.order t p.0) (none_is parts.label p.1)
-stand_sound place.Integral t parts h =
+stand_sound enclosing.Integral t parts h =
     let p = and_parts _ _ h in
     let q = and_parts _ _ p.0 in
     let r = and_parts _ _ q.0 in
     MayStand.in_integral (width_sound t r.0) (none_is parts.order r.1) (none_is parts.label q.1)
     (none_is parts.condition p.1)
-stand_sound place.Union t parts h =
+stand_sound enclosing.Union t parts h =
     let p = and_parts _ _ h in
     let q = and_parts _ _ p.0 in
     let r = and_parts _ _ q.0 in
@@ -142,7 +142,7 @@ stand_sound place.Union t parts h =
     MayStand.in_union name.0 (prefixed_sound parts.order t r.0) name.1 (none_is parts.label q.1)
     (none_is parts.condition p.1)
 
-stand_whole : (here : Place) (t : PokeType) (parts : FieldParts) → MayStand here t parts →
+stand_whole : (here : Enclosing) (t : PokeType) (parts : FieldParts) → MayStand here t parts →
     may_stand here (has_some (bit_width t)) parts ≡ true
 stand_whole _ t parts (MayStand.in_struct h) = prefixed_whole parts.order t h
 stand_whole _ t parts (MayStand.in_pinned h l) = rw (prefixed_whole parts.order t h, l) refl
@@ -159,12 +159,12 @@ record Sound (names : Names) (seen : List Visible) (levels : ℕ) (title : Optio
   means : Means names seen levels title f t
   low : depth t ≤ room
 
-record FieldsSound (names : Names) (here : Place) (seen : List Visible) (levels room : ℕ)
+record FieldsSound (names : Names) (here : Enclosing) (seen : List Visible) (levels room : ℕ)
     (before : List (Option (List ℕ))) (f : FieldTrees) (fs : Fields) : Type 0 where
   means : FieldsMean names here seen levels before f fs
   low : fields_depth fs ≤ room
 
-record FieldSound (names : Names) (here : Place) (seen : List Visible) (levels room : ℕ)
+record FieldSound (names : Names) (here : Enclosing) (seen : List Visible) (levels room : ℕ)
     (before : List (Option (List ℕ))) (form : FormTree) (parts : FieldParts) (f : FieldMeaning) : Type 0 where
   means : Means names seen (levels + 1) None form f.type
   low : depth f.type ≤ room
@@ -235,7 +235,8 @@ integral_sound : (title : Option (List ℕ)) (t : IntegerType) (fs : Fields) →
     IfOk (integral_type title t fs) (λ u. (u ≡ IntegralOf title t (parts_of fs)) × (total_width fs ≡ t.width))
 integral_sound title t fs = widths_sound title t fs _ refl
 
-field_sound : (names : Names) (here : Place) (seen : List Visible) (levels room : ℕ) (before : List (Option (List ℕ)))
+field_sound : (names : Names) (here : Enclosing) (seen : List Visible) (levels room : ℕ)
+    (before : List (Option (List ℕ)))
     (form : FormTree) (parts : FieldParts) (r : Result PokeType FaultKind) →
     IfOk r (Sound names seen (levels + 1) None room form) → IfOk (field_meaning names here seen levels before parts r)
     (FieldSound names here seen levels room before form parts)
@@ -297,9 +298,9 @@ module _ (names : Names) where
     meaning_sound (IntegralForm r forms) seen levels title (suc room) =
         bind_if (λ t. Refers names r (IntegerOf t)) _ (integer_referred names r) _
         (integer_referred_sound names r) (λ t g.
-        bind_if (FieldsSound names place.Integral seen levels room [] forms) _
-        (fields_meaning names place.Integral seen levels room [] forms) _
-        (fields_sound forms place.Integral seen levels room []) (λ fs h.
+        bind_if (FieldsSound names enclosing.Integral seen levels room [] forms) _
+        (fields_meaning names enclosing.Integral seen levels room [] forms) _
+        (fields_sound forms enclosing.Integral seen levels room []) (λ fs h.
         let low = h.low in
         let same = parts_depth_is fs in
         if_weaker (λ u. (u ≡ IntegralOf title t (parts_of fs)) × (total_width fs ≡ t.width))
@@ -308,14 +309,14 @@ module _ (names : Names) where
         (integral_sound title t fs)))
     meaning_sound (UnionForm tree.NoFields) seen levels title (suc room) = tt
     meaning_sound (UnionForm (tree.FieldThen form parts rest)) seen levels title (suc room) =
-        bind_if (FieldsSound names place.Union seen levels room [] (tree.FieldThen form parts rest)) _
-        (fields_meaning names place.Union seen levels room [] (tree.FieldThen form parts rest)) _
-        (fields_sound (tree.FieldThen form parts rest) place.Union seen levels room []) (λ fs h.
+        bind_if (FieldsSound names enclosing.Union seen levels room [] (tree.FieldThen form parts rest)) _
+        (fields_meaning names enclosing.Union seen levels room [] (tree.FieldThen form parts rest)) _
+        (fields_sound (tree.FieldThen form parts rest) enclosing.Union seen levels room []) (λ fs h.
         let low = h.low in
         let same = parts_depth_is fs in
         record { means = Means.union h.means; low = omega arith })
 
-    fields_sound : (f : FieldTrees) (here : Place) (seen : List Visible) (levels room : ℕ)
+    fields_sound : (f : FieldTrees) (here : Enclosing) (seen : List Visible) (levels room : ℕ)
         (before : List (Option (List ℕ))) →
         IfOk (fields_meaning names here seen levels room before f) (FieldsSound names here seen levels room before f)
     fields_sound tree.NoFields here seen levels room before = record { means = FieldsMean.done; low = omega arith }
@@ -363,7 +364,7 @@ module _ (names : Names) where
         let same = parts_depth_is fs in
         rw (fields_whole _ _ _ _ _ room _ h (omega arith)) refl
 
-    fields_whole : (f : FieldTrees) (fs : Fields) (here : Place) (seen : List Visible) (levels room : ℕ)
+    fields_whole : (f : FieldTrees) (fs : Fields) (here : Enclosing) (seen : List Visible) (levels room : ℕ)
         (before : List (Option (List ℕ))) → FieldsMean names here seen levels before f fs → fields_depth fs ≤ room →
         fields_meaning names here seen levels room before f ≡ Ok fs
     fields_whole _ _ _ _ _ room _ FieldsMean.done low = refl

@@ -6,8 +6,8 @@ use Rattle.pickle_types.specs.declared.integer.IntegerType.{IntegerType}
 use Rattle.pickle_types.specs.declared.fault.FaultKind.{FaultKind}
 use Rattle.pickle_types.specs.declared.node.Field.{Field}
 use Rattle.pickle_types.specs.declared.scopes.Seen.{Seen}
-use Rattle.pickle_types.specs.declared.check.places.Place.{Place}
-use Rattle.pickle_types.specs.declared.check.places.Place.TheVariants as place
+use Rattle.pickle_types.specs.declared.check.enclosing.Enclosing.{Enclosing}
+use Rattle.pickle_types.specs.declared.check.enclosing.Enclosing.TheVariants as enclosing
 use Rattle.pickle_types.specs.declared.check.field_list.FieldList.{FieldList}
 use Rattle.pickle_types.specs.declared.check.builder.Builder.{Builder}
 use Rattle.pickle_types.specs.declared.check.builder.Found.{Found}
@@ -28,11 +28,11 @@ abbrev pub visible_in : Builder → List Visible
 visible_in b = views_of b.nodes b.seen
 
 -- what comes after a field sees the field too, except in a union
-abbrev pub after_itself : Place → List Seen → Seen → List Seen
-after_itself place.Struct seen itself = seen ++ itself ∷ []
-after_itself place.Pinned seen itself = seen ++ itself ∷ []
-after_itself place.Integral seen itself = seen ++ itself ∷ []
-after_itself place.Union seen itself = seen
+abbrev pub after_itself : Enclosing → List Seen → Seen → List Seen
+after_itself enclosing.Struct seen itself = seen ++ itself ∷ []
+after_itself enclosing.Pinned seen itself = seen ++ itself ∷ []
+after_itself enclosing.Integral seen itself = seen ++ itself ∷ []
+after_itself enclosing.Union seen itself = seen
 
 -- the table has capacity for `count` more nodes
 abbrev pub HasRoom : Builder → ℕ → Type 0
@@ -64,7 +64,7 @@ Builds old new (Ok found) given = (t : PokeType) × (given ≡ Ok t) × IsBuilt 
 Builds old new (Err e) given = Fails e given
 
 -- one field is built, after others; what comes after it sees it, except in a union
-pub record IsFieldBuilt (old new : Builder) (place : Place) (levels index : ℕ) (parts : FieldParts) (field : Field)
+pub record IsFieldBuilt (old new : Builder) (place : Enclosing) (levels index : ℕ) (parts : FieldParts) (field : Field)
     (f : FieldMeaning) : Type 0 where
   pub keeps : Keeps old new
   pub inside : field.node < length new.nodes
@@ -76,14 +76,14 @@ pub record IsFieldBuilt (old new : Builder) (place : Place) (levels index : ℕ)
   pub seen : visible_in new
       ≡ after_field place (visible_in old) (with_itself place (visible_in old) levels index parts f.type)
 
-abbrev pub FieldGives : Builder → Builder → Place → ℕ → ℕ → FieldParts → Result Field FaultKind →
+abbrev pub FieldGives : Builder → Builder → Enclosing → ℕ → ℕ → FieldParts → Result Field FaultKind →
     Result FieldMeaning FaultKind → Type 0
 FieldGives old new place levels index parts (Ok field) given =
     (f : FieldMeaning) × (given ≡ Ok f) × IsFieldBuilt old new place levels index parts field f
 FieldGives old new place levels index parts (Err e) given = Fails e given
 
 -- a field and the depth of its type
-abbrev pub FieldBuilds : Builder → Builder → Place → ℕ → ℕ → FieldParts → Result (Field × ℕ) FaultKind →
+abbrev pub FieldBuilds : Builder → Builder → Enclosing → ℕ → ℕ → FieldParts → Result (Field × ℕ) FaultKind →
     Result FieldMeaning FaultKind → Type 0
 FieldBuilds old new place levels index parts (Ok x) given =
     (f : FieldMeaning) × (given ≡ Ok f) × IsFieldBuilt old new place levels index parts x.0 f × (x.1 ≡ depth f.type)

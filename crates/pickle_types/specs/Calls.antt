@@ -7,7 +7,7 @@ use Rattle.pickle_types.specs.declared.node.Node.{Node}
 use Rattle.pickle_types.specs.declared.node.Part.{Part}
 use Rattle.pickle_types.specs.declared.node.Shape.{Shape}
 use Rattle.pickle_types.specs.declared.scopes.Seen.{Seen}
-use Rattle.pickle_types.specs.declared.check.places.Place.{Place}
+use Rattle.pickle_types.specs.declared.check.enclosing.Enclosing.{Enclosing}
 use Rattle.pickle_types.specs.declared.check.field_list.FieldList.{FieldList}
 use Rattle.pickle_types.specs.declared.check.expressions.Context.{Context}
 use Rattle.pickle_types.specs.declared.check.builder.Builder.{Builder}
@@ -63,21 +63,21 @@ module _ (old new : Builder) where
       Builds old new result (meaning (known_types old) (visible_in old) levels (bytes_now title.name) room form)
 
   -- a field with these parts, after others, of a type that is built
-  abbrev pub AddsField : Place → (levels : ℕ) → (before : List Field) → FieldParts → PokeType →
+  abbrev pub AddsField : Enclosing → (levels : ℕ) → (before : List Field) → FieldParts → PokeType →
       Result Field FaultKind → Type 0
   AddsField place levels before parts type result =
       FieldGives old new place levels (length before) parts result
       (field_meaning (known_types old) place (visible_in old) levels (names_in before) parts (Ok type))
 
   -- a field, after others, whose type is no deeper than `room`
-  abbrev pub BuildsField : Place → (levels room : ℕ) → (before : List Field) → FieldTree →
+  abbrev pub BuildsField : Enclosing → (levels room : ℕ) → (before : List Field) → FieldTree →
       Result (Field × ℕ) FaultKind → Type 0
   BuildsField place levels room before f result =
       FieldBuilds old new place levels (length before) f.parts result
       (field_meaning (known_types old) place (visible_in old) levels (names_in before) f.parts
       (meaning (known_types old) (visible_in old) (levels + 1) None room f.form))
 
-  abbrev pub BuildsFields : Place → (levels room : ℕ) → FieldTrees → Result (FieldList × ℕ) FaultKind → Type 0
+  abbrev pub BuildsFields : Enclosing → (levels room : ℕ) → FieldTrees → Result (FieldList × ℕ) FaultKind → Type 0
   BuildsFields place levels room fields result =
       FieldsBuild old new result (fields_meaning (known_types old) place (visible_in old) levels room [] fields)
 

@@ -8,8 +8,8 @@ use Rattle.pickle_types.specs.declared.fault.FaultKind.{FaultKind}
 use Rattle.pickle_types.specs.declared.fault.FaultKind.TheVariants.{UnknownType, DuplicateType, DuplicateField, Mismatch, IntegralWidths, NotHere, TooDeep}
 use Rattle.pickle_types.specs.declared.check.operators.Scalar.{Scalar}
 use Rattle.pickle_types.specs.declared.check.operators.Scalar.TheVariants.{Integer, Offset}
-use Rattle.pickle_types.specs.declared.check.places.Place.{Place}
-use Rattle.pickle_types.specs.declared.check.places.Place.TheVariants as place
+use Rattle.pickle_types.specs.declared.check.enclosing.Enclosing.{Enclosing}
+use Rattle.pickle_types.specs.declared.check.enclosing.Enclosing.TheVariants as enclosing
 use Rattle.pickle_types.specs.Types.{Term, Bound, Unbounded, ByCount, BySize, PokeType, IntegerOf, OffsetOf, StringOf, ArrayOf, StructOf, IntegralOf, UnionOf, Fields, NoFields, FieldThen, Parts, NoParts, PartThen, depth}
 use Rattle.pickle_types.specs.Scopes.{Visible, is_named, sees}
 use Rattle.pickle_types.specs.Names.{Names, find_type}
@@ -99,11 +99,12 @@ has_none None = true
 has_none (Some x) = false
 
 -- whether a place allows a field with these parts, whose type has a width in bits or not
-abbrev pub may_stand : Place → Bool → FieldParts → Bool
-may_stand place.Struct bits parts = has_none parts.order || bits
-may_stand place.Pinned bits parts = (has_none parts.order || bits) && has_none parts.label
-may_stand place.Integral bits parts = bits && has_none parts.order && has_none parts.label && has_none parts.condition
-may_stand place.Union bits parts =
+abbrev pub may_stand : Enclosing → Bool → FieldParts → Bool
+may_stand enclosing.Struct bits parts = has_none parts.order || bits
+may_stand enclosing.Pinned bits parts = (has_none parts.order || bits) && has_none parts.label
+may_stand enclosing.Integral bits parts =
+    bits && has_none parts.order && has_none parts.label && has_none parts.condition
+may_stand enclosing.Union bits parts =
     (has_none parts.order || bits) && has_some parts.name && has_none parts.label && has_none parts.condition
 
 abbrev pub if_here : Bool → Result (Unit {0}) FaultKind
@@ -111,21 +112,21 @@ if_here true = Ok tt
 if_here false = Err NotHere
 
 -- what comes after a field sees the field too, except in a union
-abbrev pub after_field : Place → List Visible → List Visible → List Visible
-after_field place.Struct before after = after
-after_field place.Pinned before after = after
-after_field place.Integral before after = after
-after_field place.Union before after = before
+abbrev pub after_field : Enclosing → List Visible → List Visible → List Visible
+after_field enclosing.Struct before after = after
+after_field enclosing.Pinned before after = after
+after_field enclosing.Integral before after = after
+after_field enclosing.Union before after = before
 
 -- the place of a field in its frame; an alternative is alone in its frame
-abbrev pub place_in : Place → ℕ → ℕ
-place_in place.Struct n = n
-place_in place.Pinned n = n
-place_in place.Integral n = n
-place_in place.Union n = 0
+abbrev pub place_in : Enclosing → ℕ → ℕ
+place_in enclosing.Struct n = n
+place_in enclosing.Pinned n = n
+place_in enclosing.Integral n = n
+place_in enclosing.Union n = 0
 
 -- what a field's constraint sees: also the field itself
-abbrev pub with_itself : Place → List Visible → ℕ → ℕ → FieldParts → PokeType → List Visible
+abbrev pub with_itself : Enclosing → List Visible → ℕ → ℕ → FieldParts → PokeType → List Visible
 with_itself place seen levels n parts t = sees seen levels (place_in place n) parts.name t
 
 -- a field: its type, and what its parts mean
@@ -136,7 +137,7 @@ pub record FieldMeaning : Type 0 where
   pub condition : Option Term
 
 -- a field of a type, after fields of these names
-abbrev pub field_meaning : Names → Place → List Visible → ℕ → List (Option (List ℕ)) → FieldParts →
+abbrev pub field_meaning : Names → Enclosing → List Visible → ℕ → List (Option (List ℕ)) → FieldParts →
     Result PokeType FaultKind → Result FieldMeaning FaultKind
 field_meaning names place seen levels before parts type = do
   t ← type
@@ -173,9 +174,9 @@ abbrev pub if_some_alternative : FieldTrees → Result (Unit {0}) FaultKind
 if_some_alternative tree.NoFields = Err NotHere
 if_some_alternative (tree.FieldThen form parts rest) = Ok tt
 
-abbrev pub struct_place : Bool → Place
-struct_place true = place.Pinned
-struct_place false = place.Struct
+abbrev pub struct_place : Bool → Enclosing
+struct_place true = enclosing.Pinned
+struct_place false = enclosing.Struct
 
 abbrev pub offset_type : Names → TreeReference → PokeUnit → Result PokeType FaultKind
 offset_type names r u = offset_referred names r u >>= λ s. Ok (scalar_type s)
@@ -194,13 +195,13 @@ unfoldable mutual
       fields_meaning names (struct_place pinned) seen levels room [] fields >>= λ fs. Ok (StructOf title pinned fs)
   meaning names seen levels title (suc room) (IntegralForm r fields) =
       integer_referred names r >>= λ t.
-      fields_meaning names place.Integral seen levels room [] fields >>= integral_type title t
+      fields_meaning names enclosing.Integral seen levels room [] fields >>= integral_type title t
   meaning names seen levels title (suc room) (UnionForm alternatives) =
       if_some_alternative alternatives >>= λ u.
-      fields_meaning names place.Union seen levels room [] alternatives >>= λ fs. Ok (UnionOf title (parts_of fs))
+      fields_meaning names enclosing.Union seen levels room [] alternatives >>= λ fs. Ok (UnionOf title (parts_of fs))
 
   -- fields, after fields of these names
-  pub fields_meaning : Names → Place → List Visible → ℕ → ℕ → List (Option (List ℕ)) → FieldTrees →
+  pub fields_meaning : Names → Enclosing → List Visible → ℕ → ℕ → List (Option (List ℕ)) → FieldTrees →
       Result Fields FaultKind
   fields_meaning names place seen levels room before tree.NoFields = Ok NoFields
   fields_meaning names place seen levels room before (tree.FieldThen form parts rest) =

@@ -13,8 +13,8 @@ use Rattle.pickle_tree.specs.declared.tree.Unit.TheVariants as unit
 use Rattle.pickle_tree.specs.Tree.{Tree, TreeReference, Int, Uint, Called, TreeTarget, ToReference, FieldParts, FormTree, Plain, StringForm, OffsetForm, ArrayForm, StructForm, IntegralForm, UnionForm, FieldTrees, DeclarationTree}
 use Rattle.pickle_tree.specs.Tree as tree
 use Rattle.pickle_types.specs.declared.integer.IntegerType.{IntegerType}
-use Rattle.pickle_types.specs.declared.check.places.Place.{Place}
-use Rattle.pickle_types.specs.declared.check.places.Place.TheVariants as place
+use Rattle.pickle_types.specs.declared.check.enclosing.Enclosing.{Enclosing}
+use Rattle.pickle_types.specs.declared.check.enclosing.Enclosing.TheVariants as enclosing
 use Rattle.pickle_types.specs.Types.{Term, Bound, Unbounded, ByCount, BySize, PokeType, IntegerOf, OffsetOf, StringOf, ArrayOf, StructOf, IntegralOf, UnionOf, Fields, NoFields, FieldThen, Parts, NoParts, PartThen, depth}
 use Rattle.pickle_types.specs.Types as types
 use Rattle.pickle_types.specs.Scopes.{Visible, resolve}
@@ -223,14 +223,14 @@ pub data IsPrefixed : Option ByteOrder → PokeType → Type 0 where
   ordered : {order : ByteOrder} {t : PokeType} → HasWidth t → IsPrefixed (Some order) t
 
 -- the place allows a field with these parts and of this type
-pub data MayStand : Place → PokeType → FieldParts → Type 0 where
-  in_struct : {t : PokeType} {parts : FieldParts} → IsPrefixed parts.order t → MayStand place.Struct t parts
+pub data MayStand : Enclosing → PokeType → FieldParts → Type 0 where
+  in_struct : {t : PokeType} {parts : FieldParts} → IsPrefixed parts.order t → MayStand enclosing.Struct t parts
   in_pinned : {t : PokeType} {parts : FieldParts} → IsPrefixed parts.order t → parts.label ≡ None →
-      MayStand place.Pinned t parts
+      MayStand enclosing.Pinned t parts
   in_integral : {t : PokeType} {parts : FieldParts} → HasWidth t → parts.order ≡ None → parts.label ≡ None →
-      parts.condition ≡ None → MayStand place.Integral t parts
+      parts.condition ≡ None → MayStand enclosing.Integral t parts
   in_union : {t : PokeType} {parts : FieldParts} (word : List ℕ) → IsPrefixed parts.order t → parts.name ≡ Some word →
-      parts.label ≡ None → parts.condition ≡ None → MayStand place.Union t parts
+      parts.label ≡ None → parts.condition ≡ None → MayStand enclosing.Union t parts
 
 mutual
   -- the form with this title means the type, among these names, where these fields are visible and so many frames are
@@ -253,20 +253,20 @@ mutual
         Means names seen levels title (StructForm pinned fields) (StructOf title pinned fs)
     integral : {seen : List Visible} {levels : ℕ} {title : Option (List ℕ)} {r : TreeReference} {fields : FieldTrees}
         {t : IntegerType} {fs : Fields} →
-        Refers names r (IntegerOf t) → FieldsMean names place.Integral seen levels [] fields fs →
+        Refers names r (IntegerOf t) → FieldsMean names enclosing.Integral seen levels [] fields fs →
         total_width fs ≡ t.width →
         Means names seen levels title (IntegralForm r fields) (IntegralOf title t (parts_of fs))
     union : {seen : List Visible} {levels : ℕ} {title : Option (List ℕ)} {form : FormTree} {parts : FieldParts}
         {rest : FieldTrees} {fs : Fields} →
-        FieldsMean names place.Union seen levels [] (tree.FieldThen form parts rest) fs →
+        FieldsMean names enclosing.Union seen levels [] (tree.FieldThen form parts rest) fs →
         Means names seen levels title (UnionForm (tree.FieldThen form parts rest)) (UnionOf title (parts_of fs))
 
   -- fields, after fields of these names
-  pub data FieldsMean (names : Names) : Place → List Visible → ℕ → List (Option (List ℕ)) → FieldTrees →
+  pub data FieldsMean (names : Names) : Enclosing → List Visible → ℕ → List (Option (List ℕ)) → FieldTrees →
       Fields → Type 0 where
-    done : {here : Place} {seen : List Visible} {levels : ℕ} {before : List (Option (List ℕ))} →
+    done : {here : Enclosing} {seen : List Visible} {levels : ℕ} {before : List (Option (List ℕ))} →
         FieldsMean names here seen levels before tree.NoFields NoFields
-    field : {here : Place} {seen : List Visible} {levels : ℕ} {before : List (Option (List ℕ))} {form : FormTree}
+    field : {here : Enclosing} {seen : List Visible} {levels : ℕ} {before : List (Option (List ℕ))} {form : FormTree}
         {parts : FieldParts} {rest : FieldTrees}
         {t : PokeType} {c l d : Option Term} {fs : Fields} →
         Means names seen (levels + 1) None form t → MayStand here t parts → IsFresh parts.name before →

@@ -1,13 +1,13 @@
 //! The type rules.
 
 pub mod builder;
+pub mod enclosing;
 pub mod expressions;
 pub mod field_list;
 pub mod field_names;
 pub mod fields;
 pub mod nodes;
 pub mod operators;
-pub mod places;
 pub mod references;
 pub mod site;
 pub mod sorts;

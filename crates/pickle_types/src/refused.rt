@@ -10,7 +10,7 @@ ghost use Rattle.pickle_types.specs.TypeTable.{IsWellTyped};
 
 use crate::check::builder::Builder;
 pub use crate::check::site::{
-    OperandType, OperandTypes, RefusedExpression, RefusedPart, Site, Step,
+    OperandType, OperandTypes, RefusedExpression, RefusedPart, Site, TypeStep,
 };
 use crate::fault::{FaultKind, TypeFault};
 use crate::name::Name;

@@ -5,7 +5,7 @@ use Rattle.std.proofs.lemmas.Bool.{cases_Bool}
 use Rattle.std.proofs.lemmas.Slice.Eq.{bytes_eq-Decides}
 use Rattle.pickle_tree.specs.Tree.{TreeReference, FieldParts, FormTree, FieldTrees, DeclarationTree}
 use Rattle.pickle_tree.specs.Tree as tree
-use Rattle.pickle_types.specs.declared.check.places.Place.{Place}
+use Rattle.pickle_types.specs.declared.check.enclosing.Enclosing.{Enclosing}
 use Rattle.pickle_types.specs.Types.{PokeType, IntegerOf, OffsetOf, StringOf, ArrayOf, StructOf, IntegralOf, UnionOf, Fields, NoFields, FieldThen, Parts, NoParts, PartThen}
 use Rattle.pickle_types.specs.Scopes.{Visible, is_named}
 use Rattle.pickle_types.specs.Names.{Names, find_type, predeclared}
@@ -134,7 +134,7 @@ module _ (names : Names) where
     | inr miss ↦ miss
   ]
 
-  not_again : {here : Place} {seen : List Visible} {levels : ℕ} {before : List Naming} {trees : FieldTrees}
+  not_again : {here : Enclosing} {seen : List Visible} {levels : ℕ} {before : List Naming} {trees : FieldTrees}
       {fs : Fields} (word : List ℕ)
       → FieldsMean names here seen levels before trees fs → has_name word before ≡ true
       → has_name word (field_names fs) ≡ false
@@ -147,7 +147,7 @@ module _ (names : Names) where
   apart_more None rest h apart = apart
   apart_more (Some word) rest h apart = (h word refl, apart)
 
-  fields_apart : {here : Place} {seen : List Visible} {levels : ℕ} {before : List Naming} {trees : FieldTrees}
+  fields_apart : {here : Enclosing} {seen : List Visible} {levels : ℕ} {before : List Naming} {trees : FieldTrees}
       {fs : Fields} → FieldsMean names here seen levels before trees fs → AreApart (field_names fs)
   fields_apart FieldsMean.done = tt
   fields_apart {before = before} (FieldsMean.field {parts = parts} {fs = fs} is stands fresh label
@@ -157,7 +157,7 @@ module _ (names : Names) where
       not_again word are (subst (λ n. has_name word (before ++ n ∷ []) ≡ true) (sym e) (added_has before word)))
       (fields_apart are)
 
-  fields_words : {here : Place} {seen : List Visible} {levels : ℕ} {before : List Naming} {trees : FieldTrees}
+  fields_words : {here : Enclosing} {seen : List Visible} {levels : ℕ} {before : List Naming} {trees : FieldTrees}
       {fs : Fields} → HaveNames trees → FieldsMean names here seen levels before trees fs → AreWords (field_names fs)
   fields_words named FieldsMean.done = tt
   fields_words named (FieldsMean.field is stands fresh label condition constraint are) =
@@ -202,7 +202,7 @@ module _ (names : Names) (clear : OfEach IsClearType names) where
       parts_types fs (fields_clear _ seen levels [] (tree.FieldThen form parts rest) fs named are),
     )
 
-    fields_clear : (here : Place) (seen : List Visible) (levels : ℕ) (before : List (Option (List ℕ)))
+    fields_clear : (here : Enclosing) (seen : List Visible) (levels : ℕ) (before : List (Option (List ℕ)))
         (trees : FieldTrees) (fs : Fields) →
         HaveNames trees → FieldsMean names here seen levels before trees fs → AreClearFields fs
     fields_clear here seen levels before _ _ named FieldsMean.done = tt

@@ -15,7 +15,7 @@ use Rattle.pickle_tree.specs.Limits.{standard, field_count, IsFormWithin, AreFie
 use Rattle.pickle_syntax.specs.Lexing.{token_list}
 use Rattle.pickle_syntax.specs.Pieces.{AllIn, IsPiece, Piece, pieces, tokens_in}
 use Rattle.pickle_syntax.proofs.LexedLaws.{tokens_are}
-use Rattle.pickle_types.specs.declared.check.places.Place.{Place}
+use Rattle.pickle_types.specs.declared.check.enclosing.Enclosing.{Enclosing}
 use Rattle.pickle_types.specs.Types.{PokeType, IntegerOf, OffsetOf, StringOf, ArrayOf, StructOf, IntegralOf, UnionOf, Fields, NoFields, FieldThen, Parts, NoParts, PartThen}
 use Rattle.pickle_types.specs.Scopes.{Visible}
 use Rattle.pickle_types.specs.Names.{Names, find_type, predeclared}
@@ -244,7 +244,7 @@ module _ (names : Names) (small : OfEach IsSmallType names) where
         let h = fields_small _ seen levels [] (tree.FieldThen form parts rest) fs named within.1 are in
         (parts_names fs h.names, parts_types fs h.types)
 
-    fields_small : (here : Place) (seen : List Visible) (levels : ℕ) (before : List (Option (List ℕ)))
+    fields_small : (here : Enclosing) (seen : List Visible) (levels : ℕ) (before : List (Option (List ℕ)))
         (trees : FieldTrees) (fs : Fields) → HaveNames trees → AreFieldsWithin standard trees →
         FieldsMean names here seen levels before trees fs → AreSmall trees fs
     fields_small here seen levels before _ _ named within FieldsMean.done =

@@ -5,8 +5,8 @@ use Rattle.std.specs.Str.{bytes_eq}
 use Rattle.std.proofs.lemmas.Option.{none-some}
 use Rattle.std.proofs.lemmas.Slice.Eq.{bytes_eq-Decides}
 use Rattle.pickle_tree.specs.Tree.{Tree, TreeReference, Called, FormTree, Plain, FieldTrees, DeclarationTree}
-use Rattle.pickle_types.specs.declared.check.places.Place.{Place}
-use Rattle.pickle_types.specs.declared.check.places.Place.TheVariants as place
+use Rattle.pickle_types.specs.declared.check.enclosing.Enclosing.{Enclosing}
+use Rattle.pickle_types.specs.declared.check.enclosing.Enclosing.TheVariants as enclosing
 use Rattle.pickle_types.specs.Types.{Term, Bound, PokeType, IntegerOf, OffsetOf, StringOf, ArrayOf, StructOf, IntegralOf, UnionOf, Fields, NoFields}
 use Rattle.pickle_types.specs.Scopes.{Visible, sees}
 use Rattle.pickle_types.specs.Names.{Names, predeclared, find_type}
@@ -46,19 +46,19 @@ module _ (declarations : List DeclarationTree) where
       (word : List ℕ) (t : PokeType) → find_type word names ≡ Some t → IsWell declarations t (Plain (Called word)) [] 0
 
   -- fields of a place, after n others
-  abbrev FieldsAt : Place → Fields → FieldTrees → List Visible → (count n : ℕ) → Type 0
-  FieldsAt place.Struct fs forms seen count n = FieldsWell declarations fs forms seen count n
-  FieldsAt place.Pinned fs forms seen count n = FieldsWell declarations fs forms seen count n
-  FieldsAt place.Integral fs forms seen count n = PartsWell declarations (parts_of fs) forms seen count n
-  FieldsAt place.Union fs forms seen count n = AlternativesWell declarations (parts_of fs) forms seen count
+  abbrev FieldsAt : Enclosing → Fields → FieldTrees → List Visible → (count n : ℕ) → Type 0
+  FieldsAt enclosing.Struct fs forms seen count n = FieldsWell declarations fs forms seen count n
+  FieldsAt enclosing.Pinned fs forms seen count n = FieldsWell declarations fs forms seen count n
+  FieldsAt enclosing.Integral fs forms seen count n = PartsWell declarations (parts_of fs) forms seen count n
+  FieldsAt enclosing.Union fs forms seen count n = AlternativesWell declarations (parts_of fs) forms seen count
 
-  no_fields_well : (at : Place) (forms : FieldTrees) (seen : List Visible) (count n : ℕ) →
+  no_fields_well : (at : Enclosing) (forms : FieldTrees) (seen : List Visible) (count n : ℕ) →
       FieldsAt at NoFields forms seen count n
   unfolding IsWell
-  no_fields_well place.Struct forms seen count n = tt
-  no_fields_well place.Pinned forms seen count n = tt
-  no_fields_well place.Integral forms seen count n = tt
-  no_fields_well place.Union forms seen count n = tt
+  no_fields_well enclosing.Struct forms seen count n = tt
+  no_fields_well enclosing.Pinned forms seen count n = tt
+  no_fields_well enclosing.Integral forms seen count n = tt
+  no_fields_well enclosing.Union forms seen count n = tt
 
   in_struct : (pinned : Bool) (fs : Fields) (forms : FieldTrees) (seen : List Visible) (count n : ℕ) →
       FieldsAt (struct_place pinned) fs forms seen count n → FieldsWell declarations fs forms seen count n
@@ -95,7 +95,7 @@ module _ (declarations : List DeclarationTree) where
     well {seen} {count} (Means.union {form} {parts} {rest} h) all =
         (seen, count, FieldTrees.FieldThen form parts rest, here, fields_well h all)
 
-    fields_well : {names : Names} {at : Place} {seen : List Visible} {count : ℕ} {before : List (Option (List ℕ))}
+    fields_well : {names : Names} {at : Enclosing} {seen : List Visible} {count : ℕ} {before : List (Option (List ℕ))}
         {forms : FieldTrees} {fs : Fields} →
         FieldsMean names at seen count before forms fs → AllWell names → FieldsAt at fs forms seen count (length before)
     fields_well {at} {seen} {count} {before} FieldsMean.done all =

@@ -16,6 +16,7 @@ ghost use Rattle.pickle_types.specs.FieldLists.{IsFieldList};
 ghost use Rattle.pickle_types.specs.Building.{known_types, visible_in, after_itself, IsReady, named_types, may_add, Builds, HasRoom, AddsAtMost};
 ghost use Rattle.pickle_types.specs.Calls.{constraint_meaning, BuildsForm, AddsField, BuildsField, BuildsFields, AddsDeclaration};
 
+use crate::check::enclosing::Enclosing;
 use crate::check::expressions::{Context, integer, typed};
 use crate::check::field_list::{FieldList, FieldPlaces};
 use crate::check::fields::{
@@ -24,9 +25,8 @@ use crate::check::fields::{
 };
 use crate::check::nodes::Nodes;
 use crate::check::operators::Scalar;
-use crate::check::places::Place;
 use crate::check::references::{in_range, integer_referred, offset_parts};
-use crate::check::site::{RefusedPart, Site, Step, refused_in};
+use crate::check::site::{RefusedPart, Site, TypeStep, refused_in};
 use crate::check::sorts::{has_width, operand_of, predeclared_node};
 use crate::check::trail::Trail;
 use crate::fault::{FaultKind, TypeFault};
@@ -304,7 +304,7 @@ impl<'n> Builder<'n> {
     /// The constraint of a field. It sees the field itself, and so does what comes after the field, except in a union.
     fn constraint(
         &mut self,
-        place: Place,
+        place: Enclosing,
         itself: Seen<'n>,
         e: Option<&Expression<'_>>,
     ) -> Result<Option<Box<Resolved>>, FaultKind>
@@ -329,7 +329,7 @@ impl<'n> Builder<'n> {
                 return Err(kind);
             }
         };
-        if let Place::Union = place {
+        if let Enclosing::Union = place {
             self.seen.truncate(mark);
         }
         Ok(constraint)
@@ -339,7 +339,7 @@ impl<'n> Builder<'n> {
     #[inline(never)]
     fn field_of(
         &mut self,
-        place: Place,
+        place: Enclosing,
         levels: u8,
         found: Found,
         before: &FieldList,
@@ -588,7 +588,7 @@ impl<'n> Builder<'n> {
         let found = match self.type_at(levels + 1, title_of_element, room - 1, element) {
             Ok(found) => found,
             Err(kind) => {
-                self.site.begin_with(Step::Element);
+                self.site.begin_with(TypeStep::Element);
                 return Err(kind);
             }
         };
@@ -672,7 +672,7 @@ impl<'n> Builder<'n> {
         ensures low { IfOk result (λ found. found.depth ≤ room) }
     {
         let number = integer_referred(&self.names, &self.nodes, reference)?;
-        let (fields, depth) = self.fields_at(Place::Integral, levels, room - 1, written)?;
+        let (fields, depth) = self.fields_at(Enclosing::Integral, levels, room - 1, written)?;
         let (fields, places) = fields.into_parts();
         let width = total_width(&self.nodes, &fields);
         if width != u128::from(number.width) {
@@ -717,7 +717,7 @@ impl<'n> Builder<'n> {
         if written.is_empty() {
             return Err(FaultKind::NotHere);
         }
-        let (fields, depth) = self.fields_at(Place::Union, levels, room - 1, written)?;
+        let (fields, depth) = self.fields_at(Enclosing::Union, levels, room - 1, written)?;
         let (fields, places) = fields.into_parts();
         let alternatives = parts_from(self.alloc, fields)?;
         let name = copied(self.alloc, title.name)?;
@@ -733,7 +733,7 @@ impl<'n> Builder<'n> {
     #[cycle(types)]
     fn field_at(
         &mut self,
-        place: Place,
+        place: Enclosing,
         levels: u8,
         room: u8,
         before: &FieldList,
@@ -772,7 +772,7 @@ impl<'n> Builder<'n> {
     #[tactic(auto, unfolding(crate::specs::Meaning::fields_meaning))]
     fn fields_at(
         &mut self,
-        place: Place,
+        place: Enclosing,
         levels: u8,
         room: u8,
         written: &[tree::Field<'n>],
@@ -797,7 +797,7 @@ impl<'n> Builder<'n> {
             let (field, depth) = match self.field_at(place, levels, room, &fields, f) {
                 Ok(built) => built,
                 Err(kind) => {
-                    self.site.begin_with(Step::Field(fields.len()));
+                    self.site.begin_with(TypeStep::Field(fields.len()));
                     return Err(kind);
                 }
             };

@@ -8,9 +8,9 @@ ghost use Rattle.pickle_types.specs.FieldLists.{IsFieldList};
 ghost use Rattle.pickle_types.specs.Meaning.{has_name, fresh, may_stand, if_here, struct_place, place_in, parts_of, total_width};
 ghost use Rattle.pickle_types.specs.Built.{Gives, bytes_now, words_in, names_in, part_of};
 
+use crate::check::enclosing::Enclosing;
 use crate::check::field_list::FieldList;
 use crate::check::nodes::Nodes;
-use crate::check::places::Place;
 use crate::check::sorts::width_of;
 use crate::fault::FaultKind;
 use crate::name::Name;
@@ -83,18 +83,18 @@ pub fn constraint_in<'a, 't>(field: &'a tree::Field<'t>) -> Option<&'a Expressio
 }
 
 /// Whether a place allows a field. `bits` says whether the field's type has a width in bits.
-fn may_stand(place: Place, bits: bool, field: &tree::Field<'_>) -> bool
+fn may_stand(place: Enclosing, bits: bool, field: &tree::Field<'_>) -> bool
     ensures { result ≡ may_stand place bits (field_tree field.now).parts }
 {
     let ordered = field.order.is_none() || bits;
     match place {
-        Place::Struct => ordered,
-        Place::Pinned => ordered && label_in(field).is_none(),
-        Place::Integral => bits
+        Enclosing::Struct => ordered,
+        Enclosing::Pinned => ordered && label_in(field).is_none(),
+        Enclosing::Integral => bits
             && field.order.is_none()
             && label_in(field).is_none()
             && condition_in(field).is_none(),
-        Place::Union => ordered
+        Enclosing::Union => ordered
             && field.name.is_some()
             && label_in(field).is_none()
             && condition_in(field).is_none(),
@@ -102,7 +102,7 @@ fn may_stand(place: Place, bits: bool, field: &tree::Field<'_>) -> bool
 }
 
 /// Fails with `NotHere` where the place doesn't allow the field. `bits` says whether its type has a width in bits.
-pub fn stand(place: Place, bits: bool, field: &tree::Field<'_>) -> Result<(), FaultKind>
+pub fn stand(place: Enclosing, bits: bool, field: &tree::Field<'_>) -> Result<(), FaultKind>
     ensures { Gives (λ u. u) result (if_here (may_stand place bits (field_tree field.now).parts)) }
 {
     if may_stand(place, bits, field) {
@@ -130,19 +130,23 @@ pub fn fresh(names: &Names, name: Option<&[u8]>, fields: &FieldList) -> Result<(
 }
 
 /// The place of the fields of a struct, pinned or not.
-pub fn struct_place(pinned: bool) -> Place
+pub fn struct_place(pinned: bool) -> Enclosing
     ensures { result ≡ struct_place pinned }
 {
-    if pinned { Place::Pinned } else { Place::Struct }
+    if pinned {
+        Enclosing::Pinned
+    } else {
+        Enclosing::Struct
+    }
 }
 
 /// The place of a field in its frame, after `before` others. An alternative is alone in its frame.
-pub fn place_in(place: Place, before: usize) -> usize
+pub fn place_in(place: Enclosing, before: usize) -> usize
     ensures { result ≡ place_in place before }
 {
     match place {
-        Place::Struct | Place::Pinned | Place::Integral => before,
-        Place::Union => 0,
+        Enclosing::Struct | Enclosing::Pinned | Enclosing::Integral => before,
+        Enclosing::Union => 0,
     }
 }
 

@@ -36,7 +36,7 @@ pub enum RefusedPart {
 
 /// A step from a type to a type in it.
 #[derive(Clone, Copy, PartialEq, Eq, Debug)]
-pub enum Step {
+pub enum TypeStep {
     /// To the type of an array's elements.
     Element,
     /// To the field or alternative of this number, counted from 0.
@@ -82,7 +82,7 @@ const MOST_LEVELS: usize = 64;
 /// Where in a declaration its types are refused.
 #[derive(Drop)]
 pub struct Site {
-    steps: [Step; MOST_LEVELS],
+    steps: [TypeStep; MOST_LEVELS],
     count: usize,
     pub part: RefusedPart,
     pub expression: RefusedExpression,
@@ -92,7 +92,7 @@ impl Site {
     /// The declared type as a whole.
     pub fn new() -> Site {
         Site {
-            steps: [Step::Element; MOST_LEVELS],
+            steps: [TypeStep::Element; MOST_LEVELS],
             count: 0,
             part: RefusedPart::Type,
             expression: RefusedExpression::None,
@@ -100,7 +100,7 @@ impl Site {
     }
 
     /// Adds the step that leads to the type with the other steps. Types have no more levels than there is room for.
-    pub fn begin_with(&mut self, step: Step) {
+    pub fn begin_with(&mut self, step: TypeStep) {
         if let Some(slot) = self.steps.get_mut(self.count) {
             *slot = step;
             self.count = self.count.saturating_add(1);
@@ -108,7 +108,7 @@ impl Site {
     }
 
     /// The steps from the declared type to the one that is refused, or that has the refused field, the last one first.
-    pub fn steps(&self) -> &[Step] {
+    pub fn steps(&self) -> &[TypeStep] {
         match self.steps.get(..self.count) {
             Some(steps) => steps,
             None => &self.steps,

@@ -1,8 +1,8 @@
-//! The places that a field may be in.
+//! What a field may be a part of.
 
 /// The type that a field is a part of.
 #[derive(Clone, Copy, PartialEq, Eq, Debug)]
-pub enum Place {
+pub enum Enclosing {
     Struct,
     /// A pinned struct: all its fields begin where the struct begins.
     Pinned,
