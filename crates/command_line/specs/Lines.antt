@@ -2,8 +2,8 @@
 use Rattle.std.specs.Prelude.{◌&&◌, ◌||◌, ◌==◌, Bool, false, ℕ, ◌-◌, nat_lt, List, [], ◌∷◌, ◌++◌, length, take, codes, if◌then◌else◌}
 use Rattle.std.specs.List.{slice_index_or}
 use Rattle.std.specs.Str.{bytes_eq}
-use Rattle.command_line.specs.declared.words.line.Place.{Place}
-use Rattle.command_line.specs.declared.words.line.Place.TheVariants as place
+use Rattle.command_line.specs.declared.words.line.WordPlace.{WordPlace}
+use Rattle.command_line.specs.declared.words.line.WordPlace.TheVariants as place
 
 -- `help` with a request for help as its last word, which the parser would take for the name of a command
 abbrev pub asks_help_of_help : List (List ℕ) → Bool
@@ -20,24 +20,24 @@ begins_with_minus [] = false
 begins_with_minus (byte ∷ bytes) = byte == 45
 
 -- where the words are after one more: after `--byte`, after `--`, or elsewhere
-abbrev pub place_after : Place → List ℕ → Place
+abbrev pub place_after : WordPlace → List ℕ → WordPlace
 place_after place.Options word = if bytes_eq word (codes "--") then place.Rest else if bytes_eq word (codes "--byte")
     then place.Byte else place.Options
 place_after place.Byte word = place.Options
 place_after place.Rest word = place.Rest
 
 -- a word that begins with `-` is the value of `--byte` before it, to which it is joined by `=` (61)
-abbrev pub spelled : Place → List ℕ → List (List ℕ)
+abbrev pub spelled : WordPlace → List ℕ → List (List ℕ)
 spelled place.Options word = if bytes_eq word (codes "--byte") then [] else word ∷ []
 spelled place.Byte word = if begins_with_minus word then (codes "--byte=" ++ word) ∷ [] else codes "--byte" ∷ word ∷ []
 spelled place.Rest word = word ∷ []
 
-abbrev pub spelled_end : Place → List (List ℕ)
+abbrev pub spelled_end : WordPlace → List (List ℕ)
 spelled_end place.Options = []
 spelled_end place.Byte = codes "--byte" ∷ []
 spelled_end place.Rest = []
 
-abbrev pub spelled_words : Place → List (List ℕ) → List (List ℕ)
+abbrev pub spelled_words : WordPlace → List (List ℕ) → List (List ℕ)
 spelled_words place [] = spelled_end place
 spelled_words place (word ∷ words) = spelled place word ++ spelled_words (place_after place word) words
 

@@ -10,7 +10,7 @@ const BYTE: &str = "--byte";
 
 /// Where a word is among the arguments.
 #[derive(Clone, Copy, Debug, PartialEq, Eq)]
-pub enum Place {
+pub enum WordPlace {
     Options,
     /// After `--byte`.
     Byte,
@@ -47,7 +47,7 @@ pub fn command_line(alloc: Global, words: &[String]) -> Result<Vec<String>, Allo
     let words = without_help_of_help(words);
     let mut line = Vec::new(alloc);
     line.push(String::from_str(alloc, PROGRAM)?)?;
-    let mut place = Place::Options;
+    let mut place = WordPlace::Options;
     for word in words {
         push_spelled(alloc, &mut line, place, word.as_str())?;
         place = place_after(place, word.as_str());
@@ -56,29 +56,29 @@ pub fn command_line(alloc: Global, words: &[String]) -> Result<Vec<String>, Allo
     Ok(line)
 }
 
-fn place_after(place: Place, word: &str) -> Place
+fn place_after(place: WordPlace, word: &str) -> WordPlace
     ensures { result ≡ place_after place word.now }
 {
     match (place, word) {
-        (Place::Options, "--") => Place::Rest,
-        (Place::Options, "--byte") => Place::Byte,
-        (Place::Rest, _) => Place::Rest,
-        _ => Place::Options,
+        (WordPlace::Options, "--") => WordPlace::Rest,
+        (WordPlace::Options, "--byte") => WordPlace::Byte,
+        (WordPlace::Rest, _) => WordPlace::Rest,
+        _ => WordPlace::Options,
     }
 }
 
 fn push_spelled(
     alloc: Global,
     line: &mut Vec<String>,
-    place: Place,
+    place: WordPlace,
     word: &str,
 ) -> Result<(), AllocError>
     ensures { OnOk result
         (map string_bytes line.new.items ≡ map string_bytes line.old.items ++ spelled place word.now) }
 {
     match place {
-        Place::Options if word == BYTE => Ok(()),
-        Place::Byte => push_value(alloc, line, word),
+        WordPlace::Options if word == BYTE => Ok(()),
+        WordPlace::Byte => push_value(alloc, line, word),
         _ => push_word(alloc, line, word),
     }
 }
@@ -86,7 +86,7 @@ fn push_spelled(
 // The value of `--byte`.
 fn push_value(alloc: Global, line: &mut Vec<String>, word: &str) -> Result<(), AllocError>
     ensures { OnOk result
-        (map string_bytes line.new.items ≡ map string_bytes line.old.items ++ spelled Place.Byte word.now) }
+        (map string_bytes line.new.items ≡ map string_bytes line.old.items ++ spelled WordPlace.Byte word.now) }
 {
     if begins_with_minus(word) {
         let mut joined = String::from_str(alloc, "--byte=")?;
@@ -98,11 +98,11 @@ fn push_value(alloc: Global, line: &mut Vec<String>, word: &str) -> Result<(), A
     push_word(alloc, line, word)
 }
 
-fn push_end(alloc: Global, line: &mut Vec<String>, place: Place) -> Result<(), AllocError>
+fn push_end(alloc: Global, line: &mut Vec<String>, place: WordPlace) -> Result<(), AllocError>
     ensures { OnOk result (map string_bytes line.new.items ≡ map string_bytes line.old.items ++ spelled_end place) }
 {
     match place {
-        Place::Byte => push_word(alloc, line, BYTE),
+        WordPlace::Byte => push_word(alloc, line, BYTE),
         _ => Ok(()),
     }
 }

@@ -1,6 +1,6 @@
 use Rattle.std.proofs.Common.{◌≡◌, ◌∷◌, ◌++◌, map, drop, string_bytes, codes}
 use Rattle.command_line.specs.Lines.{spelled_words}
-use Rattle.command_line.specs.declared.words.line.Place.TheVariants.{Options}
+use Rattle.command_line.specs.declared.words.line.WordPlace.TheVariants.{Options}
 use Rattle.command_line.proofs.words.line.command_line.Given as goal
 
 abbrev pub invariant-loop-word : goal.invariant-loop-word
