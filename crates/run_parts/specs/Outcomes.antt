@@ -11,8 +11,8 @@ use Rattle.run_parts.specs.Reports.{report_members, report_json}
 use Rattle.run_parts.specs.Told.{Saying, Text, Line}
 use Rattle.run_parts.specs.declared.accept.Refusal.{Refusal}
 use Rattle.run_parts.specs.declared.accept.Refusal.TheVariants as refusal
-use Rattle.run_parts.specs.declared.lines.Place.{Place}
-use Rattle.run_parts.specs.declared.lines.Place.TheVariants.{Nowhere, Byte, Declaration, Bit}
+use Rattle.run_parts.specs.declared.lines.RunEnd.{RunEnd}
+use Rattle.run_parts.specs.declared.lines.RunEnd.TheVariants.{Nowhere, Byte, Declaration, Bit}
 use Rattle.run_parts.specs.declared.outcome.Failure.{Failure}
 use Rattle.run_parts.specs.declared.outcome.Failure.TheVariants as failure
 use Rattle.run_parts.specs.declared.outcome.Outcome.{Outcome}
@@ -77,12 +77,12 @@ fault_status fault.Device = Outside
 fault_status fault.Memory = Outside
 fault_status kind = Fault
 
-abbrev pub fault_place : MapFaultKind → (at : ℕ) → Place
+abbrev pub fault_place : MapFaultKind → (at : ℕ) → RunEnd
 fault_place fault.Device at = Nowhere
 fault_place fault.Memory at = Nowhere
 fault_place kind at = Bit at
 
-abbrev pub refusal_place : Refusal → Place
+abbrev pub refusal_place : Refusal → RunEnd
 refusal_place (refusal.Tokens kind at) = Byte at
 refusal_place (refusal.Syntax at) = Byte at
 refusal_place refusal.TooDeep = Nowhere
@@ -91,7 +91,7 @@ refusal_place (refusal.Types kind declaration) = Declaration declaration
 refusal_place refusal.Memory = Nowhere
 
 -- the place in that line
-abbrev pub outcome_place : Outcome → Place
+abbrev pub outcome_place : Outcome → RunEnd
 outcome_place outcome.Done = Nowhere
 outcome_place (outcome.Refused why) = refusal_place why
 outcome_place outcome.NoSuchType = Nowhere

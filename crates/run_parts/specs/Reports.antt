@@ -1,7 +1,7 @@
 -- The line that reports a refusal or a fault, by its status, its name and its place.
 use Rattle.std.specs.Prelude.{ℕ, List, [], ◌∷◌, ◌++◌, codes, decimal}
-use Rattle.run_parts.specs.declared.lines.Place.{Place}
-use Rattle.run_parts.specs.declared.lines.Place.TheVariants.{Nowhere, Byte, Declaration, Bit}
+use Rattle.run_parts.specs.declared.lines.RunEnd.{RunEnd}
+use Rattle.run_parts.specs.declared.lines.RunEnd.TheVariants.{Nowhere, Byte, Declaration, Bit}
 use Rattle.run_parts.specs.declared.status.Status.{Status}
 use Rattle.run_parts.specs.declared.status.Status.TheVariants.{Done, Fault, Refused, Outside}
 
@@ -13,14 +13,14 @@ lead Refused = codes "refused "
 lead Outside = codes "fault "
 
 -- the place after the name, and the end of the line
-abbrev pub place_text : Place → List ℕ
+abbrev pub place_text : RunEnd → List ℕ
 place_text Nowhere = 10 ∷ []
 place_text (Byte byte) = codes " at byte " ++ (decimal byte ++ 10 ∷ [])
 place_text (Declaration declaration) = codes " in type " ++ (decimal declaration ++ 10 ∷ [])
 place_text (Bit bit) = codes " at " ++ (decimal bit ++ codes "#b\n")
 
 -- the whole line
-abbrev pub report_line : Status → (kind : List ℕ) → Place → List ℕ
+abbrev pub report_line : Status → (kind : List ℕ) → RunEnd → List ℕ
 report_line status kind place = lead status ++ (kind ++ place_text place)
 
 -- the same as members of a JSON object: the start, up to the name
@@ -31,16 +31,16 @@ member_lead Refused = codes "\"refused\":\""
 member_lead Outside = codes "\"fault\":\""
 
 -- the place after the name
-abbrev pub member_place : Place → List ℕ
+abbrev pub member_place : RunEnd → List ℕ
 member_place Nowhere = codes "\""
 member_place (Byte byte) = codes "\",\"byte\":" ++ decimal byte
 member_place (Declaration declaration) = codes "\",\"type\":" ++ decimal declaration
 member_place (Bit bit) = codes "\",\"at\":" ++ decimal bit
 
 -- the members
-abbrev pub report_members : Status → (kind : List ℕ) → Place → List ℕ
+abbrev pub report_members : Status → (kind : List ℕ) → RunEnd → List ℕ
 report_members status kind place = member_lead status ++ (kind ++ member_place place)
 
 -- the object of these members, on a line
-abbrev pub report_json : Status → (kind : List ℕ) → Place → List ℕ
+abbrev pub report_json : Status → (kind : List ℕ) → RunEnd → List ℕ
 report_json status kind place = codes "{" ++ (report_members status kind place ++ codes "}\n")

@@ -12,7 +12,7 @@ use text_output::write::{WriteFault, put};
 
 /// Where a run ended.
 #[derive(Clone, Copy, Debug, Drop, PartialEq, Eq)]
-pub enum Place {
+pub enum RunEnd {
     /// Nowhere in its pickle or its file.
     Nowhere,
     /// At a byte of the pickle, counted from 0.
@@ -28,19 +28,19 @@ pub fn put_report<W: Write>(
     w: &mut W,
     status: Status,
     kind: &[u8],
-    place: Place,
+    place: RunEnd,
 ) -> Result<(), WriteFault>
     ensures ok { OnOk result (Appends (W.contents w.old) (W.contents w.new) (report_line status kind.now place)) }
     ensures err { OnErr result (AppendsPart (W.contents w.old) (W.contents w.new) (report_line status kind.now place)) }
 {
     let lead = lead(status);
     match place {
-        Place::Nowhere => put_plain(w, lead, kind, b"\n"),
-        Place::Byte(byte) => put_placed(w, lead, kind, b" at byte ", byte as u128, b"\n"),
-        Place::Declaration(declaration) => {
+        RunEnd::Nowhere => put_plain(w, lead, kind, b"\n"),
+        RunEnd::Byte(byte) => put_placed(w, lead, kind, b" at byte ", byte as u128, b"\n"),
+        RunEnd::Declaration(declaration) => {
             put_placed(w, lead, kind, b" in type ", declaration as u128, b"\n")
         }
-        Place::Bit(bit) => put_placed(w, lead, kind, b" at ", bit, b"#b\n"),
+        RunEnd::Bit(bit) => put_placed(w, lead, kind, b" at ", bit, b"#b\n"),
     }
 }
 
@@ -51,7 +51,7 @@ pub fn put_report_json<W: Write>(
     w: &mut W,
     status: Status,
     kind: &[u8],
-    place: Place,
+    place: RunEnd,
 ) -> Result<(), WriteFault>
     ensures ok { OnOk result (Appends (W.contents w.old) (W.contents w.new) (report_json status kind.now place)) }
     ensures err { OnErr result (AppendsPart (W.contents w.old) (W.contents w.new) (report_json status kind.now place)) }
@@ -67,7 +67,7 @@ pub fn put_report_members<W: Write>(
     w: &mut W,
     status: Status,
     kind: &[u8],
-    place: Place,
+    place: RunEnd,
 ) -> Result<(), WriteFault>
     ensures ok { OnOk result (Appends (W.contents w.old) (W.contents w.new) (report_members status kind.now place)) }
     ensures err { OnErr result
@@ -75,12 +75,12 @@ pub fn put_report_members<W: Write>(
 {
     let lead = member_lead(status);
     match place {
-        Place::Nowhere => put_plain(w, lead, kind, b"\""),
-        Place::Byte(byte) => put_member(w, lead, kind, b"\",\"byte\":", byte as u128),
-        Place::Declaration(declaration) => {
+        RunEnd::Nowhere => put_plain(w, lead, kind, b"\""),
+        RunEnd::Byte(byte) => put_member(w, lead, kind, b"\",\"byte\":", byte as u128),
+        RunEnd::Declaration(declaration) => {
             put_member(w, lead, kind, b"\",\"type\":", declaration as u128)
         }
-        Place::Bit(bit) => put_member(w, lead, kind, b"\",\"at\":", bit),
+        RunEnd::Bit(bit) => put_member(w, lead, kind, b"\",\"at\":", bit),
     }
 }
 

@@ -7,7 +7,7 @@ ghost use Rattle.run_parts.specs.Outcomes.{failure_kind, fault_place, fault_stat
 ghost use Rattle.run_parts.specs.Outcomes.{outcome_json, outcome_kind, outcome_line, outcome_members, outcome_place, outcome_status};
 
 use crate::accept::Refusal;
-use crate::lines::{Place, put_report, put_report_json, put_report_members};
+use crate::lines::{RunEnd, put_report, put_report_json, put_report_members};
 use crate::status::Status;
 use pickle_meaning::faults::{MapFault, MapFaultKind};
 use std::io::Write;
@@ -112,19 +112,19 @@ impl Outcome {
     }
 
     /// Where in the pickle or in the file the run ended.
-    pub fn place(self) -> Place
+    pub fn place(self) -> RunEnd
         ensures { result ≡ outcome_place self }
     {
         match self {
             Outcome::Refused(refusal) => refusal_place(refusal),
             Outcome::Fault(fault) => fault_place(fault),
-            Outcome::Slots(at) | Outcome::Output(at) => Place::Bit(u128::from(at)),
-            Outcome::Left(at) => Place::Bit(at),
+            Outcome::Slots(at) | Outcome::Output(at) => RunEnd::Bit(u128::from(at)),
+            Outcome::Left(at) => RunEnd::Bit(at),
             Outcome::Done
             | Outcome::NoSuchType
             | Outcome::Offset
             | Outcome::NoSuchPart
-            | Outcome::Failed(_) => Place::Nowhere,
+            | Outcome::Failed(_) => RunEnd::Nowhere,
         }
     }
 
@@ -173,21 +173,21 @@ fn fault_status(kind: MapFaultKind) -> Status
     }
 }
 
-fn fault_place(fault: MapFault) -> Place
+fn fault_place(fault: MapFault) -> RunEnd
     ensures { result ≡ fault_place fault.kind fault.at }
 {
     match fault.kind {
-        MapFaultKind::Device | MapFaultKind::Memory => Place::Nowhere,
-        _ => Place::Bit(fault.at),
+        MapFaultKind::Device | MapFaultKind::Memory => RunEnd::Nowhere,
+        _ => RunEnd::Bit(fault.at),
     }
 }
 
-fn refusal_place(refusal: Refusal) -> Place
+fn refusal_place(refusal: Refusal) -> RunEnd
     ensures { result ≡ refusal_place refusal }
 {
     match refusal {
-        Refusal::Tokens(_, at) | Refusal::Syntax(at) => Place::Byte(at),
-        Refusal::Types(_, declaration) => Place::Declaration(declaration),
-        Refusal::TooDeep | Refusal::TooMany | Refusal::Memory => Place::Nowhere,
+        Refusal::Tokens(_, at) | Refusal::Syntax(at) => RunEnd::Byte(at),
+        Refusal::Types(_, declaration) => RunEnd::Declaration(declaration),
+        Refusal::TooDeep | Refusal::TooMany | Refusal::Memory => RunEnd::Nowhere,
     }
 }
