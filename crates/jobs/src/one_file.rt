@@ -38,7 +38,7 @@ pub struct Target<'a> {
 
 /// A run that ended, with what it was given.
 #[derive(Clone, Copy)]
-struct Ended<'a> {
+struct FinishedRun<'a> {
     pickle: &'a NamedPickle,
     ask: &'a Ask<'a>,
     terms: &'a Terms,
@@ -69,7 +69,7 @@ pub fn map_file<P: Opener, O: Write>(
     };
     let outcome = map_outcome(alloc, &pickle.bytes, ask, terms, &mut space, out);
     if why.asked {
-        let ended = Ended {
+        let ended = FinishedRun {
             pickle: &pickle,
             ask,
             terms,
@@ -84,14 +84,14 @@ pub fn map_file<P: Opener, O: Write>(
 // Explains how a run ended. Of a value that is shown to the eye, what was met before its fault is shown.
 fn explain_run<S: Space, O: Write>(
     alloc: Global,
-    ended: Ended<'_>,
+    ended: FinishedRun<'_>,
     space: &mut S,
     out: &mut O,
     why: &mut Why<'_>,
 )
     ensures { AddsIf true (O.contents out.old) (O.contents out.new) }
 {
-    let Ended {
+    let FinishedRun {
         pickle,
         ask,
         terms,
@@ -113,7 +113,7 @@ fn explain_run<S: Space, O: Write>(
 }
 
 // Adds what the arguments of a mapping with a fault may have wrong.
-fn tell_arguments(file: &str, ended: Ended<'_>, why: &mut Why<'_>) {
+fn tell_arguments(file: &str, ended: FinishedRun<'_>, why: &mut Why<'_>) {
     if ended.outcome.status() != Status::Fault {
         return;
     }

@@ -46,7 +46,7 @@ const INPUT_TWICE: &str =
 const WHY_VARIABLE: &str = "POKE_BATCH_WHY";
 
 /// The line that a job prints to standard error. The longest has 68 bytes.
-pub type Line = ArrayVec<u8, 128>;
+pub type ErrorLine = ArrayVec<u8, 128>;
 
 fn main(rt: HostRuntime) -> ExitCode {
     let mut reason = Vec::new(rt.alloc());
@@ -78,7 +78,7 @@ fn main(rt: HostRuntime) -> ExitCode {
         hint(&mut reason);
     }
     // The line is written by one call, so that those of parallel runs don't mix.
-    let mut line = Line::new();
+    let mut line = ErrorLine::new();
     let status = ending.tell(faults, &mut line);
     let told = put(&mut rt.stderr(), line.as_slice());
     let status = if told.is_ok() {

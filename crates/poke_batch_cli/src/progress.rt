@@ -1,7 +1,7 @@
 //! How much of a run is done, on a line of a terminal.
 ghost use Rattle.std.specs.Prelude.{◌≡◌, ◌+◌, ◌-◌, ◌^◌, ◌<◌, ◌≤◌, None, false};
 
-use crate::Line;
+use crate::ErrorLine;
 use poke_batch::write::{WriteFault, put};
 use std::io::Write;
 use std::rt::Clock;
@@ -88,7 +88,7 @@ impl Progress {
                 return;
             }
         }
-        let mut line = Line::new();
+        let mut line = ErrorLine::new();
         if self.put_line(&mut line).is_ok() {
             self.written = Some(now);
             self.is_there = true;
@@ -96,7 +96,7 @@ impl Progress {
         }
     }
 
-    fn put_line(&self, line: &mut Line) -> Result<(), WriteFault> {
+    fn put_line(&self, line: &mut ErrorLine) -> Result<(), WriteFault> {
         put(line, CLEAR)?;
         let name = self.counted.name();
         let written = match self.total {

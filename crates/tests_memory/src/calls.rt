@@ -1,6 +1,6 @@
 //! The calls, by name.
 
-use crate::ended::Ended;
+use crate::call_outcome::CallOutcome;
 use crate::samples::{ARRAYS, ELEMENTS, MIXED, UNIONS};
 use crate::sparing::{
     asking_tables, mapping_again, mapping_in_room, mapping_letters_in_room, mapping_within,
@@ -46,14 +46,17 @@ pub const CALLS: [&str; 28] = [
 ];
 
 /// Runs the call with a name.
-pub fn run_call<R: Files<File = File> + AllocGlobal>(rt: &R, name: &[u8]) -> Ended {
+pub fn run_call<R: Files<File = File> + AllocGlobal>(rt: &R, name: &[u8]) -> CallOutcome {
     match run_named(rt, name) {
         Ok(ended) => ended,
         Err(ended) => ended,
     }
 }
 
-fn run_named<R: Files<File = File> + AllocGlobal>(rt: &R, name: &[u8]) -> Result<Ended, Ended> {
+fn run_named<R: Files<File = File> + AllocGlobal>(
+    rt: &R,
+    name: &[u8],
+) -> Result<CallOutcome, CallOutcome> {
     let alloc = rt.alloc();
     match name {
         b"lex" => Ok(lexing(alloc)),
@@ -84,6 +87,6 @@ fn run_named<R: Files<File = File> + AllocGlobal>(rt: &R, name: &[u8]) -> Result
         b"tokens" => Ok(telling_tokens(alloc)),
         b"tables" => asking_tables(alloc),
         b"values" => reading_values(alloc),
-        _ => Err(Ended::Wrong),
+        _ => Err(CallOutcome::Wrong),
     }
 }

@@ -4,7 +4,7 @@ ghost use Rattle.std.specs.Prelude.{◌≡◌, IfOk, OnErr};
 ghost use Rattle.value_store.specs.Slots.{emptied, KeepsRoom};
 ghost use Rattle.pickle_types.specs.TypeTable.{IsInTable};
 
-use crate::ended::Ended;
+use crate::call_outcome::CallOutcome;
 use crate::samples::Sample;
 use arrayvec::ArrayVec;
 use bit_space::{MemSpace, Meter, Order};
@@ -18,21 +18,21 @@ use std::alloc::Global;
 pub type Written = ArrayVec<u8, 1200>;
 
 /// The types of a pickle, and its type T.
-pub fn types_of(alloc: Global, pickle: &[u8]) -> Result<(Table, TypeId), Ended>
+pub fn types_of(alloc: Global, pickle: &[u8]) -> Result<(Table, TypeId), CallOutcome>
     ensures { IfOk result (λ types. IsInTable types.0 types.1) }
 {
     let table = accept(alloc, pickle)?;
     match table.find(b"T") {
         Some(id) => Ok((table, id)),
-        None => Err(Ended::Wrong),
+        None => Err(CallOutcome::Wrong),
     }
 }
 
 /// A space of bytes in memory.
-pub fn space_of(alloc: Global, bytes: &[u8]) -> Result<MemSpace, Ended> {
+pub fn space_of(alloc: Global, bytes: &[u8]) -> Result<MemSpace, CallOutcome> {
     let mut owned = Vec::new(alloc);
     owned.extend_from_slice(bytes)?;
-    MemSpace::new(owned).map_err(|_| Ended::Wrong)
+    MemSpace::new(owned).map_err(|_| CallOutcome::Wrong)
 }
 
 /// What the mapping of a sample is given.

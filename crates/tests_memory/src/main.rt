@@ -5,16 +5,16 @@
 //! place of the refused request. Without input each call runs once, with memory.
 #![tactic(auto)]
 
+mod call_outcome;
 mod calls;
-mod ended;
 mod given;
 mod samples;
 mod sparing;
 mod wanting;
 
 use arrayvec::ArrayVec;
+use call_outcome::CallOutcome;
 use calls::{CALLS, run_call};
-use ended::Ended;
 use poke_batch::write::put;
 use std::alloc::Global;
 use std::io::Read;
@@ -63,17 +63,17 @@ fn tell(rt: &HostRuntime, name: &[u8], requests: u32) -> ExitCode {
 
 // Makes one request after the call, to see whether the refused request is still to come. If it is this one, the call
 // and its preparation made exactly the requests before it.
-fn run_after(rt: &HostRuntime, name: &[u8], requests: u32) -> Ended {
+fn run_after(rt: &HostRuntime, name: &[u8], requests: u32) -> CallOutcome {
     for _ in 0..requests {
         if is_refused(rt.alloc()) {
-            return Ended::Early;
+            return CallOutcome::Early;
         }
     }
     let ended = run_call(rt, name);
     match (ended, is_refused(rt.alloc())) {
         (ended, false) => ended,
-        (Ended::Answer, true) => Ended::Next,
-        (_, true) => Ended::Wrong,
+        (CallOutcome::Answer, true) => CallOutcome::Next,
+        (_, true) => CallOutcome::Wrong,
     }
 }
 

@@ -2,7 +2,7 @@
 
 ghost use Rattle.pickle_types.specs.TypeTable.{IsInTable};
 
-use crate::ended::Ended;
+use crate::call_outcome::CallOutcome;
 use crate::given::{Written, is_mapped, map_type, space_of, types_of};
 use crate::samples::{ELEMENTS, LONG_PICKLE, Sample};
 use bit_space::{FileSpace, MemSpace, Meter, Order, Paged, Space, read_number};
@@ -15,14 +15,18 @@ use std::fs::File;
 use std::rt::Files;
 
 /// Maps in a store with the capacity for the slots of the mapping, and once more after it is cleared.
-pub fn mapping_in_room(alloc: Global, sample: Sample<'_>, slots: usize) -> Result<Ended, Ended> {
+pub fn mapping_in_room(
+    alloc: Global,
+    sample: Sample<'_>,
+    slots: usize,
+) -> Result<CallOutcome, CallOutcome> {
     let (table, id) = types_of(alloc, sample.pickle)?;
     let mut space = space_of(alloc, sample.bytes)?;
-    let mut store = Store::with_room(alloc, slots).map_err(|_| Ended::Early)?;
+    let mut store = Store::with_room(alloc, slots).map_err(|_| CallOutcome::Early)?;
     let first = is_mapped(&table, id, &mut space, &mut store, sample);
     store.clear();
     let second = is_mapped(&table, id, &mut space, &mut store, sample);
-    Ok(Ended::answer_if(first && second))
+    Ok(CallOutcome::answer_if(first && second))
 }
 
 /// Whether a mapping in a store of exactly so many slots ends with an allocation failure, and leaves the store empty.
@@ -32,10 +36,10 @@ fn is_refused(
     id: TypeId,
     space: &mut MemSpace,
     slots: usize,
-) -> Result<bool, Ended>
+) -> Result<bool, CallOutcome>
     requires { IsInTable table.now id }
 {
-    let mut store = Store::with_most(alloc, slots).map_err(|_| Ended::Early)?;
+    let mut store = Store::with_most(alloc, slots).map_err(|_| CallOutcome::Early)?;
     let refused = match map_type(table, id, space, &mut store) {
         Ok(()) => false,
         Err(fault) => fault.kind == MapFaultKind::Memory && fault.at == 0,
@@ -45,17 +49,21 @@ fn is_refused(
 
 /// Maps in a store of exactly the slots of the mapping, which never grows. With one slot less it returns an allocation
 /// failure.
-pub fn mapping_within(alloc: Global, sample: Sample<'_>, slots: usize) -> Result<Ended, Ended> {
+pub fn mapping_within(
+    alloc: Global,
+    sample: Sample<'_>,
+    slots: usize,
+) -> Result<CallOutcome, CallOutcome> {
     let (table, id) = types_of(alloc, sample.pickle)?;
     let mut space = space_of(alloc, sample.bytes)?;
     let refused = is_refused(alloc, &table, id, &mut space, slots.saturating_sub(1))?;
-    let mut store = Store::with_most(alloc, slots).map_err(|_| Ended::Early)?;
+    let mut store = Store::with_most(alloc, slots).map_err(|_| CallOutcome::Early)?;
     let mapped = is_mapped(&table, id, &mut space, &mut store, sample);
-    Ok(Ended::answer_if(refused && mapped && store.never_grows()))
+    Ok(CallOutcome::answer_if(refused && mapped && store.never_grows()))
 }
 
 /// Two alternatives store a thousand letters each in the capacity of one: the first is rolled back.
-pub fn mapping_letters_in_room(alloc: Global) -> Result<Ended, Ended> {
+pub fn mapping_letters_in_room(alloc: Global) -> Result<CallOutcome, CallOutcome> {
     let mut bytes = [b'a'; 1001];
     bytes[1000] = 0;
     let mut text = [b'a'; 1009];
@@ -70,26 +78,26 @@ pub fn mapping_letters_in_room(alloc: Global) -> Result<Ended, Ended> {
 }
 
 /// Maps again in a store that mapped the same value from no capacity, and was cleared.
-pub fn mapping_again(alloc: Global, sample: Sample<'_>) -> Result<Ended, Ended> {
+pub fn mapping_again(alloc: Global, sample: Sample<'_>) -> Result<CallOutcome, CallOutcome> {
     let (table, id) = types_of(alloc, sample.pickle)?;
     let mut space = space_of(alloc, sample.bytes)?;
     let mut store = Store::new(alloc);
     if let Err(fault) = map_type(&table, id, &mut space, &mut store) {
         return Err(if fault.kind == MapFaultKind::Memory {
-            Ended::Early
+            CallOutcome::Early
         } else {
-            Ended::Wrong
+            CallOutcome::Wrong
         });
     }
     store.clear();
-    Ok(Ended::answer_if(is_mapped(&table, id, &mut space, &mut store, sample)))
+    Ok(CallOutcome::answer_if(is_mapped(&table, id, &mut space, &mut store, sample)))
 }
 
 /// Spaces in memory, their numbers and their dump, and a meter.
-pub fn using_spaces(alloc: Global) -> Result<Ended, Ended> {
+pub fn using_spaces(alloc: Global) -> Result<CallOutcome, CallOutcome> {
     let mut bytes = Vec::new(alloc);
     bytes.extend_from_slice(b"Hello")?;
-    let mut space = MemSpace::new(bytes).map_err(|_| Ended::Wrong)?;
+    let mut space = MemSpace::new(bytes).map_err(|_| CallOutcome::Wrong)?;
     let mut meter = Meter::new(2);
     let number = read_number(&mut space, 4, 12, Order::Big, &mut meter);
     let ticks = meter.tick().is_ok() && meter.tick().is_err();
@@ -100,7 +108,7 @@ pub fn using_spaces(alloc: Global) -> Result<Ended, Ended> {
     let mut out = Written::new();
     let dumped = dump(&mut space, 0, 128, true, &mut out).is_ok();
     let right = number == Ok(0x865) && ticks && counts && dumped && space.len() == 5;
-    Ok(Ended::answer_if(right && out.as_slice() == HELLO))
+    Ok(CallOutcome::answer_if(right && out.as_slice() == HELLO))
 }
 
 const HELLO: &[u8] = b"76543210  0011 2233 4455 6677 8899 aabb ccdd eeff  0123456789ABCDEF
@@ -108,30 +116,32 @@ const HELLO: &[u8] = b"76543210  0011 2233 4455 6677 8899 aabb ccdd eeff  012345
 ";
 
 /// The lengths of a file and of pages.
-pub fn telling_lengths<R: Files<File = File> + AllocGlobal>(rt: &R) -> Result<Ended, Ended> {
-    let file = FileSpace::open(rt, "/proc/self/exe").map_err(|_| Ended::Early)?;
+pub fn telling_lengths<R: Files<File = File> + AllocGlobal>(
+    rt: &R,
+) -> Result<CallOutcome, CallOutcome> {
+    let file = FileSpace::open(rt, "/proc/self/exe").map_err(|_| CallOutcome::Early)?;
     let space = space_of(rt.alloc(), b"\x12\x34")?;
-    let paged = Paged::new(rt.alloc(), space).map_err(|_| Ended::Early)?;
-    Ok(Ended::answer_if(file.len() > 0 && paged.len() == 2))
+    let paged = Paged::new(rt.alloc(), space).map_err(|_| CallOutcome::Early)?;
+    Ok(CallOutcome::answer_if(file.len() > 0 && paged.len() == 2))
 }
 
 /// The places of tokens, and an offset as an argument.
-pub fn telling_tokens(alloc: Global) -> Ended {
+pub fn telling_tokens(alloc: Global) -> CallOutcome {
     let Ok(tokens) = lex(alloc, b"type A = byte;") else {
-        return Ended::Early;
+        return CallOutcome::Early;
     };
     let places = tokens.span(1) == Some((5, 6)) && tokens.span(5).is_none();
     let offset = offset_word(b"8#B") == Some(64) && offset_word(b"1#0").is_none();
-    Ended::answer_if(tokens.len() == 5 && places && offset)
+    CallOutcome::answer_if(tokens.len() == 5 && places && offset)
 }
 
 /// The names and bounds of a table, and the types that are borrowed from it.
-pub fn asking_tables(alloc: Global) -> Result<Ended, Ended> {
+pub fn asking_tables(alloc: Global) -> Result<CallOutcome, CallOutcome> {
     let (table, id) = types_of(alloc, ELEMENTS.pickle)?;
     let bounds = table.step_bound(id, 24) == Some(33) && table.slot_bound(id, 24) == Some(21);
     let names = table.find(b"E").is_some() && table.find(b"Q").is_none();
     let found = names && table.find(b"ushort").is_some() && table.len() == 2;
-    Ok(Ended::answer_if(bounds && found && !table.nodes().is_empty()))
+    Ok(CallOutcome::answer_if(bounds && found && !table.nodes().is_empty()))
 }
 
 // Whether each reading call returns what the root of the elements has.
@@ -155,14 +165,14 @@ fn starts_empty(alloc: Global, table: &Table) -> bool {
 }
 
 /// A store, and the calls that read its value.
-pub fn reading_values(alloc: Global) -> Result<Ended, Ended> {
+pub fn reading_values(alloc: Global) -> Result<CallOutcome, CallOutcome> {
     let (table, id) = types_of(alloc, ELEMENTS.pickle)?;
     let mut space = space_of(alloc, ELEMENTS.bytes)?;
-    let mut store = Store::with_room(alloc, 21).map_err(|_| Ended::Early)?;
+    let mut store = Store::with_room(alloc, 21).map_err(|_| CallOutcome::Early)?;
     let mapped = is_mapped(&table, id, &mut space, &mut store, ELEMENTS);
     let read = reads_root(&table, &store);
     let nothing = starts_empty(alloc, &table);
     store.clear();
     let cleared = store.root(&table).is_none();
-    Ok(Ended::answer_if(nothing && mapped && read && cleared))
+    Ok(CallOutcome::answer_if(nothing && mapped && read && cleared))
 }
