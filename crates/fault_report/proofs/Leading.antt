@@ -6,13 +6,13 @@ use Rattle.pickle_types.specs.declared.node.Node.{Node}
 use Rattle.pickle_types.specs.Types.{PokeType}
 use Rattle.pickle_types.specs.Table.{type_of}
 use Rattle.fault_report.specs.declared.way.Portion.{Portion}
-use Rattle.fault_report.specs.declared.way.Step.{Step}
+use Rattle.fault_report.specs.declared.way.WayStep.{WayStep}
 use Rattle.fault_report.specs.Found.{places_of}
 use Rattle.fault_report.specs.Ways.{TypePart, LeadsTo, here, further, part_at, step_text, HasPart, LacksPart}
 use Rattle.fault_report.specs.Portions.{IsPortion, joint_text, typed}
 
 -- the places of one more step
-pub places_more : (steps : List Step) (i : ℕ) (d : Step) → i < length steps →
+pub places_more : (steps : List WayStep) (i : ℕ) (d : WayStep) → i < length steps →
     places_of (take (i + 1) steps) ≡ places_of (take i steps) ++ (get_or steps i d).place ∷ []
 places_more steps i d within = map_more (λ step. step.place) steps i d within
 
@@ -29,7 +29,7 @@ leads_on {type} {reached} part place (further {part = first} {places = places} {
     (further k there (leads_on part place rest e))
 
 -- so does a step that is added after the others
-pub steps_on : (nodes : List Node) (root node : ℕ) (places text said : List ℕ) (to : Step) (part : Portion)
+pub steps_on : (nodes : List Node) (root node : ℕ) (places text said : List ℕ) (to : WayStep) (part : Portion)
     → LeadsTo (type_of nodes root) places text (type_of nodes node)
     → to.node ≡ node → IsPortion nodes to part → said ≡ text ++ joint_text part.joint to.place
     → LeadsTo (type_of nodes root) (places ++ to.place ∷ []) said (type_of nodes part.node)
@@ -60,6 +60,6 @@ pub goes_nowhere : (type : PokeType) (place : ℕ) (places : List ℕ) → part_
 goes_nowhere type place places e h = stops e h.leads
 
 -- the steps from one on: that one, and those after it
-pub steps_left : (steps : List Step) (i : ℕ) (d : Step) → i < length steps →
+pub steps_left : (steps : List WayStep) (i : ℕ) (d : WayStep) → i < length steps →
     places_of (drop i steps) ≡ (get_or steps i d).place ∷ places_of (drop (i + 1) steps)
 steps_left steps i d within = ap places_of (drop_more steps i d within)

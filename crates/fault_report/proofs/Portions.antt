@@ -11,7 +11,7 @@ use Rattle.pickle_types.proofs.Tables.{opens}
 use Rattle.value_text.specs.PathText.{field_step}
 use Rattle.fault_report.specs.declared.way.Joint.{Joint}
 use Rattle.fault_report.specs.declared.way.Portion.{Portion}
-use Rattle.fault_report.specs.declared.way.Step.{Step}
+use Rattle.fault_report.specs.declared.way.WayStep.{WayStep}
 use Rattle.fault_report.specs.Ways.{TypePart, field_at, alternative_at, part_at, step_text}
 use Rattle.fault_report.specs.Portions.{joint_name, joint_text, IsShapePortion, IsFieldPortion, IsPartPortion, IsPortion, LacksField, LacksAlternative, LacksShapePortion, LacksPortion}
 
@@ -70,7 +70,7 @@ part_portion ps place p joint within item named step =
     }
 
 -- the portion of a node's shape is that of its type
-pub portion_at : (nodes : List Node) → IsTable nodes → (to : Step) (node : Node) (p : Portion) →
+pub portion_at : (nodes : List Node) → IsTable nodes → (to : WayStep) (node : Node) (p : Portion) →
     to.node < length nodes → node ≡ get_or nodes to.node node → IsShapePortion node.shape to.place p →
     IsPortion nodes to p
 portion_at nodes table to node p within item h =
@@ -83,7 +83,7 @@ portion_at nodes table to node p within item h =
       inside = omega (arith, within, below);
     }
 
-pub if_portion_at : (nodes : List Node) → IsTable nodes → (to : Step) (node : Node) → to.node < length nodes
+pub if_portion_at : (nodes : List Node) → IsTable nodes → (to : WayStep) (node : Node) → to.node < length nodes
     → node ≡ get_or nodes to.node node
     → (found : Option Portion) → IfSome found (IsShapePortion node.shape to.place) → IfSome found (IsPortion nodes to)
 if_portion_at nodes table to node within item None h = h
@@ -101,7 +101,7 @@ part_past [] place le at = refl
 part_past (p ∷ ps) zero le at = absurd (omega (arith, le))
 part_past (p ∷ ps) (suc place) le at = part_past ps place (omega (arith, le)) at
 
-pub if_no_portion : (nodes : List Node) → IsTable nodes → (to : Step) (node : Node) → to.node < length nodes
+pub if_no_portion : (nodes : List Node) → IsTable nodes → (to : WayStep) (node : Node) → to.node < length nodes
     → node ≡ get_or nodes to.node node
     → (found : Option Portion) → IfNone found (LacksShapePortion node.shape to.place)
     → IfNone found (LacksPortion nodes to)

@@ -9,8 +9,8 @@ use Rattle.command_line.specs.declared.ask.Ask.{Ask}
 use Rattle.fault_report.specs.declared.again.Again.{Again}
 use Rattle.fault_report.specs.declared.cause.Fault.{Fault}
 use Rattle.fault_report.specs.declared.scene.Scene.{Scene}
-use Rattle.fault_report.specs.declared.way.Found.{Found}
-use Rattle.fault_report.specs.declared.way.Step.{Step}
+use Rattle.fault_report.specs.declared.way.FoundPart.{FoundPart}
+use Rattle.fault_report.specs.declared.way.WayStep.{WayStep}
 use Rattle.fault_report.specs.declared.way.Walked.{Walked}
 use Rattle.fault_report.specs.declared.way.Way.{Way}
 use Rattle.fault_report.specs.Meant.{IsFaultAt, IsUnfound}
@@ -21,14 +21,14 @@ abbrev pub scene_type : Scene → PokeType
 scene_type scene = type_of scene.nodes.now scene.root
 
 -- the places of steps, and those of a way's
-abbrev pub places_of : List Step → List ℕ
+abbrev pub places_of : List WayStep → List ℕ
 places_of steps = map (λ step. step.place) steps
 
 abbrev pub way_places : Way → List ℕ
 way_places way = places_of way.steps.items
 
 -- what was found at the end of a way is a part of the type at a place of the table, with the path to it
-abbrev pub IsPartOf : List Node → (root : ℕ) → Way → Found → Type 0
+abbrev pub IsPartOf : List Node → (root : ℕ) → Way → FoundPart → Type 0
 IsPartOf nodes root way part = IsWayTo (type_of nodes root) (way_places way) part.path.items (type_of nodes part.node)
 
 -- what was reached by places is a part of the type at a place of the table, with the steps to it

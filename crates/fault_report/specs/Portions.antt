@@ -11,7 +11,7 @@ use Rattle.text_output.specs.Brackets.{in_brackets}
 use Rattle.fault_report.specs.declared.way.Joint.{Joint}
 use Rattle.fault_report.specs.declared.way.Joint.TheVariants.{Element, Named, Nameless}
 use Rattle.fault_report.specs.declared.way.Portion.{Portion}
-use Rattle.fault_report.specs.declared.way.Step.{Step}
+use Rattle.fault_report.specs.declared.way.WayStep.{WayStep}
 use Rattle.fault_report.specs.Ways.{TypePart, field_at, alternative_at, part_at, step_text}
 
 -- the name of a part
@@ -47,7 +47,7 @@ pub record IsPartPortion (parts : List Part) (place : ℕ) (p : Portion) : Type 
   pub below : (i : ℕ) → PartsBelow i parts → p.node < i
 
 -- the part to which a step leads from its node
-pub record IsPortion (nodes : List Node) (to : Step) (p : Portion) : Type 0 where
+pub record IsPortion (nodes : List Node) (to : WayStep) (p : Portion) : Type 0 where
   pub part : part_at (type_of nodes to.node) to.place ≡ Some (typed (type_of nodes) p)
   pub step : step_text (type_of nodes to.node) (joint_name p.joint) to.place ≡ joint_text p.joint to.place
   pub inside : p.node < length nodes
@@ -63,5 +63,5 @@ abbrev pub LacksShapePortion : Shape → (place : ℕ) → Type 0
 LacksShapePortion s place = (at : ℕ → PokeType) → part_at (open_shape at s) place ≡ None
 
 -- a step leads from its node to no part
-abbrev pub LacksPortion : List Node → Step → Type 0
+abbrev pub LacksPortion : List Node → WayStep → Type 0
 LacksPortion nodes to = to.node < length nodes → part_at (type_of nodes to.node) to.place ≡ None

@@ -8,7 +8,7 @@ use crate::blame::lead;
 use crate::cause::{Cause, Lead};
 use crate::seen::Seen;
 use crate::watcher::Told;
-use crate::way::Step;
+use crate::way::WayStep;
 use pickle_map::extent::Extent;
 use pickle_map::mapper::stop::Stop;
 use pickle_map::mapper::watch::{Clause, Watch};
@@ -25,7 +25,7 @@ const MOST_LEADS: usize = 2;
 pub struct Approach<'t> {
     alloc: Global,
     /// The steps to the part.
-    steps: &'t [Step],
+    steps: &'t [WayStep],
     /// How many of them have been gone.
     gone: usize,
     /// Whether the part itself is watched.
@@ -52,7 +52,7 @@ impl<'t> Approach<'t> {
     pub fn new(
         alloc: Global,
         nodes: &'t [Node],
-        steps: &'t [Step],
+        steps: &'t [WayStep],
         is_watched: bool,
     ) -> Approach<'t> {
         Approach {

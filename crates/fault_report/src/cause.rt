@@ -168,7 +168,7 @@ pub struct Miss {
 
 /// An array without a bound that a fault of an element ended.
 #[derive(Drop)]
-pub struct Ended {
+pub struct EndedArray {
     /// Its number, counted from 0.
     pub number: usize,
     /// The path to the array.

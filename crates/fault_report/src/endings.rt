@@ -1,6 +1,6 @@
 //! The arrays that ended early.
 
-use crate::cause::Ended;
+use crate::cause::EndedArray;
 use std::alloc::{AllocError, Global};
 
 /// The most arrays that are printed because they ended early.
@@ -10,7 +10,7 @@ const MOST_ENDED: usize = 16;
 #[derive(Drop)]
 pub struct Endings {
     /// The last of them, which are printed.
-    pub last: Vec<Ended>,
+    pub last: Vec<EndedArray>,
     /// How many there are in all.
     pub count: usize,
 }
@@ -25,12 +25,12 @@ impl Endings {
     }
 
     /// Adds an array, and gives it the next number.
-    pub fn add(&mut self, ended: Ended) -> Result<(), AllocError> {
+    pub fn add(&mut self, ended: EndedArray) -> Result<(), AllocError> {
         if MOST_ENDED <= self.last.len() {
             let _first = self.last.remove(0);
         }
         let number = self.count;
-        self.last.push(Ended { number, ..ended })?;
+        self.last.push(EndedArray { number, ..ended })?;
         self.count = self.count.saturating_add(1);
         Ok(())
     }

@@ -1,7 +1,7 @@
 //! The fields in front of a part, with their values.
 
 use crate::flat::say_value;
-use crate::way::Step;
+use crate::way::WayStep;
 use pickle_map::{Store, ValueRef};
 use pickle_source::text::Text;
 use pickle_types::view::{Field, Name, Node, Part, Shape};
@@ -24,7 +24,7 @@ pub fn front(
     alloc: Global,
     nodes: &[Node],
     store: &Store,
-    steps: &[Step],
+    steps: &[WayStep],
     inner: usize,
 ) -> Result<Vec<Vec<u8>>, AllocError> {
     let frames = Frames {

@@ -6,11 +6,11 @@ ghost use Rattle.fault_report.specs.Found.{scene_type, way_places};
 ghost use Rattle.fault_report.specs.Why.{ShowsPart, TellsArray, TellsArrays, planned_ending};
 
 use crate::again::Kept;
-use crate::cause::{Blamed, Cause, Ended, Fault, Lead, Miss, Misses, Said};
+use crate::cause::{Blamed, Cause, EndedArray, Fault, Lead, Miss, Misses, Said};
 use crate::endings::Endings;
 use crate::place::say_bit;
 use crate::scene::{Scene, purpose_of};
-use crate::way::{Found, Way};
+use crate::way::{FoundPart, Way};
 use bit_space::Order;
 use itoa::Buffer;
 use pickle_map::MapFaultKind;
@@ -58,7 +58,7 @@ pub fn laid(
 }
 
 /// What is printed of a part with a fault, after its path.
-fn about(scene: &Scene<'_, '_>, fault: &Fault, found: &Found) -> Result<Text, AllocError>
+fn about(scene: &Scene<'_, '_>, fault: &Fault, found: &FoundPart) -> Result<Text, AllocError>
     requires table { IsTable scene.now.nodes.now }
     requires root { scene.now.root < length scene.now.nodes.now }
 {
@@ -79,7 +79,7 @@ fn say_cause(
     scene: &Scene<'_, '_>,
     text: Text,
     fault: &Fault,
-    found: &Found,
+    found: &FoundPart,
 ) -> Result<Text, AllocError>
     requires table { IsTable scene.now.nodes.now }
     requires root { scene.now.root < length scene.now.nodes.now }
@@ -265,7 +265,12 @@ fn say_outgrown(
 }
 
 /// Adds a line on a part that is cut off by the end of the file to the text.
-fn say_end(scene: &Scene<'_, '_>, text: Text, found: &Found, at: u128) -> Result<Text, AllocError> {
+fn say_end(
+    scene: &Scene<'_, '_>,
+    text: Text,
+    found: &FoundPart,
+    at: u128,
+) -> Result<Text, AllocError> {
     let bits = u128::from(scene.bits);
     if bits < at {
         let text = say_length(text.say(b"  it starts ")?, at.saturating_sub(bits))?;
@@ -322,7 +327,7 @@ fn say_count(text: Text, count: u128) -> Result<Text, AllocError> {
 fn say_misses(
     scene: &Scene<'_, '_>,
     text: Text,
-    found: &Found,
+    found: &FoundPart,
     misses: &Misses,
 ) -> Result<Text, AllocError>
     requires table { IsTable scene.now.nodes.now }
@@ -462,7 +467,7 @@ fn array_count(scene: &Scene<'_, '_>, count: usize) -> Result<Vec<u8>, AllocErro
 }
 
 /// The line on an array. Empty if the type has no such parts.
-fn array_line(scene: &Scene<'_, '_>, ended: &Ended) -> Result<Text, AllocError>
+fn array_line(scene: &Scene<'_, '_>, ended: &EndedArray) -> Result<Text, AllocError>
     requires table { IsTable scene.now.nodes.now }
     requires root { scene.now.root < length scene.now.nodes.now }
     ensures array { IfOk result (λ text. TellsArray (scene_type scene.now) text.bytes.items) }
@@ -485,7 +490,11 @@ fn array_line(scene: &Scene<'_, '_>, ended: &Ended) -> Result<Text, AllocError>
 }
 
 /// What is printed of an array, after its path: how many elements it has, and the fault that ended it.
-fn ending(scene: &Scene<'_, '_>, ended: &Ended, found: &Found) -> Result<Text, AllocError> {
+fn ending(
+    scene: &Scene<'_, '_>,
+    ended: &EndedArray,
+    found: &FoundPart,
+) -> Result<Text, AllocError> {
     let text = Text::new(scene.alloc).say_number(ended.count)?.say(b": ")?;
     let text = scene.say_stop(text, ended.stop, &ended.way, found)?;
     text.say(b"\n")

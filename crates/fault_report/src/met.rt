@@ -3,7 +3,7 @@
 use crate::cause::{Cause, Fault};
 use crate::indent::{Indented, digits_of};
 use crate::mapping::TypeMapping;
-use crate::way::{Joint, Step, part_of, say_element};
+use crate::way::{Joint, WayStep, part_of, say_element};
 use pickle_map::mapper::stop::Stop;
 use pickle_map::{Store, ValueRef};
 use pickle_source::text::Text;
@@ -121,7 +121,7 @@ impl Stopped<'_> {
     }
 
     /// The name of the part to which a step leads, with a blank before it.
-    fn part_cell(self, step: Step) -> Result<Vec<u8>, AllocError> {
+    fn part_cell(self, step: WayStep) -> Result<Vec<u8>, AllocError> {
         let text = Text::new(self.alloc);
         let text = match part_of(self.types.nodes(), step) {
             Some(part) => match part.joint {
@@ -135,7 +135,7 @@ impl Stopped<'_> {
     }
 
     /// The step that leads to the value at a depth.
-    fn step_to(self, depth: usize) -> Option<Step> {
+    fn step_to(self, depth: usize) -> Option<WayStep> {
         self.fault.way.steps().get(depth.checked_sub(1)?).copied()
     }
 
@@ -204,7 +204,7 @@ impl Stopped<'_> {
         depth: usize,
     ) -> Result<Text, AllocError> {
         let nodes = self.types.nodes();
-        let step = Step {
+        let step = WayStep {
             node: frame.node,
             place,
         };

@@ -7,11 +7,11 @@ ghost use Rattle.fault_report.specs.Ways.{LacksPart};
 
 use crate::cause::{Blamed, Said};
 use crate::place::say_bit;
-use crate::way::{Found, Way};
+use crate::way::{FoundPart, Way};
 use pickle_map::mapper::stop::Stop;
 use pickle_map::mapper::watch::Clause;
 use pickle_source::excerpt::excerpt;
-use pickle_source::script::{Part, Script};
+use pickle_source::script::{Script, TokenRange};
 use pickle_source::site::{Purpose, Site};
 use pickle_source::text::Text;
 use pickle_types::view::{Node, Shape};
@@ -35,7 +35,7 @@ pub struct Scene<'p, 't> {
 
 impl<'p, 't> Scene<'p, 't> {
     /// The part of the type to which a way leads, with its path. `None` if there is no such part.
-    pub fn find(&self, way: &Way) -> Result<Option<Found>, AllocError>
+    pub fn find(&self, way: &Way) -> Result<Option<FoundPart>, AllocError>
         requires table { IsTable self.now.nodes.now }
         requires root { self.now.root < length self.now.nodes.now }
         ensures way { IfOk result (λ found. IfSome found (IsPartOf self.now.nodes.now self.now.root way.now)) }
@@ -81,7 +81,7 @@ impl<'p, 't> Scene<'p, 't> {
         text: Text,
         stop: Stop,
         way: &Way,
-        found: &Found,
+        found: &FoundPart,
     ) -> Result<Text, AllocError> {
         let text = match stop {
             Stop::Fault(kind, at) => self.say_at(text.say(kind.name().as_bytes())?, at)?,
@@ -114,7 +114,7 @@ impl<'p, 't> Scene<'p, 't> {
     }
 
     /// An expression of a part in the pickle. `None` if the part has no such expression.
-    fn clause(&self, way: &Way, purpose: Purpose) -> Result<Option<Part>, AllocError> {
+    fn clause(&self, way: &Way, purpose: Purpose) -> Result<Option<TokenRange>, AllocError> {
         match self.site(way)? {
             Some(site) => Ok(site.clause(&self.script, purpose)),
             None => Ok(None),
@@ -160,7 +160,7 @@ pub fn purpose_of(clause: Clause) -> Purpose {
 }
 
 /// Whether a number among some tokens is written in base sixteen.
-fn is_hexadecimal(script: &Script<'_>, part: Part) -> bool {
+fn is_hexadecimal(script: &Script<'_>, part: TokenRange) -> bool {
     for token in part.first..part.end {
         if script.is_number(token) && matches!(script.text(token), [b'0', b'x' | b'X', ..]) {
             return true;

@@ -5,7 +5,7 @@ ghost use Rattle.pickle_types.specs.Table.{term_of};
 
 use crate::flat::Base;
 use crate::trail::Trail;
-use crate::way::{Joint, Portion, Step, part_of, say_element};
+use crate::way::{Joint, Portion, WayStep, part_of, say_element};
 use pickle_map::Store;
 use pickle_map::known::{Known, known_value};
 use pickle_map::mapper::watch::Clause;
@@ -116,7 +116,7 @@ impl<'a> Seen<'a> {
         } else {
             place
         };
-        let step = Step {
+        let step = WayStep {
             node: level.node,
             place,
         };
@@ -136,7 +136,7 @@ impl<'a> Seen<'a> {
 
     fn select(self, called: Called, place: usize) -> Result<Option<Called>, AllocError> {
         let Called { text, node } = called;
-        match part_of(self.table, Step { node, place }) {
+        match part_of(self.table, WayStep { node, place }) {
             Some(
                 Portion {
                     joint: Joint::Named(name),
@@ -155,7 +155,7 @@ impl<'a> Seen<'a> {
         let Ok(place) = u64::try_from(place) else {
             return Ok(None);
         };
-        match part_of(self.table, Step { node, place: 0 }) {
+        match part_of(self.table, WayStep { node, place: 0 }) {
             Some(part) => Ok(Some(Called {
                 text: say_element(text, place)?,
                 node: part.node,

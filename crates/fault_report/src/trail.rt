@@ -1,6 +1,6 @@
 //! The arrays, structs and unions that a walk is in, the outermost first.
 
-use crate::way::{Step, Way};
+use crate::way::{Way, WayStep};
 use std::alloc::{AllocError, Global};
 
 /// An array, struct, union or integral struct that the walk is in.
@@ -74,7 +74,7 @@ impl Trail {
     }
 
     /// Goes into the node where a step starts, to the part to which the step leads.
-    pub fn go(&mut self, step: Step) -> Result<(), AllocError> {
+    pub fn go(&mut self, step: WayStep) -> Result<(), AllocError> {
         self.levels.push(Level {
             node: step.node,
             begun: step.place.saturating_add(1),
@@ -115,7 +115,7 @@ fn way_along(alloc: Global, levels: &[Level]) -> Result<Way, AllocError> {
     let mut way = Way::new(alloc);
     for level in levels {
         if let Some(place) = level.begun.checked_sub(1) {
-            way.go(Step {
+            way.go(WayStep {
                 node: level.node,
                 place,
             })?;

@@ -7,11 +7,11 @@ ghost use Rattle.pickle_types.specs.Table.{term_of};
 
 use crate::again::Kept;
 use crate::blame::blamed;
-use crate::cause::{Cause, Ended, Fault, Miss, Misses};
+use crate::cause::{Cause, EndedArray, Fault, Miss, Misses};
 use crate::endings::Endings;
 use crate::seen::Seen;
 use crate::trail::{Counts, Trail};
-use crate::way::{Step, is_array};
+use crate::way::{WayStep, is_array};
 use pickle_map::Store;
 use pickle_map::extent::Extent;
 use pickle_map::mapper::stop::Stop;
@@ -77,7 +77,7 @@ impl<'t> Told<'t> {
 
     /// Goes along a step, to a part in which the walk begins. From there on it looks at the expressions of alternatives
     /// that don't match, except in arrays.
-    pub fn go(&mut self, step: Step) {
+    pub fn go(&mut self, step: WayStep) {
         let gone = self.trail.go(step);
         self.note(gone);
         self.near = Some(self.trail.depth());
@@ -251,7 +251,7 @@ impl<'t> Told<'t> {
         };
         let array = self.trail.way_to_innermost(self.alloc)?;
         let is_planned = self.is_planned(&fault, array.steps().len().saturating_add(1));
-        let ended = Ended {
+        let ended = EndedArray {
             number: 0,
             array,
             count: begun.saturating_sub(1),

@@ -10,14 +10,14 @@ ghost use Rattle.fault_report.specs.Portions.{IsPortion, IsShapePortion, IsField
 ghost use Rattle.fault_report.specs.Portions.{LacksPortion, LacksShapePortion, LacksField, LacksAlternative};
 ghost use Rattle.fault_report.specs.Ways.{LacksPart};
 
-use pickle_source::site;
+use pickle_source::site::SourceStep;
 use pickle_source::text::Text;
 use pickle_types::view::{Field, Name, Node, Part, Shape};
 use std::alloc::{AllocError, Global};
 
 /// A step from an array, struct, union or integral struct to one of its parts.
 #[derive(Clone, Copy, Debug, PartialEq, Eq)]
-pub struct Step {
+pub struct WayStep {
     /// The place in the table of the node where the step starts.
     pub node: usize,
     /// The place of the part, counted from 0: a field or alternative among the declared ones, an element in its array.
@@ -27,7 +27,7 @@ pub struct Step {
 /// The steps from a type to a part of it. Without steps it is the way to the type itself.
 #[derive(Drop)]
 pub struct Way {
-    steps: Vec<Step>,
+    steps: Vec<WayStep>,
 }
 
 /// How a part is found in what it is a part of.
@@ -49,7 +49,7 @@ pub struct Portion<'n> {
 
 /// A part of a type, and the path to it.
 #[derive(Drop)]
-pub struct Found {
+pub struct FoundPart {
     pub path: Vec<u8>,
     /// The place of its type in the table.
     pub node: usize,
@@ -84,7 +84,7 @@ impl Way {
         let mut way = Way::new(alloc);
         let mut at = root;
         for place in places {
-            let step = Step {
+            let step = WayStep {
                 node: at,
                 place: *place,
             };
@@ -97,7 +97,7 @@ impl Way {
     }
 
     /// Adds a step at the end.
-    pub fn go(&mut self, step: Step) -> Result<(), AllocError>
+    pub fn go(&mut self, step: WayStep) -> Result<(), AllocError>
         ensures { IfOk result (λ _. way_places self.new ≡ way_places self.old ++ step.place ∷ []) }
     {
         self.steps.push(step)?;
@@ -105,7 +105,7 @@ impl Way {
     }
 
     /// Its steps.
-    pub fn steps(&self) -> &[Step] {
+    pub fn steps(&self) -> &[WayStep] {
         self.steps.as_slice()
     }
 
@@ -129,7 +129,7 @@ impl Way {
     }
 
     /// The steps that find the site of the part in the pickle.
-    pub fn to_site(&self, alloc: Global, nodes: &[Node]) -> Result<Vec<site::Step>, AllocError> {
+    pub fn to_site(&self, alloc: Global, nodes: &[Node]) -> Result<Vec<SourceStep>, AllocError> {
         let mut steps = Vec::new(alloc);
         for step in self.steps.as_slice() {
             steps.push(site_step(nodes, *step))?;
@@ -144,14 +144,14 @@ impl Way {
         alloc: Global,
         nodes: &[Node],
         root: usize,
-    ) -> Result<Option<Found>, AllocError>
+    ) -> Result<Option<FoundPart>, AllocError>
         requires table { IsTable nodes.now }
         requires root { root < length nodes.now }
         ensures way { IfOk result (λ found. IfSome found (IsPartOf nodes.now root self.now)) }
         ensures lacks { IfOk result (λ found. IfNone found (LacksPart (type_of nodes.now root) (way_places self.now))) }
     {
         match walk(alloc, nodes, root, self.steps.as_slice())? {
-            Some(walked) => Ok(Some(Found {
+            Some(walked) => Ok(Some(FoundPart {
                 path: whole_path(alloc, walked.text.into_bytes())?,
                 node: walked.node,
             })),
@@ -190,7 +190,7 @@ fn walk(
     alloc: Global,
     nodes: &[Node],
     root: usize,
-    steps: &[Step],
+    steps: &[WayStep],
 ) -> Result<Option<Walked>, AllocError>
     requires table { IsTable nodes.now }
     requires root { root < length nodes.now }
@@ -201,7 +201,7 @@ fn walk(
     let mut node = root;
     for step in steps {
         let place = step.place;
-        match part_of(nodes, Step { node, place }) {
+        match part_of(nodes, WayStep { node, place }) {
             Some(part) => {
                 text = say_joint(text, part.joint, place)?;
                 node = part.node;
@@ -213,7 +213,7 @@ fn walk(
 }
 
 /// The part to which a step leads. `None` if there is no such part.
-pub fn part_of(nodes: &[Node], step: Step) -> Option<Portion<'_>>
+pub fn part_of(nodes: &[Node], step: WayStep) -> Option<Portion<'_>>
     ensures is { IsTable nodes.now → IfSome result (IsPortion nodes.now step) }
     ensures lacks { IsTable nodes.now → IfNone result (LacksPortion nodes.now step) }
 {
@@ -284,11 +284,11 @@ pub fn is_array(nodes: &[Node], at: usize) -> bool {
     }
 }
 
-fn site_step(nodes: &[Node], step: Step) -> site::Step {
+fn site_step(nodes: &[Node], step: WayStep) -> SourceStep {
     if is_array(nodes, step.node) {
-        site::Step::Element
+        SourceStep::Element
     } else {
-        site::Step::Field(step.place)
+        SourceStep::Field(step.place)
     }
 }
 

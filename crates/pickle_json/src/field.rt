@@ -7,7 +7,7 @@ ghost use Rattle.pickle_json.specs.Fields.{name_start, field_json};
 
 use crate::member::{put_number, put_string, put_text};
 use pickle_source::anatomy::{bound, field_parts};
-use pickle_source::script::{Part, Script};
+use pickle_source::script::{Script, TokenRange};
 use std::io::Write;
 use text_output::write::{WriteFault, put};
 
@@ -30,7 +30,7 @@ pub struct FieldTexts<'t> {
 
 impl<'t> FieldTexts<'t> {
     /// The texts of the field that some tokens are, without its `;`.
-    pub fn of(script: &Script<'t>, whole: Part, width: Option<u64>) -> FieldTexts<'t> {
+    pub fn of(script: &Script<'t>, whole: TokenRange, width: Option<u64>) -> FieldTexts<'t> {
         let parts = field_parts(script, whole);
         FieldTexts {
             name: script.slice(parts.name),

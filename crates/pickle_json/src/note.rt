@@ -6,8 +6,8 @@ ghost use Rattle.text_output.specs.Written.{AppendsPart};
 ghost use Rattle.pickle_json.specs.Notes.{left_in_line, end_column, help_of, note_members, place_members};
 
 use crate::member::{put_count, put_number, put_string, put_text};
+use pickle_source::line_column::{LineColumn, place_behind};
 use pickle_source::note::Note;
-use pickle_source::place::{Place, place_behind};
 use std::io::Write;
 use text_output::write::WriteFault;
 
@@ -28,7 +28,7 @@ pub fn put_note<W: Write>(w: &mut W, pickle: &[u8], note: &Note) -> Result<(), W
 #[tactic(auto, using(text_output::proofs::Parts::written))]
 fn put_placed<W: Write>(
     w: &mut W,
-    place: Place,
+    place: LineColumn,
     marked: usize,
     text: &[u8],
     help: &[u8],

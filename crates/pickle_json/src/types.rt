@@ -12,7 +12,7 @@ ghost use Rattle.pickle_json.specs.TypeObjects.{TypesInJson, WritesObject, Write
 use crate::field::FieldTexts;
 use crate::member::{put_number, put_string};
 use pickle_source::anatomy::{braces, statement};
-use pickle_source::script::{Part, Script};
+use pickle_source::script::{Script, TokenRange};
 use pickle_types::declared_types::{DeclaredType, TypeKind};
 use pickle_types::table::Table;
 use pickle_types::view::{Node, Shape, part_node};
@@ -71,7 +71,7 @@ fn put_type<W: Write>(
     script: &Script<'_>,
     table: &Table,
     told: &DeclaredType<'_>,
-    whole: Part,
+    whole: TokenRange,
 ) -> Result<(), WriteFault>
     ensures ok { OnOk result (WritesObject (told_of told.now) (W.contents w.old) (W.contents w.new)) }
     ensures err { OnErr result (WritesObjectPart (told_of told.now) (W.contents w.old) (W.contents w.new)) }
@@ -123,7 +123,7 @@ fn put_declared<W: Write>(
     script: &Script<'_>,
     table: &Table,
     told: &DeclaredType<'_>,
-    whole: Part,
+    whole: TokenRange,
 ) -> Result<(), WriteFault>
     ensures ok { OnOk result (WritesMember (W.contents w.old) (W.contents w.new)) }
     ensures err { OnErr result (WritesMemberPart (W.contents w.old) (W.contents w.new)) }
@@ -135,8 +135,8 @@ fn put_declared<W: Write>(
 }
 
 // The tokens between the braces of a declared struct or union.
-fn fields_of(script: &Script<'_>, kind: TypeKind, whole: Part) -> Option<Part> {
-    let form = Part {
+fn fields_of(script: &Script<'_>, kind: TypeKind, whole: TokenRange) -> Option<TokenRange> {
+    let form = TokenRange {
         first: whole.first.saturating_add(3),
         end: whole.end,
     };
@@ -150,7 +150,7 @@ fn fields_of(script: &Script<'_>, kind: TypeKind, whole: Part) -> Option<Part> {
 fn put_fields<W: Write>(
     w: &mut W,
     script: &Script<'_>,
-    inside: Part,
+    inside: TokenRange,
     nodes: &[Node],
     of: usize,
 ) -> Result<(), WriteFault>
@@ -167,7 +167,7 @@ fn put_fields<W: Write>(
 fn put_each<W: Write>(
     w: &mut W,
     script: &Script<'_>,
-    inside: Part,
+    inside: TokenRange,
     nodes: &[Node],
     of: usize,
 ) -> Result<(), WriteFault>

@@ -4,8 +4,8 @@ use crate::located::Located;
 use crate::offsets::Mixed;
 use crate::sorts::say_type;
 use crate::types::{name_of, rule_finding, unknown_type};
-use pickle_source::nodes::{Node, is_path, token_count};
-use pickle_source::script::{Part, Script, cut};
+use pickle_source::expressions::{PlacedExpression, is_path, token_count};
+use pickle_source::script::{Script, TokenRange, cut};
 use pickle_source::site::Purpose;
 use pickle_source::text::Text;
 use pickle_syntax::token::Attribute;
@@ -17,7 +17,7 @@ use std::alloc::{AllocError, Global};
 /// A sentence about some tokens.
 #[derive(Drop)]
 pub struct Finding {
-    pub part: Part,
+    pub part: TokenRange,
     pub sentence: Vec<u8>,
     pub help: Option<Vec<u8>>,
 }
@@ -29,7 +29,7 @@ pub struct Declared<'a, 't> {
     pub script: &'a Script<'t>,
     pub refused: &'a Refused<'t>,
     /// The declaration from its `type` on, without its `;`.
-    pub whole: Part,
+    pub whole: TokenRange,
     pub located: Located<'a, 't>,
 }
 
@@ -40,17 +40,17 @@ impl Declared<'_, '_> {
     }
 
     /// The name that is declared.
-    pub fn name(self) -> Part {
-        Part::single(self.whole.first.saturating_add(1))
+    pub fn name(self) -> TokenRange {
+        TokenRange::single(self.whole.first.saturating_add(1))
     }
 }
 
 /// An expression that is refused, the types of its operands, and the clause that it is in.
 #[derive(Clone, Copy)]
-pub struct Place<'a, 't> {
+pub struct IllTypedExpression<'a, 't> {
     pub declared: Declared<'a, 't>,
-    pub clause: Part,
-    pub part: Part,
+    pub clause: TokenRange,
+    pub part: TokenRange,
     pub types: OperandTypes,
 }
 
@@ -58,17 +58,17 @@ pub struct Place<'a, 't> {
 pub fn clause_finding(
     declared: Declared<'_, '_>,
     purpose: Purpose,
-    clause: Part,
+    clause: TokenRange,
     expression: &Expression<'_>,
 ) -> Result<Finding, AllocError> {
-    let node = Node {
+    let node = PlacedExpression {
         expression,
         first: clause.first,
     };
     match &declared.refused.site().expression {
         RefusedExpression::Operand(trail, types) => {
             let node = node.operand_at(trail.numbers());
-            let place = Place {
+            let place = IllTypedExpression {
                 declared,
                 clause,
                 part: node.part(),
@@ -85,7 +85,7 @@ pub fn clause_finding(
 fn whole(
     declared: Declared<'_, '_>,
     purpose: Purpose,
-    part: Part,
+    part: TokenRange,
     found: OperandType,
 ) -> Result<Finding, AllocError> {
     let (alloc, script) = (declared.alloc, declared.script);
@@ -113,7 +113,7 @@ fn whole(
 }
 
 /// What to write for an integer as a label. A `B` at the end of a hexadecimal number is a digit, where a unit may be meant.
-fn label_help(alloc: Global, script: &Script<'_>, part: Part) -> Result<Text, AllocError> {
+fn label_help(alloc: Global, script: &Script<'_>, part: TokenRange) -> Result<Text, AllocError> {
     let written = script.slice(part);
     let text = Text::new(alloc).say(b"write it with a unit, as ")?;
     match written {
@@ -128,14 +128,22 @@ fn label_help(alloc: Global, script: &Script<'_>, part: Part) -> Result<Text, Al
 }
 
 /// An integer with the unit of bytes after it.
-pub fn with_unit(alloc: Global, script: &Script<'_>, part: Part) -> Result<Vec<u8>, AllocError> {
+pub fn with_unit(
+    alloc: Global,
+    script: &Script<'_>,
+    part: TokenRange,
+) -> Result<Vec<u8>, AllocError> {
     let mut text = grouped(alloc, script, part)?;
     text.extend_from_slice(b"#B")?;
     Ok(text)
 }
 
 /// An operand as it is written, in brackets where it has operators outside of any.
-pub fn grouped(alloc: Global, script: &Script<'_>, part: Part) -> Result<Vec<u8>, AllocError> {
+pub fn grouped(
+    alloc: Global,
+    script: &Script<'_>,
+    part: TokenRange,
+) -> Result<Vec<u8>, AllocError> {
     let expression = script.slice(part);
     let text = Text::new(alloc);
     let text = if has_operator(script, part) {
@@ -147,7 +155,7 @@ pub fn grouped(alloc: Global, script: &Script<'_>, part: Part) -> Result<Vec<u8>
 }
 
 /// Whether some tokens have an operator outside of brackets.
-fn has_operator(script: &Script<'_>, part: Part) -> bool {
+fn has_operator(script: &Script<'_>, part: TokenRange) -> bool {
     let mut depth: usize = 0;
     for token in part.first..part.end {
         match script.text(token) {
@@ -171,14 +179,14 @@ fn is_operator(token: &[u8]) -> bool {
 /// The tokens of an operator between two operands.
 #[derive(Clone, Copy)]
 pub struct Operands {
-    pub left: Part,
-    pub sign: Part,
-    pub right: Part,
+    pub left: TokenRange,
+    pub sign: TokenRange,
+    pub right: TokenRange,
 }
 
-impl<'a, 't> Place<'a, 't> {
+impl<'a, 't> IllTypedExpression<'a, 't> {
     /// What is wrong with an expression whose operands have no fault.
-    fn of_node(self, node: Node<'_, '_>) -> Result<Finding, AllocError> {
+    fn of_node(self, node: PlacedExpression<'_, '_>) -> Result<Finding, AllocError> {
         match node.expression {
             Expression::Name(word) => self.unknown_name(word),
             Expression::Infix(operation) => self.infix(operation),
@@ -224,7 +232,7 @@ impl<'a, 't> Place<'a, 't> {
     /// A sentence about some tokens.
     pub fn finding(
         self,
-        part: Part,
+        part: TokenRange,
         text: Text,
         help: Option<Text>,
     ) -> Result<Finding, AllocError> {
@@ -239,17 +247,17 @@ impl<'a, 't> Place<'a, 't> {
     }
 
     /// `count` tokens, the first of them `behind` tokens after this expression's first.
-    fn tokens(self, behind: usize, count: usize) -> Part {
+    fn tokens(self, behind: usize, count: usize) -> TokenRange {
         let first = self.part.first.saturating_add(behind);
-        Part {
+        TokenRange {
             first,
             end: first.saturating_add(count),
         }
     }
 
     /// The tokens from the one `behind` tokens after the first on, up to the expression's end.
-    fn rest(self, behind: usize) -> Part {
-        Part {
+    fn rest(self, behind: usize) -> TokenRange {
+        TokenRange {
             first: self.part.first.saturating_add(behind),
             end: self.part.end,
         }
@@ -360,7 +368,7 @@ impl<'a, 't> Place<'a, 't> {
         } = self.types;
         if array == Some(OperandType::Array) {
             let inner = self.rest(count.saturating_add(1));
-            let part = Part {
+            let part = TokenRange {
                 first: inner.first,
                 end: inner.end.saturating_sub(1),
             };
@@ -423,20 +431,20 @@ impl<'a, 't> Place<'a, 't> {
     fn operand_is(
         self,
         text: Text,
-        operand: Part,
+        operand: TokenRange,
         help: Option<Text>,
     ) -> Result<Finding, AllocError> {
         let text = text.quote(self.script().slice(operand))?.say(b" is ")?;
         let text = say_type(text, self.operand_type())?;
-        let suffix = Part {
+        let suffix = TokenRange {
             first: operand.end,
             end: self.part.end,
         };
         self.finding(suffix, text, help)
     }
 
-    fn conversion(self, operand: Part) -> Result<Finding, AllocError> {
-        let target = Part {
+    fn conversion(self, operand: TokenRange) -> Result<Finding, AllocError> {
+        let target = TokenRange {
             first: operand.end.saturating_add(1),
             end: self.part.end,
         };

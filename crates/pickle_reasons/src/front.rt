@@ -1,7 +1,7 @@
 //! The start of a pickle up to a token, and what may follow it, which the parser decides.
 
 use pickle_source::budget::Budget;
-use pickle_source::script::{Part, Script};
+use pickle_source::script::{Script, TokenRange};
 use pickle_source::text::Text;
 use run_parts::accept::{Refusal, read_syntax};
 use std::alloc::{AllocError, Global};
@@ -64,7 +64,11 @@ impl<'b> Front<'b> {
 }
 
 /// The heads of the structs and unions that a token is in, and the start of the field with the token.
-fn open_parts(alloc: Global, script: &Script<'_>, token: usize) -> Result<Vec<Part>, AllocError> {
+fn open_parts(
+    alloc: Global,
+    script: &Script<'_>,
+    token: usize,
+) -> Result<Vec<TokenRange>, AllocError> {
     let levels = open_levels(alloc, script, token)?;
     let mut parts = Vec::new(alloc);
     for (place, level) in levels.iter().enumerate() {
@@ -73,7 +77,7 @@ fn open_parts(alloc: Global, script: &Script<'_>, token: usize) -> Result<Vec<Pa
             None => token,
         };
         if level.first < end {
-            parts.push(Part {
+            parts.push(TokenRange {
                 first: level.first,
                 end,
             })?;

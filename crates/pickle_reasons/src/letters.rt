@@ -1,8 +1,8 @@
 //! A text in quotes that is compared with an array or with a number.
 
-use crate::clause::{Operands, Place};
+use crate::clause::{IllTypedExpression, Operands};
 use crate::lexical::say_hexadecimal;
-use pickle_source::script::{Part, Script, cut};
+use pickle_source::script::{Script, TokenRange, cut};
 use pickle_source::text::Text;
 use pickle_types::refused::{OperandType, OperandTypes};
 use std::alloc::AllocError;
@@ -10,7 +10,7 @@ use std::alloc::AllocError;
 /// The longest text that is written as characters or as a number, in bytes.
 const MOST_LETTERS: usize = 8;
 
-impl<'a, 't> Place<'a, 't> {
+impl<'a, 't> IllTypedExpression<'a, 't> {
     /// What to write instead of a text after `==` or `!=`, where an array or a number of as many bytes stands before it.
     /// `None` for other operands, and for a long text or one with escapes.
     pub fn letters_help(self, operands: Operands) -> Result<Option<Text>, AllocError> {
@@ -60,7 +60,7 @@ impl<'a, 't> Place<'a, 't> {
     }
 
     /// Whether the field of a name is an array of strings.
-    fn has_strings(self, array: Part) -> bool {
+    fn has_strings(self, array: TokenRange) -> bool {
         let script = self.script();
         let word = script.slice(array);
         (self.declared.whole.first..self.clause.first).any(|token| script.text(token) == word

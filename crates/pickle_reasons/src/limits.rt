@@ -2,7 +2,7 @@
 
 use pickle_source::budget::Budget;
 use pickle_source::note::Note;
-use pickle_source::script::{Part, Script};
+use pickle_source::script::{Script, TokenRange};
 use pickle_source::text::Text;
 use run_parts::accept::{Refusal, read_syntax};
 use std::alloc::{AllocError, Global};
@@ -116,9 +116,9 @@ fn declaration_starts(alloc: Global, script: &Script<'_>) -> Result<Vec<usize>, 
 }
 
 /// The tokens of some declarations, counted from 0.
-fn declarations(script: &Script<'_>, starts: &[usize], first: usize, last: usize) -> Part {
+fn declarations(script: &Script<'_>, starts: &[usize], first: usize, last: usize) -> TokenRange {
     let end = starts.get(last.saturating_add(1));
-    Part {
+    TokenRange {
         first: starts.get(first).copied().unwrap_or(script.len()),
         end: end.copied().unwrap_or(script.len()),
     }
@@ -152,7 +152,7 @@ fn deep_declaration(
 fn deep_token_in(
     alloc: Global,
     script: &Script<'_>,
-    declaration: Part,
+    declaration: TokenRange,
     budget: &Budget,
 ) -> Result<usize, AllocError> {
     let mut low = declaration.first;
@@ -162,7 +162,7 @@ fn deep_token_in(
             break;
         }
         let middle = low.saturating_add(high.saturating_sub(low) / 2);
-        let front = Part {
+        let front = TokenRange {
             first: declaration.first,
             end: middle.saturating_add(1),
         };

@@ -1,7 +1,7 @@
 //! The tokens of a declaration that the type checker refuses.
 
 use pickle_source::anatomy::{FieldParts, base, bound, field_at, field_parts, opening_brace};
-use pickle_source::script::{Part, Script};
+use pickle_source::script::{Script, TokenRange};
 use pickle_syntax::tree::{Clauses, Expression, Field, Form};
 use pickle_types::refused::{RefusedPart, Site, TypeStep};
 
@@ -9,7 +9,7 @@ use pickle_types::refused::{RefusedPart, Site, TypeStep};
 #[derive(Clone, Copy)]
 pub struct Located<'p, 't> {
     pub form: &'p Form<'t>,
-    pub tokens: Part,
+    pub tokens: TokenRange,
     pub field: Option<LocatedField<'p, 't>>,
 }
 
@@ -27,7 +27,7 @@ impl<'p, 't> Located<'p, 't> {
     pub fn of(
         script: &Script<'_>,
         form: &'p Form<'t>,
-        tokens: Part,
+        tokens: TokenRange,
         site: &Site,
     ) -> Option<Located<'p, 't>> {
         let mut located = Located {
@@ -81,7 +81,7 @@ impl<'p, 't> Located<'p, 't> {
         self,
         script: &Script<'_>,
         part: RefusedPart,
-    ) -> Option<(Part, &'p Expression<'t>)> {
+    ) -> Option<(TokenRange, &'p Expression<'t>)> {
         if part == RefusedPart::Bound {
             return match self.form {
                 Form::Array(_, Some(e)) => Some((bound(script, self.tokens), e)),

@@ -1,17 +1,17 @@
 //! Fields of earlier fields whose types have declarations of their own.
 
-use crate::clause::Place;
+use crate::clause::IllTypedExpression;
 use crate::names::is_field;
 use crate::types::is_predeclared;
 use pickle_source::anatomy::{opening_brace, statement};
-use pickle_source::script::{Part, Script};
+use pickle_source::script::{Script, TokenRange};
 use pickle_source::text::Text;
 use std::alloc::AllocError;
 
 /// The most types that are looked at.
 const MOST_TYPES: usize = 16;
 
-impl<'a, 't> Place<'a, 't> {
+impl<'a, 't> IllTypedExpression<'a, 't> {
     /// The help for a name that a field of an earlier field has: its path. `visible` has the names of the fields that are
     /// seen. Each type is looked at once.
     pub fn member_help(self, word: &[u8], visible: &[&[u8]]) -> Result<Option<Text>, AllocError> {
@@ -55,7 +55,7 @@ fn has_field(script: &Script<'_>, declared: usize, word: &[u8]) -> bool {
 }
 
 /// Whether a name is that of a field between the outermost braces of a type.
-fn has_outer_field(script: &Script<'_>, form: Part, word: &[u8]) -> bool {
+fn has_outer_field(script: &Script<'_>, form: TokenRange, word: &[u8]) -> bool {
     let mut depth: usize = 0;
     for token in form.first..form.end {
         match script.text(token) {

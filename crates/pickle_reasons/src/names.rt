@@ -1,12 +1,12 @@
 //! Names that an expression doesn't see, and the names that it sees.
 
-use crate::clause::{Finding, Place};
+use crate::clause::{Finding, IllTypedExpression};
 use crate::expected::say_list;
 use crate::sorts::say_type;
 use crate::syntax::opening;
 use crate::types::is_declared_as;
 use pickle_source::near::nearest;
-use pickle_source::script::{Part, Script};
+use pickle_source::script::{Script, TokenRange};
 use pickle_source::text::Text;
 use pickle_types::refused::OperandType;
 use std::alloc::{AllocError, Global};
@@ -47,7 +47,7 @@ fn ends_type(script: &Script<'_>, token: usize) -> bool {
     }
 }
 
-impl<'a, 't> Place<'a, 't> {
+impl<'a, 't> IllTypedExpression<'a, 't> {
     /// The finding for a name that no visible field has.
     pub fn unknown_name(self, word: &[u8]) -> Result<Finding, AllocError> {
         let alloc = self.declared.alloc;
@@ -65,11 +65,11 @@ impl<'a, 't> Place<'a, 't> {
     /// The finding for a name that no field of an operand has. `path` says whether the operand is a path.
     pub fn unknown_field(
         self,
-        operand: Part,
+        operand: TokenRange,
         path: bool,
         word: &[u8],
     ) -> Result<Finding, AllocError> {
-        let name = Part {
+        let name = TokenRange {
             first: operand.end.saturating_add(1),
             end: self.part.end,
         };
@@ -109,8 +109,8 @@ impl<'a, 't> Place<'a, 't> {
     }
 
     /// The tokens of the declaration before the expression.
-    fn before(self) -> Part {
-        Part {
+    fn before(self) -> TokenRange {
+        TokenRange {
             first: self.declared.whole.first,
             end: self.part.first,
         }
@@ -221,7 +221,7 @@ impl<'a, 't> Place<'a, 't> {
     }
 
     /// Adds to the text what the type of an operand is called: the name of its field's type, or the operand itself.
-    fn say_type_name(self, text: Text, operand: Part) -> Result<Text, AllocError> {
+    fn say_type_name(self, text: Text, operand: TokenRange) -> Result<Text, AllocError> {
         match self.type_name(operand) {
             Some(name) => text.show(name),
             None => text.quote(self.script().slice(operand)),
@@ -229,7 +229,7 @@ impl<'a, 't> Place<'a, 't> {
     }
 
     /// The name of the type of the field that an operand names, if it has one.
-    fn type_name(self, operand: Part) -> Option<&'t [u8]> {
+    fn type_name(self, operand: TokenRange) -> Option<&'t [u8]> {
         let word = self.script().slice(operand);
         for back in 1..self.part.first {
             let token = self.part.first - back;

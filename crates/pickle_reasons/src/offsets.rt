@@ -1,7 +1,7 @@
 //! An operator between an offset and an integer, where it wants two offsets or two integers.
 
-use crate::clause::{Place, grouped, with_unit};
-use pickle_source::script::{Part, Script};
+use crate::clause::{IllTypedExpression, grouped, with_unit};
+use pickle_source::script::{Script, TokenRange};
 use pickle_source::text::Text;
 use pickle_syntax::tree::{Expression, Infix};
 use std::alloc::AllocError;
@@ -9,11 +9,11 @@ use std::alloc::AllocError;
 /// An offset and an integer beside an operator, in either order.
 #[derive(Clone, Copy)]
 pub struct Mixed<'e, 't> {
-    pub offset: Part,
+    pub offset: TokenRange,
     /// The bits of the offset's unit.
     pub unit: u32,
-    pub sign: Part,
-    pub integer: Part,
+    pub sign: TokenRange,
+    pub integer: TokenRange,
     pub number: &'e Expression<'t>,
 }
 
@@ -64,7 +64,7 @@ fn multiple_of(mask: u64) -> Option<usize> {
     usize::try_from(multiple).ok()
 }
 
-impl<'a, 't> Place<'a, 't> {
+impl<'a, 't> IllTypedExpression<'a, 't> {
     /// What to write for an offset beside an integer.
     pub fn mixed_help(self, mixed: Mixed<'_, '_>) -> Result<Text, AllocError> {
         match self.script().slice(mixed.sign) {
@@ -82,7 +82,7 @@ impl<'a, 't> Place<'a, 't> {
     }
 
     /// The offset and the mask in `n & 3 == 0#B`, where the mask alone is compared. `None` for other operands.
-    fn masked(self, mixed: Mixed<'_, '_>, sign: &[u8]) -> Option<(Part, Mask)> {
+    fn masked(self, mixed: Mixed<'_, '_>, sign: &[u8]) -> Option<(TokenRange, Mask)> {
         let compares = matches!(sign, b"==" | b"!=") && mixed.integer.first == self.part.first;
         if !compares || self.script().text_before(self.part.first) != b"&".as_slice() {
             return None;
@@ -109,7 +109,7 @@ impl<'a, 't> Place<'a, 't> {
     fn multiple_help(
         self,
         mixed: Mixed<'_, '_>,
-        offset: Part,
+        offset: TokenRange,
         mask: Mask,
     ) -> Result<Text, AllocError> {
         let lead: &[u8] = if mask.differs {
@@ -145,7 +145,7 @@ impl<'a, 't> Place<'a, 't> {
     }
 
     /// The help for an integer that should be an offset.
-    fn unit_help(self, integer: Part) -> Result<Text, AllocError> {
+    fn unit_help(self, integer: TokenRange) -> Result<Text, AllocError> {
         let written = with_unit(self.declared.alloc, self.script(), integer)?;
         self.text()
             .say(b"an integer has no unit: write ")?
@@ -155,7 +155,7 @@ impl<'a, 't> Place<'a, 't> {
 }
 
 /// The names with dots between them that end before a token. `None` if what is there begins otherwise.
-fn path_before(script: &Script<'_>, end: usize) -> Option<Part> {
+fn path_before(script: &Script<'_>, end: usize) -> Option<TokenRange> {
     let mut first = end;
     for back in 1..end {
         let token = end.saturating_sub(back);
@@ -165,7 +165,7 @@ fn path_before(script: &Script<'_>, end: usize) -> Option<Part> {
         first = token;
     }
     if first < end && script.is_name(first) {
-        Some(Part { first, end })
+        Some(TokenRange { first, end })
     } else {
         None
     }

@@ -1,7 +1,7 @@
 //! Tokens in a row at which no pickle can go on, and sentences that have these tokens in them.
 
 use crate::types::is_predeclared;
-use pickle_source::script::{Part, Script, cut};
+use pickle_source::script::{Script, TokenRange, cut};
 use pickle_source::text::Text;
 use std::alloc::AllocError;
 
@@ -99,16 +99,16 @@ impl<'a, 't> Around<'a, 't> {
     /// The part of the pickle for which a digit stands in a sentence.
     fn part(self, digit: u8) -> &'t [u8] {
         let part = match digit {
-            b'0' => Part::single(self.first.saturating_add(1)),
-            b'8' => Part {
+            b'0' => TokenRange::single(self.first.saturating_add(1)),
+            b'8' => TokenRange {
                 first: self.first,
                 end: self.token,
             },
-            b'9' => Part {
+            b'9' => TokenRange {
                 first: self.token,
                 end: field_end(self.script, self.token),
             },
-            digit => Part::single(
+            digit => TokenRange::single(
                 self.token
                     .saturating_add(usize::from(digit.saturating_sub(b'0')))
                     .saturating_sub(3),

@@ -1,14 +1,14 @@
 //! Strings that are used as arrays.
 
-use crate::clause::Place;
-use pickle_source::script::Part;
+use crate::clause::IllTypedExpression;
+use pickle_source::script::TokenRange;
 use pickle_source::text::Text;
 use pickle_types::refused::OperandType;
 use std::alloc::AllocError;
 
-impl<'a, 't> Place<'a, 't> {
+impl<'a, 't> IllTypedExpression<'a, 't> {
     /// The help for the length of a string: its bytes without the final 0.
-    pub fn length_help(self, operand: Part) -> Result<Option<Text>, AllocError> {
+    pub fn length_help(self, operand: TokenRange) -> Result<Option<Text>, AllocError> {
         if self.operand_type() != Some(OperandType::String) {
             return Ok(None);
         }

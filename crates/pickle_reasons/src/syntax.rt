@@ -7,7 +7,7 @@ use crate::pattern::Around;
 use pickle_source::budget::Budget;
 use pickle_source::near::nearest;
 use pickle_source::note::Note;
-use pickle_source::script::{Part, Script, cut};
+use pickle_source::script::{Script, TokenRange, cut};
 use pickle_source::text::Text;
 use std::alloc::{AllocError, Global};
 
@@ -168,11 +168,11 @@ fn closing_help(
 }
 
 /// The tokens from the last `offset<` before a token on.
-fn offset_before(script: &Script<'_>, token: usize) -> Part {
+fn offset_before(script: &Script<'_>, token: usize) -> TokenRange {
     let back = (0..token)
         .find(|back| script.text_before(token.saturating_sub(*back)) == b"offset<".as_slice())
         .unwrap_or(0);
-    Part {
+    TokenRange {
         first: token.saturating_sub(back).saturating_sub(1),
         end: token,
     }

@@ -1,10 +1,10 @@
 //! Names of truth values, which are numbers here.
 
-use crate::clause::Place;
+use crate::clause::IllTypedExpression;
 use pickle_source::text::Text;
 use std::alloc::AllocError;
 
-impl<'a, 't> Place<'a, 't> {
+impl<'a, 't> IllTypedExpression<'a, 't> {
     /// What to write for a truth value, together with the sign before it if that compares. `None` for other words.
     pub fn truth_help(self, word: &[u8]) -> Result<Option<Text>, AllocError> {
         let Some(holds) = truth_of(word) else {

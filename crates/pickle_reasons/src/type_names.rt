@@ -3,7 +3,7 @@
 use crate::expected::say_list;
 use crate::types::declared_before;
 use pickle_source::near::nearest;
-use pickle_source::script::{Part, Script};
+use pickle_source::script::{Script, TokenRange};
 use pickle_source::text::Text;
 use run_parts::accept::{Refusal, accept};
 use std::alloc::{AllocError, Global};
@@ -16,7 +16,7 @@ pub fn no_such_type(alloc: Global, pickle: &[u8], name: &[u8]) -> Result<Vec<u8>
     let Some(script) = Script::new(alloc, pickle) else {
         return Err(AllocError);
     };
-    let behind = Part {
+    let behind = TokenRange {
         first: script.len(),
         end: script.len(),
     };

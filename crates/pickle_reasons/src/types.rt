@@ -6,10 +6,10 @@ use crate::foreign::of_foreign;
 use crate::located::{Located, LocatedField};
 use crate::names::last_type;
 use pickle_source::anatomy::{FieldParts, base, declaration, opening_brace};
+use pickle_source::line_column::place_behind;
 use pickle_source::near::nearest;
 use pickle_source::note::Note;
-use pickle_source::place::place_behind;
-use pickle_source::script::{Part, Script, cut};
+use pickle_source::script::{Script, TokenRange, cut};
 use pickle_source::site::Purpose;
 use pickle_source::text::Text;
 use pickle_syntax::tree::{Form, Pickle, Reference};
@@ -45,7 +45,7 @@ fn finding(
     number: usize,
 ) -> Result<Finding, AllocError> {
     let whole = declaration(script, number);
-    let name = Part {
+    let name = TokenRange {
         first: whole.first.saturating_add(1),
         end: whole.first.saturating_add(2),
     };
@@ -67,7 +67,7 @@ fn refused_finding<'a, 't>(
     script: &'a Script<'t>,
     tree: &'a Pickle<'t>,
     refused: &'a Refused<'t>,
-    whole: Part,
+    whole: TokenRange,
 ) -> Result<Finding, AllocError> {
     match located(script, tree, refused, whole) {
         Some(located) => located_finding(Declared {
@@ -86,10 +86,10 @@ fn located<'p, 't>(
     script: &Script<'_>,
     tree: &'p Pickle<'t>,
     refused: &Refused<'_>,
-    whole: Part,
+    whole: TokenRange,
 ) -> Option<Located<'p, 't>> {
     let declaration = tree.declarations.get(refused.fault.decl.saturating_sub(1))?;
-    let tokens = Part {
+    let tokens = TokenRange {
         first: whole.first.saturating_add(3),
         end: whole.end,
     };
@@ -116,12 +116,12 @@ fn located_finding(declared: Declared<'_, '_>) -> Result<Finding, AllocError> {
 }
 
 /// The finding for a part of which no more is told than the rule that it breaks.
-pub fn rule_finding(declared: Declared<'_, '_>, part: Part) -> Result<Finding, AllocError> {
+pub fn rule_finding(declared: Declared<'_, '_>, part: TokenRange) -> Result<Finding, AllocError> {
     unlocated(declared.alloc, declared.kind(), part)
 }
 
 /// The rule that some tokens break.
-fn unlocated(alloc: Global, kind: FaultKind, part: Part) -> Result<Finding, AllocError> {
+fn unlocated(alloc: Global, kind: FaultKind, part: TokenRange) -> Result<Finding, AllocError> {
     Ok(Finding {
         part,
         sentence: Text::new(alloc).say(rule_of(kind).as_bytes())?.into_bytes(),
@@ -130,7 +130,11 @@ fn unlocated(alloc: Global, kind: FaultKind, part: Part) -> Result<Finding, Allo
 }
 
 /// The finding for a declared name that is declared before.
-fn declared_twice(alloc: Global, script: &Script<'_>, name: Part) -> Result<Finding, AllocError> {
+fn declared_twice(
+    alloc: Global,
+    script: &Script<'_>,
+    name: TokenRange,
+) -> Result<Finding, AllocError> {
     let word = script.slice(name);
     let text = Text::new(alloc).quote(word)?;
     let text = match earlier_declaration(script, name) {
@@ -155,7 +159,7 @@ fn line_of(script: &Script<'_>, token: usize) -> usize {
 }
 
 /// The earlier token that declares a name.
-fn earlier_declaration(script: &Script<'_>, name: Part) -> Option<usize> {
+fn earlier_declaration(script: &Script<'_>, name: TokenRange) -> Option<usize> {
     (0..name.first).find(|token| is_declared_as(script, *token, script.slice(name)))
 }
 
@@ -169,7 +173,7 @@ fn of_type(declared: Declared<'_, '_>) -> Result<Finding, AllocError> {
     match declared.kind() {
         FaultKind::TooDeep => unlocated(declared.alloc, FaultKind::TooDeep, deep_part(declared)),
         FaultKind::NotHere => {
-            let head = Part::single(declared.located.tokens.first);
+            let head = TokenRange::single(declared.located.tokens.first);
             let text = Text::new(declared.alloc).say(b"a union has at least one alternative")?;
             Ok(Finding {
                 part: head,
@@ -182,7 +186,7 @@ fn of_type(declared: Declared<'_, '_>) -> Result<Finding, AllocError> {
 }
 
 /// The name of a type that is too deep to stand where it does, or that of the declaration.
-fn deep_part(declared: Declared<'_, '_>) -> Part {
+fn deep_part(declared: Declared<'_, '_>) -> TokenRange {
     match declared.located.form {
         Form::Reference(_) => declared.located.tokens,
         _ => declared.name(),
@@ -190,7 +194,7 @@ fn deep_part(declared: Declared<'_, '_>) -> Part {
 }
 
 /// The tokens of a type without braces, or of the integer type of an integral struct.
-fn base_of(declared: Declared<'_, '_>) -> Part {
+fn base_of(declared: Declared<'_, '_>) -> TokenRange {
     let tokens = declared.located.tokens;
     match declared.located.form {
         Form::Integral(_, _) => integral_reference(declared.script, tokens),
@@ -224,17 +228,17 @@ fn of_widths(declared: Declared<'_, '_>, width: u128) -> Result<Finding, AllocEr
 }
 
 /// The integer type of an integral struct.
-fn integral_reference(script: &Script<'_>, form: Part) -> Part {
+fn integral_reference(script: &Script<'_>, form: TokenRange) -> TokenRange {
     let first = form.first.saturating_add(1);
     let end = match script.text(first) {
         b"int<" | b"uint<" => first.saturating_add(3),
         _ => first.saturating_add(1),
     };
-    Part { first, end }
+    TokenRange { first, end }
 }
 
 /// What is wrong with a type other than a struct or union, or with the integer type of an integral struct.
-fn of_base(declared: Declared<'_, '_>, base: Part) -> Result<Finding, AllocError> {
+fn of_base(declared: Declared<'_, '_>, base: TokenRange) -> Result<Finding, AllocError> {
     let script = declared.script;
     let text = Text::new(declared.alloc);
     match declared.kind() {
@@ -268,9 +272,9 @@ fn of_base(declared: Declared<'_, '_>, base: Part) -> Result<Finding, AllocError
 }
 
 /// The name in a type, or all of the type.
-pub fn name_of(script: &Script<'_>, base: Part) -> Part {
+pub fn name_of(script: &Script<'_>, base: TokenRange) -> TokenRange {
     match (base.first..base.end).find(|token| script.is_name(*token)) {
-        Some(first) => Part {
+        Some(first) => TokenRange {
             first,
             end: first.saturating_add(1),
         },
@@ -279,13 +283,13 @@ pub fn name_of(script: &Script<'_>, base: Part) -> Part {
 }
 
 /// The number of a type that is out of range, or all of the type.
-fn number_of(script: &Script<'_>, base: Part, form: &Form<'_>) -> Part {
+fn number_of(script: &Script<'_>, base: TokenRange, form: &Form<'_>) -> TokenRange {
     let first = match form {
         Form::Offset(reference, _) if is_in_range(reference) => base.end.saturating_sub(2),
         _ => base.first,
     };
     match (first..base.end).find(|token| script.is_number(*token)) {
-        Some(number) => Part::single(number),
+        Some(number) => TokenRange::single(number),
         None => base,
     }
 }
@@ -299,7 +303,11 @@ fn is_in_range(reference: &Reference<'_>) -> bool {
 }
 
 /// The finding for a name that no declared type has.
-pub fn unknown_type(alloc: Global, script: &Script<'_>, name: Part) -> Result<Finding, AllocError> {
+pub fn unknown_type(
+    alloc: Global,
+    script: &Script<'_>,
+    name: TokenRange,
+) -> Result<Finding, AllocError> {
     let word = script.slice(name);
     let text = Text::new(alloc).say(b"no type ")?.quote(word)?;
     let text = text.say(b" is declared before this")?;
@@ -336,7 +344,7 @@ const NAMELESS: &str =
     "write `struct { .. }`, without the name: a field's name stands behind the brace, as `struct { .. } x;`";
 
 /// The first token behind a name, or behind a `:` that follows it.
-fn token_behind(script: &Script<'_>, name: Part) -> usize {
+fn token_behind(script: &Script<'_>, name: TokenRange) -> usize {
     if script.text(name.end) == b":".as_slice() {
         name.end.saturating_add(1)
     } else {
@@ -345,14 +353,14 @@ fn token_behind(script: &Script<'_>, name: Part) -> usize {
 }
 
 /// Whether a type stands behind a name, where the name of a field would.
-fn is_type_behind(script: &Script<'_>, name: Part, known: &[&[u8]]) -> bool {
+fn is_type_behind(script: &Script<'_>, name: TokenRange, known: &[&[u8]]) -> bool {
     let behind = token_behind(script, name);
     let ends = script.text(behind.saturating_add(1)) == b";".as_slice();
     ends && known.contains(&script.text(behind))
 }
 
 /// The help for a field with its name before its type.
-fn turned_round(alloc: Global, script: &Script<'_>, name: Part) -> Result<Text, AllocError> {
+fn turned_round(alloc: Global, script: &Script<'_>, name: TokenRange) -> Result<Text, AllocError> {
     let form = script.text(token_behind(script, name));
     let text = Text::new(alloc).say(b"the type stands before the name: write `")?;
     let text = text.show(form)?.say(b" ")?.show(script.slice(name))?;
@@ -362,7 +370,7 @@ fn turned_round(alloc: Global, script: &Script<'_>, name: Part) -> Result<Text, 
 fn near_type(
     alloc: Global,
     script: &Script<'_>,
-    name: Part,
+    name: TokenRange,
     known: &[&[u8]],
 ) -> Result<Option<Text>, AllocError> {
     if is_own(script, name) {
@@ -379,13 +387,13 @@ fn near_type(
 }
 
 /// Whether a name is all that a field has.
-fn is_alone(script: &Script<'_>, name: Part) -> bool {
+fn is_alone(script: &Script<'_>, name: TokenRange) -> bool {
     let begins = matches!(script.text_before(name.first), b"{" | b";");
     begins && script.text(name.end) == b";".as_slice()
 }
 
 /// The help for a field without a type.
-fn typeless_help(alloc: Global, script: &Script<'_>, name: Part) -> Result<Text, AllocError> {
+fn typeless_help(alloc: Global, script: &Script<'_>, name: TokenRange) -> Result<Text, AllocError> {
     let text = Text::new(alloc).say(
         b"if this is a field's name, write its type before it, as `byte ",
     )?;
@@ -440,7 +448,7 @@ impl Width {
 }
 
 /// Whether a name is that of the declaration that it is in.
-fn is_own(script: &Script<'_>, name: Part) -> bool {
+fn is_own(script: &Script<'_>, name: TokenRange) -> bool {
     earlier_declaration(script, name).is_some()
 }
 
@@ -448,7 +456,7 @@ fn is_own(script: &Script<'_>, name: Part) -> bool {
 pub fn declared_before<'t>(
     alloc: Global,
     script: &Script<'t>,
-    name: Part,
+    name: TokenRange,
 ) -> Result<Vec<&'t [u8]>, AllocError> {
     let mut known = Vec::new(alloc);
     for token in 0..name.first {
@@ -508,7 +516,7 @@ fn misplaced_help(
     alloc: Global,
     script: &Script<'_>,
     parts: &FieldParts,
-    part: Part,
+    part: TokenRange,
 ) -> Result<Option<Text>, AllocError> {
     let text = Text::new(alloc);
     let help = if part == parts.order {
@@ -538,7 +546,7 @@ fn order_help(text: Text, script: &Script<'_>, parts: &FieldParts) -> Result<Tex
     if base.end < parts.form.end && opening_brace(script, base).is_none() {
         let text = text.say(b"write `struct { ")?.show(order)?.say(b" ")?;
         let text = text.show(script.slice(base))?.say(b" x; }")?;
-        let suffix = Part {
+        let suffix = TokenRange {
             first: base.end,
             end: parts.name.end,
         };
@@ -549,7 +557,7 @@ fn order_help(text: Text, script: &Script<'_>, parts: &FieldParts) -> Result<Tex
 
 /// The help for an alternative with a condition.
 fn condition_help(text: Text, script: &Script<'_>, parts: &FieldParts) -> Result<Text, AllocError> {
-    let named = Part {
+    let named = TokenRange {
         first: parts.whole.first,
         end: parts.name.end,
     };
@@ -589,7 +597,7 @@ fn integral_order_help(
 }
 
 /// What may not be in a field. `wide` says whether its type has a width in bits.
-fn misplaced(field: LocatedField<'_, '_>, wide: bool) -> (Part, &'static str) {
+fn misplaced(field: LocatedField<'_, '_>, wide: bool) -> (TokenRange, &'static str) {
     let parts = field.parts;
     let integral = matches!(field.around, Form::Integral(_, _));
     if integral && !wide {

@@ -1,28 +1,28 @@
 //! The parts of declarations, fields and types, as tokens. The parser accepts the pickle.
 
-use crate::script::{Part, Script};
+use crate::script::{Script, TokenRange};
 use std::alloc::{AllocError, Global};
 
 /// The tokens of a field, without its `;`.
 #[derive(Clone, Copy)]
 pub struct FieldParts {
-    pub whole: Part,
+    pub whole: TokenRange,
     /// The prefix `big` or `little`. No tokens if there is none.
-    pub order: Part,
-    pub form: Part,
-    pub name: Part,
-    pub constraint: Part,
-    pub label: Part,
-    pub condition: Part,
+    pub order: TokenRange,
+    pub form: TokenRange,
+    pub name: TokenRange,
+    pub constraint: TokenRange,
+    pub label: TokenRange,
+    pub condition: TokenRange,
 }
 
 /// The tokens of a declaration from its `type` on, without its `;`. Declarations are counted from 1.
-pub fn declaration(script: &Script<'_>, number: usize) -> Part {
+pub fn declaration(script: &Script<'_>, number: usize) -> TokenRange {
     let mut first = 0;
     for _ in 1..number {
         first = statement_end(script, first, script.len()).saturating_add(1);
     }
-    Part {
+    TokenRange {
         first,
         end: statement_end(script, first, script.len()),
     }
@@ -44,17 +44,17 @@ fn statement_end(script: &Script<'_>, first: usize, end: usize) -> usize {
 
 /// The tokens of the declaration or field that begins with a token, without its `;`. Without a `;` before `end` they are
 /// all up to there.
-pub fn statement(script: &Script<'_>, first: usize, end: usize) -> Part {
-    Part {
+pub fn statement(script: &Script<'_>, first: usize, end: usize) -> TokenRange {
+    TokenRange {
         first,
         end: statement_end(script, first, end),
     }
 }
 
 /// The tokens between the braces of a struct or union. `None` for any other type.
-pub fn braces(script: &Script<'_>, form: Part) -> Option<Part> {
+pub fn braces(script: &Script<'_>, form: TokenRange) -> Option<TokenRange> {
     let brace = opening_brace(script, form)?;
-    Some(Part {
+    Some(TokenRange {
         first: brace.saturating_add(1),
         end: closed(script, brace, form.end).saturating_sub(1),
     })
@@ -93,48 +93,48 @@ fn angle_closed(script: &Script<'_>, open: usize, end: usize) -> usize {
 }
 
 /// The `{` of a struct or union whose tokens begin at `first`. `None` for any other type.
-pub fn opening_brace(script: &Script<'_>, form: Part) -> Option<usize> {
+pub fn opening_brace(script: &Script<'_>, form: TokenRange) -> Option<usize> {
     match script.text(form.first) {
         b"struct" | b"union" | b"pinned" => brace_from(script, form),
         _ => None,
     }
 }
 
-fn brace_from(script: &Script<'_>, form: Part) -> Option<usize> {
+fn brace_from(script: &Script<'_>, form: TokenRange) -> Option<usize> {
     (form.first..form.end).find(|token| script.text(*token) == b"{".as_slice())
 }
 
 /// The tokens of a type without its array suffix.
-pub fn base(script: &Script<'_>, form: Part) -> Part {
+pub fn base(script: &Script<'_>, form: TokenRange) -> TokenRange {
     let end = match opening_brace(script, form) {
         Some(brace) => closed(script, brace, form.end),
         None => angle_closed(script, form.first, form.end),
     };
-    Part {
+    TokenRange {
         first: form.first,
         end,
     }
 }
 
 /// The tokens of the bound of an array.
-pub fn bound(script: &Script<'_>, form: Part) -> Part {
+pub fn bound(script: &Script<'_>, form: TokenRange) -> TokenRange {
     let first = base(script, form).end.saturating_add(1);
-    Part {
+    TokenRange {
         first,
         end: form.end.saturating_sub(1).max(first),
     }
 }
 
 /// The tokens of a type that begins at a token, and ends before another.
-pub fn form_from(script: &Script<'_>, first: usize, end: usize) -> Part {
-    let base = base(script, Part { first, end });
+pub fn form_from(script: &Script<'_>, first: usize, end: usize) -> TokenRange {
+    let base = base(script, TokenRange { first, end });
     let suffix = script.text(base.end) == b"[".as_slice() && base.end < end;
     let end = if suffix {
         closed(script, base.end, end)
     } else {
         base.end
     };
-    Part { first, end }
+    TokenRange { first, end }
 }
 
 /// The fields between braces, the opening one at `brace`.
@@ -143,7 +143,7 @@ pub fn fields(
     script: &Script<'_>,
     brace: usize,
     end: usize,
-) -> Result<Vec<Part>, AllocError> {
+) -> Result<Vec<TokenRange>, AllocError> {
     let mut fields = Vec::new(alloc);
     let mut first = brace.saturating_add(1);
     let close = closed(script, brace, end).saturating_sub(1);
@@ -152,14 +152,14 @@ pub fn fields(
             break;
         }
         let end = statement_end(script, first, close);
-        fields.push(Part { first, end })?;
+        fields.push(TokenRange { first, end })?;
         first = end.saturating_add(1);
     }
     Ok(fields)
 }
 
 /// The field at a place, counted from 0, between braces, the opening one at `brace`.
-pub fn field_at(script: &Script<'_>, brace: usize, end: usize, place: usize) -> Option<Part> {
+pub fn field_at(script: &Script<'_>, brace: usize, end: usize, place: usize) -> Option<TokenRange> {
     let close = closed(script, brace, end).saturating_sub(1);
     let mut first = brace.saturating_add(1);
     for _ in 0..place {
@@ -171,14 +171,14 @@ pub fn field_at(script: &Script<'_>, brace: usize, end: usize, place: usize) -> 
     if close <= first {
         return None;
     }
-    Some(Part {
+    Some(TokenRange {
         first,
         end: statement_end(script, first, close),
     })
 }
 
 /// The parts of a field.
-pub fn field_parts(script: &Script<'_>, whole: Part) -> FieldParts {
+pub fn field_parts(script: &Script<'_>, whole: TokenRange) -> FieldParts {
     let ordered = matches!(script.text(whole.first), b"big" | b"little");
     let first = if ordered {
         whole.first.saturating_add(1)
@@ -197,24 +197,24 @@ pub fn field_parts(script: &Script<'_>, whole: Part) -> FieldParts {
     let constrained = behind < label && script.text(behind) == b":".as_slice();
     FieldParts {
         whole,
-        order: Part {
+        order: TokenRange {
             first: whole.first,
             end: first,
         },
         form,
-        name: Part {
+        name: TokenRange {
             first: form.end,
             end: behind,
         },
-        constraint: Part {
+        constraint: TokenRange {
             first: behind.saturating_add(1),
             end: if constrained { label } else { behind },
         },
-        label: Part {
+        label: TokenRange {
             first: label.saturating_add(1),
             end: condition,
         },
-        condition: Part {
+        condition: TokenRange {
             first: condition.saturating_add(1),
             end: whole.end,
         },

@@ -3,7 +3,7 @@
 ghost use Rattle.std.specs.Prelude.{◌≡◌, ◌≤◌, length, IfOk};
 ghost use Rattle.pickle_source.specs.Places.{IsPlain, shortened};
 
-use crate::script::{Part, Script, cut};
+use crate::script::{Script, TokenRange, cut};
 use crate::text::Text;
 use std::alloc::{AllocError, Global};
 
@@ -12,7 +12,7 @@ const MOST_COLUMNS: usize = 100;
 
 /// Some tokens as the pickle has them, with one blank for whatever is between two of them. After 100 columns the
 /// remainder is cut, and `..` is printed instead.
-pub fn excerpt(alloc: Global, script: &Script<'_>, part: Part) -> Result<Vec<u8>, AllocError>
+pub fn excerpt(alloc: Global, script: &Script<'_>, part: TokenRange) -> Result<Vec<u8>, AllocError>
     ensures plain { IfOk result (λ text. IsPlain text.items) }
     ensures short { IfOk result (λ text. length text.items ≤ 102) }
 {
@@ -22,7 +22,7 @@ pub fn excerpt(alloc: Global, script: &Script<'_>, part: Part) -> Result<Vec<u8>
 
 /// Adds some tokens to the text, with one blank for whatever is between two of them. Stops when there are more columns
 /// than are printed.
-pub fn say_tokens(text: Text, script: &Script<'_>, part: Part) -> Result<Text, AllocError>
+pub fn say_tokens(text: Text, script: &Script<'_>, part: TokenRange) -> Result<Text, AllocError>
     ensures { IsPlain text.bytes.items → IfOk result (λ shown. IsPlain shown.bytes.items) }
 {
     let mut text = text;

@@ -4,10 +4,10 @@
 pub mod anatomy;
 pub mod budget;
 pub mod excerpt;
+pub mod expressions;
+pub mod line_column;
 pub mod near;
-pub mod nodes;
 pub mod note;
-pub mod place;
 pub mod script;
 mod shown;
 pub mod site;

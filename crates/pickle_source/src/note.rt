@@ -3,7 +3,7 @@
 ghost use Rattle.std.specs.Prelude.{◌≡◌, IfOk};
 ghost use Rattle.pickle_source.specs.Places.{TellsPlace, place_line};
 
-use crate::place::{Place, place_behind};
+use crate::line_column::{LineColumn, place_behind};
 use crate::script::cut;
 use crate::shown::Shown;
 use crate::text::Text;
@@ -46,7 +46,7 @@ pub fn note_text(
 fn place_line(
     alloc: Global,
     called: &[u8],
-    place: Place,
+    place: LineColumn,
     sentence: &[u8],
 ) -> Result<Vec<u8>, AllocError>
     ensures { IfOk result (λ text. text.items ≡ place_line called.now place.line place.column sentence.now) }

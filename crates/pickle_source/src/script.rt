@@ -8,15 +8,15 @@ use std::alloc::{AllocError, Global};
 
 /// Some tokens in a row: the first, counted from 0, and the one after the last.
 #[derive(Clone, Copy, Debug, Drop, PartialEq, Eq)]
-pub struct Part {
+pub struct TokenRange {
     pub first: usize,
     pub end: usize,
 }
 
-impl Part {
+impl TokenRange {
     /// One token.
-    pub fn single(token: usize) -> Part {
-        Part {
+    pub fn single(token: usize) -> TokenRange {
+        TokenRange {
             first: token,
             end: token.saturating_add(1),
         }
@@ -115,7 +115,7 @@ impl<'t> Script<'t> {
     }
 
     /// The place of the first byte of some tokens, and the place after their last byte.
-    pub fn bounds(&self, part: Part) -> (usize, usize) {
+    pub fn bounds(&self, part: TokenRange) -> (usize, usize) {
         match part.end.checked_sub(1) {
             Some(last) if part.first <= last => (self.first(part.first), self.behind(last)),
             _ => (self.first(part.first), self.first(part.first)),
@@ -123,7 +123,7 @@ impl<'t> Script<'t> {
     }
 
     /// Some tokens as the pickle has them, with what is between them.
-    pub fn slice(&self, part: Part) -> &'t [u8] {
+    pub fn slice(&self, part: TokenRange) -> &'t [u8] {
         let (first, behind) = self.bounds(part);
         cut(self.bytes, first, behind)
     }

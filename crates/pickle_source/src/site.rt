@@ -5,14 +5,14 @@ ghost use Rattle.pickle_source.specs.Places.{IsPlaceIn, IsPlain};
 
 use crate::anatomy::{FieldParts, base, bound, field_at, field_parts, form_from, opening_brace};
 use crate::excerpt::{excerpt, say_tokens, shortened};
-use crate::place::{Place, place_behind};
-use crate::script::{Part, Script};
+use crate::line_column::{LineColumn, place_behind};
+use crate::script::{Script, TokenRange};
 use crate::text::Text;
 use std::alloc::{AllocError, Global};
 
 /// A step from a type to one of its parts.
 #[derive(Clone, Copy, Debug, PartialEq, Eq)]
-pub enum Step {
+pub enum SourceStep {
     /// The field of a struct, or the alternative of a union, at this place among the declared ones, counted from 0.
     Field(usize),
     /// An element of an array.
@@ -37,7 +37,7 @@ pub struct Site {
     /// The name of the declared type that it is in. `None` for a declared type itself.
     owner: Option<usize>,
     /// The tokens of its type. For a declared type, the token of its name.
-    form: Part,
+    form: TokenRange,
     /// The parts of the field, if it is one.
     field: Option<FieldParts>,
 }
@@ -45,7 +45,7 @@ pub struct Site {
 /// A type that isn't the name of a declared one, and the name of the declared type that it is in.
 #[derive(Clone, Copy)]
 struct Opened {
-    form: Part,
+    form: TokenRange,
     owner: usize,
 }
 
@@ -56,13 +56,13 @@ impl Site {
         Some(Site {
             at: token,
             owner: None,
-            form: Part::single(token),
+            form: TokenRange::single(token),
             field: None,
         })
     }
 
     /// The part to which steps lead, also through names of declared types. `None` if the types have no such part.
-    pub fn along(self, script: &Script<'_>, steps: &[Step]) -> Option<Site> {
+    pub fn along(self, script: &Script<'_>, steps: &[SourceStep]) -> Option<Site> {
         let mut site = self;
         for step in steps {
             site = site.part(script, *step)?;
@@ -71,11 +71,11 @@ impl Site {
     }
 
     /// The part to which a step leads, also through names of declared types. `None` if the type has no such part.
-    pub fn part(self, script: &Script<'_>, step: Step) -> Option<Site> {
+    pub fn part(self, script: &Script<'_>, step: SourceStep) -> Option<Site> {
         let opened = self.opened(script);
         match step {
-            Step::Field(place) => field_of(script, opened, place),
-            Step::Element => self.element_of(script, opened),
+            SourceStep::Field(place) => field_of(script, opened, place),
+            SourceStep::Element => self.element_of(script, opened),
         }
     }
 
@@ -89,7 +89,7 @@ impl Site {
     }
 
     /// The line and column of its first byte.
-    pub fn place(self, script: &Script<'_>) -> Place
+    pub fn place(self, script: &Script<'_>) -> LineColumn
         ensures { IsPlaceIn script.now.bytes.now result.line result.column }
     {
         let (before, _) = script.bytes.split_at(self.at(script));
@@ -111,11 +111,11 @@ impl Site {
         let Some(brace) = opening_brace(script, self.form) else {
             return excerpt(alloc, script, self.form);
         };
-        let head = Part {
+        let head = TokenRange {
             first: self.form.first,
             end: brace,
         };
-        let suffix = Part {
+        let suffix = TokenRange {
             first: base(script, self.form).end,
             end: self.form.end,
         };
@@ -126,7 +126,7 @@ impl Site {
 
     /// The tokens of an expression that it has: of a field the constraint, condition or label, of an array the bound,
     /// also through names of declared types. `None` if it has no such expression.
-    pub fn clause(self, script: &Script<'_>, purpose: Purpose) -> Option<Part> {
+    pub fn clause(self, script: &Script<'_>, purpose: Purpose) -> Option<TokenRange> {
         let part = match purpose {
             Purpose::Constraint => self.field?.constraint,
             Purpose::Condition => self.field?.condition,
@@ -192,7 +192,7 @@ fn field_of(script: &Script<'_>, opened: Opened, place: usize) -> Option<Site> {
 }
 
 /// The declared type that a type names, if it is a name.
-fn declared_as(script: &Script<'_>, form: Part) -> Option<Opened> {
+fn declared_as(script: &Script<'_>, form: TokenRange) -> Option<Opened> {
     if form.first.saturating_add(1) != form.end {
         return None;
     }

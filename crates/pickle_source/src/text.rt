@@ -3,7 +3,7 @@
 ghost use Rattle.std.specs.Prelude.{◌≡◌, ◌++◌, ◌&&◌, nat_le, [], IfOk, decimal, fold, length};
 ghost use Rattle.pickle_source.specs.Places.{shown_behind, place_text, IsPlain};
 
-use crate::place::Place;
+use crate::line_column::LineColumn;
 use itoa::Buffer;
 use std::alloc::{AllocError, Global};
 use text_output::hex::hex_digit;
@@ -53,7 +53,7 @@ impl Text {
     }
 
     /// Adds a place to the text: the name of the pickle, the line and the column, with colons between them.
-    pub fn say_place(self, called: &[u8], place: Place) -> Result<Text, AllocError>
+    pub fn say_place(self, called: &[u8], place: LineColumn) -> Result<Text, AllocError>
         ensures { IfOk result
             (λ text. text.bytes.items ≡ self.bytes.items ++ place_text called.now place.line place.column) }
     {

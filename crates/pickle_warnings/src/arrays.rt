@@ -3,9 +3,9 @@
 use crate::fields::{Seen, integer_of};
 use crate::warning::note_about;
 use pickle_source::anatomy::{FieldParts, base, bound};
-use pickle_source::nodes::Node;
+use pickle_source::expressions::PlacedExpression;
 use pickle_source::note::Note;
-use pickle_source::script::Part;
+use pickle_source::script::TokenRange;
 use pickle_source::site::Purpose;
 use pickle_source::text::Text;
 use pickle_syntax::tree::{Expression, Prefix, Suffix};
@@ -15,7 +15,7 @@ use std::alloc::AllocError;
 pub fn negative_bound(
     seen: &Seen<'_, '_>,
     purpose: Purpose,
-    node: Node<'_, '_>,
+    node: PlacedExpression<'_, '_>,
 ) -> Result<Option<Note>, AllocError> {
     if !is_negative(node.expression) {
         return Ok(None);
@@ -117,7 +117,7 @@ pub fn strings(seen: &Seen<'_, '_>, parts: &FieldParts) -> Result<Option<Note>, 
         return Ok(None);
     }
     let bound = bound(seen.script, parts.form);
-    if bound != Part::single(bound.first) || !seen.script.is_number(bound.first) {
+    if bound != TokenRange::single(bound.first) || !seen.script.is_number(bound.first) {
         return Ok(None);
     }
     let sentence = Text::new(seen.alloc)
@@ -138,8 +138,8 @@ fn is_moved(parts: &FieldParts) -> bool {
 }
 
 /// A field's type and name.
-fn named(parts: &FieldParts) -> Part {
-    Part {
+fn named(parts: &FieldParts) -> TokenRange {
+    TokenRange {
         first: parts.form.first,
         end: parts.name.end,
     }

@@ -3,7 +3,7 @@
 use crate::fields::{Seen, integer_of};
 use crate::warning::note_about;
 use pickle_source::anatomy::FieldParts;
-use pickle_source::nodes::Node;
+use pickle_source::expressions::PlacedExpression;
 use pickle_source::note::Note;
 use pickle_source::text::Text;
 use pickle_syntax::tree::{Expression, Number};
@@ -13,7 +13,7 @@ use std::alloc::AllocError;
 /// The note about a constraint that is a number, as a bit-field of C has one, or numbers with `||` between them.
 pub fn literal_constraint(
     seen: &Seen<'_, '_>,
-    node: Node<'_, '_>,
+    node: PlacedExpression<'_, '_>,
     field: &FieldParts,
 ) -> Result<Option<Note>, AllocError> {
     let help = match node.expression {
@@ -40,7 +40,7 @@ fn is_zero(expression: &Expression<'_>) -> bool {
 /// The help for a number: a field of so many bits, or a comparison.
 fn number_help(
     seen: &Seen<'_, '_>,
-    node: Node<'_, '_>,
+    node: PlacedExpression<'_, '_>,
     number: Number,
     field: &FieldParts,
 ) -> Result<Text, AllocError> {
@@ -115,7 +115,7 @@ fn say_field(text: Text, signed: bool, bits: usize, name: &[u8]) -> Result<Text,
 }
 
 /// Whether an expression is numbers, the first of them not 0, with `||` between them.
-fn is_choice(seen: &Seen<'_, '_>, node: Node<'_, '_>) -> bool {
+fn is_choice(seen: &Seen<'_, '_>, node: PlacedExpression<'_, '_>) -> bool {
     let part = node.part();
     let numbers = (part.first..part.end).all(|token| if (token - part.first) % 2 == 0 {
         seen.script.is_number(token)
@@ -128,7 +128,7 @@ fn is_choice(seen: &Seen<'_, '_>, node: Node<'_, '_>) -> bool {
 /// The help for numbers with `||` between them: the field is compared with each.
 fn choice_help(
     seen: &Seen<'_, '_>,
-    node: Node<'_, '_>,
+    node: PlacedExpression<'_, '_>,
     field: &FieldParts,
 ) -> Result<Text, AllocError> {
     let part = node.part();

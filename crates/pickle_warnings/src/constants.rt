@@ -4,7 +4,7 @@ use crate::fields::Seen;
 use crate::operators::is_comparing;
 use crate::warning::note_about;
 use pickle_source::anatomy::FieldParts;
-use pickle_source::nodes::Node;
+use pickle_source::expressions::PlacedExpression;
 use pickle_source::note::Note;
 use pickle_source::site::Purpose;
 use pickle_source::text::Text;
@@ -24,7 +24,7 @@ struct Range {
 pub fn constant_clause(
     seen: &Seen<'_, '_>,
     purpose: Purpose,
-    node: Node<'_, '_>,
+    node: PlacedExpression<'_, '_>,
     field: &FieldParts,
 ) -> Result<Option<Note>, AllocError> {
     let Some(comparison) = comparison_in(node) else {
@@ -141,11 +141,11 @@ impl Written {
 }
 
 /// The comparison that an expression is, also in brackets.
-fn comparison_in<'a, 't>(node: Node<'a, 't>) -> Option<Node<'a, 't>> {
+fn comparison_in<'a, 't>(node: PlacedExpression<'a, 't>) -> Option<PlacedExpression<'a, 't>> {
     match node.expression {
         Expression::Infix(operation) if is_comparing(operation.op) => Some(node),
         Expression::Bracket(inner) => match &**inner {
-            Expression::Infix(operation) if is_comparing(operation.op) => Some(Node {
+            Expression::Infix(operation) if is_comparing(operation.op) => Some(PlacedExpression {
                 expression: inner,
                 first: node.first.saturating_add(1),
             }),

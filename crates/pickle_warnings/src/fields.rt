@@ -3,7 +3,7 @@
 use crate::outline::{Outline, Piece};
 use pickle_source::anatomy::{FieldParts, field_parts};
 use pickle_source::budget::Budget;
-use pickle_source::script::{Part, Script};
+use pickle_source::script::{Script, TokenRange};
 use pickle_types::integer::IntegerType;
 use pickle_types::predeclared::PREDECLARED;
 use std::alloc::{AllocError, Global};
@@ -17,7 +17,7 @@ pub struct Seen<'a, 't> {
     /// What may still be looked at.
     pub budget: &'a Budget,
     /// The declared type.
-    pub form: Part,
+    pub form: TokenRange,
     /// The first token of the field at this place.
     pub at: usize,
 }
@@ -66,7 +66,7 @@ impl<'a, 't> Seen<'a, 't> {
 
     /// The parts of a field.
     pub fn parts(&self, piece: &Piece) -> FieldParts {
-        let whole = Part {
+        let whole = TokenRange {
             first: piece.part.first,
             end: piece.part.end.saturating_sub(1),
         };
@@ -75,7 +75,7 @@ impl<'a, 't> Seen<'a, 't> {
 }
 
 /// The integer type that some tokens write, or name as a predeclared type.
-pub fn integer_of(script: &Script<'_>, form: Part) -> Option<IntegerType> {
+pub fn integer_of(script: &Script<'_>, form: TokenRange) -> Option<IntegerType> {
     let signed = match script.text(form.first) {
         b"int<" => true,
         b"uint<" => false,

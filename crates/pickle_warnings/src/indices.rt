@@ -4,7 +4,7 @@ use crate::fields::Seen;
 use crate::operators::all_nodes;
 use crate::warning::note_about;
 use pickle_source::anatomy::{FieldParts, bound};
-use pickle_source::nodes::Node;
+use pickle_source::expressions::PlacedExpression;
 use pickle_source::note::Note;
 use pickle_source::text::Text;
 use pickle_syntax::tree::{Element, Expression};
@@ -13,7 +13,7 @@ use std::alloc::AllocError;
 /// The note about an element at a number past the end of an array whose number of elements is written at its field.
 pub fn outside_index(
     seen: &Seen<'_, '_>,
-    node: Node<'_, '_>,
+    node: PlacedExpression<'_, '_>,
     own: &FieldParts,
 ) -> Result<Option<Note>, AllocError> {
     for node in all_nodes(seen, node)? {
@@ -29,7 +29,7 @@ pub fn outside_index(
 /// The note about an element, if its array never has it.
 fn index_note(
     seen: &Seen<'_, '_>,
-    node: Node<'_, '_>,
+    node: PlacedExpression<'_, '_>,
     element: &Element<'_>,
     own: &FieldParts,
 ) -> Result<Option<Note>, AllocError> {

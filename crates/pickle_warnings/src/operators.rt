@@ -4,15 +4,18 @@ use crate::fields::Seen;
 use crate::shifts::shift_note;
 use crate::warning::note_about;
 use pickle_source::anatomy::FieldParts;
-use pickle_source::nodes::Node;
+use pickle_source::expressions::PlacedExpression;
 use pickle_source::note::Note;
-use pickle_source::script::Part;
+use pickle_source::script::TokenRange;
 use pickle_source::text::Text;
 use pickle_syntax::tree::{Expression, Infix, Operation, Prefix};
 use std::alloc::AllocError;
 
 /// The note about a number that begins with a 0 and would be another in C.
-pub fn octal(seen: &Seen<'_, '_>, node: Node<'_, '_>) -> Result<Option<Note>, AllocError> {
+pub fn octal(
+    seen: &Seen<'_, '_>,
+    node: PlacedExpression<'_, '_>,
+) -> Result<Option<Note>, AllocError> {
     let part = node.part();
     let found = (part.first..part.end).find(|token| is_octal(seen.script.text(*token)));
     let Some(token) = found else {
@@ -26,7 +29,12 @@ pub fn octal(seen: &Seen<'_, '_>, node: Node<'_, '_>) -> Result<Option<Note>, Al
         .show(digits)?;
     let help = Text::new(seen.alloc).say(b"write `0o")?.show(digits)?;
     let help = help.say(b"` for the octal number, or `")?.show(digits)?;
-    Ok(Some(note_about(seen.script, Part::single(token), sentence, help.say(b"`")?)))
+    Ok(Some(note_about(
+        seen.script,
+        TokenRange::single(token),
+        sentence,
+        help.say(b"`")?,
+    )))
 }
 
 /// Whether a token is a number with a 0 before two octal digits or more.
@@ -50,7 +58,7 @@ fn without_zeros(digits: &[u8]) -> &[u8] {
 /// `n == 1 || 2`, and a shift by the width of a field.
 pub fn wrong_operation(
     seen: &Seen<'_, '_>,
-    node: Node<'_, '_>,
+    node: PlacedExpression<'_, '_>,
     field: Option<&FieldParts>,
 ) -> Result<Option<Note>, AllocError> {
     for node in all_nodes(seen, node)? {
@@ -66,8 +74,8 @@ pub fn wrong_operation(
 /// An expression, and all operands in it.
 pub fn all_nodes<'a, 't>(
     seen: &Seen<'_, '_>,
-    node: Node<'a, 't>,
-) -> Result<Vec<Node<'a, 't>>, AllocError> {
+    node: PlacedExpression<'a, 't>,
+) -> Result<Vec<PlacedExpression<'a, 't>>, AllocError> {
     let mut all = Vec::new(seen.alloc);
     let mut left = Vec::new(seen.alloc);
     left.push(node)?;
@@ -86,7 +94,7 @@ pub fn all_nodes<'a, 't>(
 /// The note about an operation, if there is one.
 fn operation_note(
     seen: &Seen<'_, '_>,
-    node: Node<'_, '_>,
+    node: PlacedExpression<'_, '_>,
     operation: &Operation<'_>,
     field: Option<&FieldParts>,
 ) -> Result<Option<Note>, AllocError> {
@@ -110,7 +118,7 @@ fn operation_note(
 /// The note about an operation, if it compares the outcome of `!` with a number that it never is.
 fn not_note(
     seen: &Seen<'_, '_>,
-    node: Node<'_, '_>,
+    node: PlacedExpression<'_, '_>,
     operation: &Operation<'_>,
 ) -> Result<Option<Note>, AllocError> {
     let (outcome, sign): (&[u8], &[u8]) = match operation.op {
@@ -125,7 +133,7 @@ fn not_note(
     let script = seen.script;
     let whole = node.part();
     let (left, right) = sides(node.first, operation);
-    let operand = Part {
+    let operand = TokenRange {
         first: left.first.saturating_add(1),
         end: left.part().end,
     };
@@ -154,7 +162,7 @@ fn is_above_one(expression: &Expression<'_>) -> bool {
 /// The note about an operation, if it compares the outcome of a comparison.
 fn chain_note(
     seen: &Seen<'_, '_>,
-    node: Node<'_, '_>,
+    node: PlacedExpression<'_, '_>,
     operation: &Operation<'_>,
 ) -> Result<Option<Note>, AllocError> {
     if !is_ordering(operation.op) {
@@ -170,7 +178,7 @@ fn chain_note(
     let whole = node.part();
     let (left, right) = sides(node.first, operation);
     let (_, middle) = sides(node.first, inner);
-    let sign = Part {
+    let sign = TokenRange {
         first: left.part().end,
         end: right.first,
     };
@@ -195,7 +203,7 @@ fn chain_note(
 /// The note about an operation, if it is a comparison or a number that isn't 0.
 fn choice_note(
     seen: &Seen<'_, '_>,
-    node: Node<'_, '_>,
+    node: PlacedExpression<'_, '_>,
     operation: &Operation<'_>,
 ) -> Result<Option<Note>, AllocError> {
     let Expression::Infix(compared) = &operation.left else {
@@ -243,7 +251,7 @@ fn is_ordering(op: Infix) -> bool {
 /// The note about an operation, if it is a mask of a comparison with a number.
 fn mask_note(
     seen: &Seen<'_, '_>,
-    node: Node<'_, '_>,
+    node: PlacedExpression<'_, '_>,
     operation: &Operation<'_>,
 ) -> Result<Option<Note>, AllocError> {
     if !is_bitwise(operation.op) || is_comparison(&operation.left) {
@@ -259,11 +267,11 @@ fn mask_note(
     let (left, right) = sides(node.first, operation);
     let (mask, value) = sides(right.first, compared);
     let script = seen.script;
-    let sign = Part {
+    let sign = TokenRange {
         first: left.part().end,
         end: right.first,
     };
-    let compare = Part {
+    let compare = TokenRange {
         first: mask.part().end,
         end: value.first,
     };
@@ -292,12 +300,15 @@ fn mask_note(
 }
 
 /// The two operands of an operation that begins at a token.
-pub fn sides<'a, 't>(first: usize, operation: &'a Operation<'t>) -> (Node<'a, 't>, Node<'a, 't>) {
-    let left = Node {
+pub fn sides<'a, 't>(
+    first: usize,
+    operation: &'a Operation<'t>,
+) -> (PlacedExpression<'a, 't>, PlacedExpression<'a, 't>) {
+    let left = PlacedExpression {
         expression: &operation.left,
         first,
     };
-    let right = Node {
+    let right = PlacedExpression {
         expression: &operation.right,
         first: left.part().end.saturating_add(1),
     };

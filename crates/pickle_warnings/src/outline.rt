@@ -1,13 +1,13 @@
 //! The fields of a declaration, and the heads of the structs and unions that they are in.
 
 use pickle_source::anatomy::{FieldParts, field_parts};
-use pickle_source::script::{Part, Script};
+use pickle_source::script::{Script, TokenRange};
 use std::alloc::{AllocError, Global};
 
 /// A field with its `;`, or the head of a struct or union with its `{`.
 #[derive(Clone, Copy)]
 pub struct Piece {
-    pub part: Part,
+    pub part: TokenRange,
     /// The name of the field. No token if it has none.
     pub name: Option<usize>,
     /// In how many structs and unions of the declaration it is.
@@ -35,7 +35,7 @@ pub struct Outline {
 
 impl Outline {
     /// The pieces among some tokens, the first of which begins a type.
-    pub fn of(alloc: Global, script: &Script<'_>, form: Part) -> Result<Outline, AllocError> {
+    pub fn of(alloc: Global, script: &Script<'_>, form: TokenRange) -> Result<Outline, AllocError> {
         let mut outline = Outline {
             pieces: Vec::new(alloc),
         };
@@ -73,7 +73,7 @@ impl Outline {
             None => brace,
         };
         self.pieces.push(Piece {
-            part: Part {
+            part: TokenRange {
                 first,
                 end: brace.saturating_add(1),
             },
@@ -100,7 +100,7 @@ impl Outline {
         let ended = *level;
         *level = Level::from(semicolon.saturating_add(1));
         self.pieces.push(Piece {
-            part: Part {
+            part: TokenRange {
                 first: ended.first,
                 end: semicolon.saturating_add(1),
             },
@@ -153,7 +153,7 @@ fn name_in(script: &Script<'_>, field: Level, semicolon: usize) -> Option<usize>
     let name = if field.first < field.closed {
         behind_suffix(script, field.closed, semicolon)
     } else {
-        let whole = Part {
+        let whole = TokenRange {
             first: field.first,
             end: semicolon,
         };

@@ -4,7 +4,7 @@ use crate::fields::Seen;
 use crate::operators::sides;
 use crate::warning::note_about;
 use pickle_source::anatomy::FieldParts;
-use pickle_source::nodes::Node;
+use pickle_source::expressions::PlacedExpression;
 use pickle_source::note::Note;
 use pickle_source::text::Text;
 use pickle_syntax::tree::{Expression, Infix, Operation};
@@ -13,7 +13,7 @@ use std::alloc::AllocError;
 /// The note about an operation, if it shifts a field by a number that isn't below the width of the field's type.
 pub fn shift_note(
     seen: &Seen<'_, '_>,
-    node: Node<'_, '_>,
+    node: PlacedExpression<'_, '_>,
     operation: &Operation<'_>,
     own: &FieldParts,
 ) -> Result<Option<Note>, AllocError> {
@@ -61,7 +61,7 @@ struct Shift {
 /// What to write for a shift of a field.
 fn shift_help(
     seen: &Seen<'_, '_>,
-    node: Node<'_, '_>,
+    node: PlacedExpression<'_, '_>,
     operation: &Operation<'_>,
     shift: Shift,
 ) -> Result<Text, AllocError> {

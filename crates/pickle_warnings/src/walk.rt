@@ -10,9 +10,9 @@ use crate::outline::{Outline, Piece};
 use crate::unions::never_taken;
 use pickle_source::anatomy::{FieldParts, bound, field_parts, opening_brace};
 use pickle_source::budget::Budget;
-use pickle_source::nodes::{Node, constraint_in};
+use pickle_source::expressions::{PlacedExpression, constraint_in};
 use pickle_source::note::Note;
-use pickle_source::script::{Part, Script};
+use pickle_source::script::{Script, TokenRange};
 use pickle_source::site::Purpose;
 use pickle_source::text::Text;
 use run_parts::accept::{Refusal, read_syntax};
@@ -42,7 +42,7 @@ pub fn warnings_of(alloc: Global, script: &Script<'_>) -> Result<Vec<Note>, Allo
     let mut first = 0;
     for _ in 0..script.declarations() {
         let whole = declaration_from(script, first);
-        walk.look_at(Part {
+        walk.look_at(TokenRange {
             first: first.saturating_add(3),
             end: whole.end,
         })?;
@@ -52,17 +52,17 @@ pub fn warnings_of(alloc: Global, script: &Script<'_>) -> Result<Vec<Note>, Allo
 }
 
 /// The tokens of the declaration that begins with a token, without its `;`.
-fn declaration_from(script: &Script<'_>, first: usize) -> Part {
+fn declaration_from(script: &Script<'_>, first: usize) -> TokenRange {
     let mut depth: usize = 0;
     for token in first..script.len() {
         match script.text(token) {
             b"{" => depth = depth.saturating_add(1),
             b"}" => depth = depth.saturating_sub(1),
-            b";" if depth == 0 => return Part { first, end: token },
+            b";" if depth == 0 => return TokenRange { first, end: token },
             _ => {}
         }
     }
-    Part {
+    TokenRange {
         first,
         end: script.len(),
     }
@@ -70,7 +70,7 @@ fn declaration_from(script: &Script<'_>, first: usize) -> Part {
 
 impl<'a, 't> Walk<'a, 't> {
     /// Looks at a declared type.
-    fn look_at(&mut self, form: Part) -> Result<(), AllocError> {
+    fn look_at(&mut self, form: TokenRange) -> Result<(), AllocError> {
         let outline = Outline::of(self.alloc, self.script, form)?;
         if opening_brace(self.script, form).is_none() {
             let none = Seen {
@@ -100,7 +100,7 @@ impl<'a, 't> Walk<'a, 't> {
     fn look_at_head(
         &mut self,
         outline: &Outline,
-        form: Part,
+        form: TokenRange,
         place: usize,
         head: &Piece,
     ) -> Result<(), AllocError> {
@@ -122,13 +122,13 @@ impl<'a, 't> Walk<'a, 't> {
     fn look_at_field(
         &mut self,
         outline: &Outline,
-        form: Part,
+        form: TokenRange,
         place: usize,
     ) -> Result<(), AllocError> {
         let Some(piece) = outline.pieces.get(place) else {
             return Ok(());
         };
-        let whole = Part {
+        let whole = TokenRange {
             first: piece.part.first,
             end: piece.part.end.saturating_sub(1),
         };
@@ -159,7 +159,7 @@ impl<'a, 't> Walk<'a, 't> {
     fn look_at_clause(
         &mut self,
         purpose: Purpose,
-        part: Part,
+        part: TokenRange,
         seen: &Seen<'_, '_>,
         field: Option<&FieldParts>,
     ) -> Result<(), AllocError> {
@@ -179,7 +179,7 @@ impl<'a, 't> Walk<'a, 't> {
         let Some(expression) = constraint_in(&tree) else {
             return Ok(());
         };
-        let node = Node {
+        let node = PlacedExpression {
             expression,
             first: part.first,
         };
@@ -193,7 +193,7 @@ impl<'a, 't> Walk<'a, 't> {
 /// The first note about an expression.
 fn clause_note(
     purpose: Purpose,
-    node: Node<'_, '_>,
+    node: PlacedExpression<'_, '_>,
     seen: &Seen<'_, '_>,
     field: Option<&FieldParts>,
 ) -> Result<Option<Note>, AllocError> {

@@ -3,7 +3,7 @@
 
 use pickle_source::excerpt::excerpt;
 use pickle_source::script::Script;
-use pickle_source::site::{Purpose, Site, Step};
+use pickle_source::site::{Purpose, Site, SourceStep};
 use pickle_source::text::Text;
 use std::alloc::Global;
 use std::test::Fail;
@@ -105,10 +105,10 @@ All 3 ==> 19:60 Bytes[n] of All if 2 [n]
 All 3 [] ==> 19:60 Bytes of All [4]
 All 3 [] [] ==> 19:60 byte of All"#;
 
-fn step_of(word: &str) -> Result<Step, Fail> {
+fn step_of(word: &str) -> Result<SourceStep, Fail> {
     match word {
-        "[]" => Ok(Step::Element),
-        place => Ok(Step::Field(place.parse::<usize>()?)),
+        "[]" => Ok(SourceStep::Element),
+        place => Ok(SourceStep::Field(place.parse::<usize>()?)),
     }
 }
 

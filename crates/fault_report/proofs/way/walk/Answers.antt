@@ -2,12 +2,12 @@ use Rattle.std.proofs.Common.{refl}
 use Rattle.pickle_types.specs.Table.{type_of}
 use Rattle.fault_report.specs.Ways.{here}
 use Rattle.fault_report.specs.Portions.{typed}
-use Rattle.fault_report.specs.declared.way.Step.{Step}
+use Rattle.fault_report.specs.declared.way.WayStep.{WayStep}
 use Rattle.fault_report.proofs.Leading.{places_more, steps_on, steps_left, goes_on, goes_nowhere}
 use Rattle.fault_report.proofs.way.walk.Goals as goal
 
 -- the step of an empty list
-abbrev no_step : Step
+abbrev no_step : WayStep
 no_step = record { node = 0; place = 0 }
 
 pub loop-step-init : goal.loop-step-init

@@ -5,17 +5,17 @@ ghost use Rattle.pickle_source.specs.Places.{line_behind, column_behind, next_co
 
 /// A place in a pickle: its line, and its column in bytes, both counted from 1.
 #[derive(Clone, Copy, Debug, Drop, PartialEq, Eq)]
-pub struct Place {
+pub struct LineColumn {
     pub line: usize,
     pub column: usize,
 }
 
 /// The place after some bytes. A line feed ends a line.
-pub fn place_behind(before: &[u8]) -> Place
+pub fn place_behind(before: &[u8]) -> LineColumn
     ensures line { result.line ≡ line_behind before.now }
     ensures column { result.column ≡ column_behind before.now }
 {
-    Place {
+    LineColumn {
         line: 1 + line_feeds(before),
         column: column_behind(before),
     }

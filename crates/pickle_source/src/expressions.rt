@@ -2,13 +2,13 @@
 
 ghost use Rattle.std.specs.Prelude.{◌≤◌};
 
-use crate::script::Part;
+use crate::script::TokenRange;
 use pickle_syntax::tree::{Clauses, Expression, Field, Form, Pickle, Reference, Suffix, Target};
 use std::alloc::{AllocError, Global};
 
 /// An expression, and its first token.
 #[derive(Clone, Copy)]
-pub struct Node<'a, 't> {
+pub struct PlacedExpression<'a, 't> {
     pub expression: &'a Expression<'t>,
     pub first: usize,
 }
@@ -73,25 +73,25 @@ fn constraint_of<'a, 't>(field: &'a Field<'t>) -> Option<&'a Expression<'t>> {
     }
 }
 
-impl<'a, 't> Node<'a, 't> {
+impl<'a, 't> PlacedExpression<'a, 't> {
     /// The tokens of the expression.
-    pub fn part(self) -> Part {
-        Part {
+    pub fn part(self) -> TokenRange {
+        TokenRange {
             first: self.first,
             end: self.first.saturating_add(token_count(self.expression)),
         }
     }
 
     /// An operand that begins `behind` tokens after this one's first.
-    fn inner(self, expression: &'a Expression<'t>, behind: usize) -> Node<'a, 't> {
-        Node {
+    fn inner(self, expression: &'a Expression<'t>, behind: usize) -> PlacedExpression<'a, 't> {
+        PlacedExpression {
             expression,
             first: self.first.saturating_add(behind),
         }
     }
 
     /// The operands, in the order in which they are checked.
-    pub fn operands(self, alloc: Global) -> Result<Vec<Node<'a, 't>>, AllocError> {
+    pub fn operands(self, alloc: Global) -> Result<Vec<PlacedExpression<'a, 't>>, AllocError> {
         let mut operands = Vec::new(alloc);
         match self.expression {
             Expression::Number(_)
@@ -129,7 +129,7 @@ impl<'a, 't> Node<'a, 't> {
     }
 
     /// The operand of a number, counted from 0. `None` if it has no such operand.
-    fn operand(self, number: u8) -> Option<Node<'a, 't>> {
+    fn operand(self, number: u8) -> Option<PlacedExpression<'a, 't>> {
         match (self.expression, number) {
             (Expression::Bracket(inner) | Expression::Prefix(_, inner), 0) => Some(self.inner(
                 inner, 1,
@@ -161,7 +161,7 @@ impl<'a, 't> Node<'a, 't> {
     }
 
     /// The operand to which the numbers of operands lead, as far as there are such operands.
-    pub fn operand_at(self, numbers: &[u8]) -> Node<'a, 't> {
+    pub fn operand_at(self, numbers: &[u8]) -> PlacedExpression<'a, 't> {
         let mut node = self;
         for number in numbers {
             if let Some(operand) = node.operand(*number) {
