@@ -17,7 +17,7 @@ use pickle_types::view::Resolved;
 use std::alloc::AllocError;
 
 /// What is wrong with an expression that stops a mapping. `None` if the run stops the mapping, as a limit does.
-pub fn blamed(
+pub fn blame_of(
     seen: Seen<'_>,
     clause: Clause,
     e: &Resolved,
@@ -30,13 +30,13 @@ pub fn blamed(
     };
     Ok(Some(Blamed {
         clause,
-        decimal: said(seen.in_base(Base::Ten), e, kind)?,
-        hexadecimal: said(seen.in_base(Base::Sixteen), e, kind)?,
+        decimal: fault_texts(seen.in_base(Base::Ten), e, kind)?,
+        hexadecimal: fault_texts(seen.in_base(Base::Sixteen), e, kind)?,
     }))
 }
 
 /// What is wrong with an expression, and the values of its names.
-fn said(seen: Seen<'_>, e: &Resolved, kind: MapFaultKind) -> Result<Said, AllocError>
+fn fault_texts(seen: Seen<'_>, e: &Resolved, kind: MapFaultKind) -> Result<Said, AllocError>
     requires { IsSoundTerm (term_of e.now) }
 {
     Ok(Said {
@@ -55,7 +55,7 @@ pub fn lead(
 ) -> Result<Option<Lead>, AllocError>
     requires { IsSoundTerm (term_of e.now) }
 {
-    let decimal = valued(seen.in_base(Base::Ten), e)?;
+    let decimal = value_texts(seen.in_base(Base::Ten), e)?;
     if decimal.names.is_empty() || seen.known(e).is_none() {
         return Ok(None);
     }
@@ -65,13 +65,13 @@ pub fn lead(
         value: Blamed {
             clause,
             decimal,
-            hexadecimal: valued(seen.in_base(Base::Sixteen), e)?,
+            hexadecimal: value_texts(seen.in_base(Base::Sixteen), e)?,
         },
     }))
 }
 
 /// The value of an expression, and those of its names.
-fn valued(seen: Seen<'_>, e: &Resolved) -> Result<Said, AllocError>
+fn value_texts(seen: Seen<'_>, e: &Resolved) -> Result<Said, AllocError>
     requires { IsSoundTerm (term_of e.now) }
 {
     Ok(Said {
@@ -155,7 +155,7 @@ fn say_absent(seen: Seen<'_>, text: Text, e: &Resolved) -> Result<Text, AllocErr
     requires { IsSoundTerm (term_of e.now) }
 {
     let text = text.say(b"asks for ")?;
-    match seen.called(e)? {
+    match seen.expression_path(e)? {
         Some(called) => text
             .quote(called.text.into_bytes().as_slice())?
             .say(b", which isn't there"),
@@ -183,7 +183,7 @@ fn say_element(seen: Seen<'_>, text: Text, of: &Resolved, i: &Resolved) -> Resul
         Some(number) => say_number(text, number)?,
         None => text,
     };
-    let text = match seen.called(of)? {
+    let text = match seen.expression_path(of)? {
         Some(called) => text
             .say(b" of ")?
             .quote(called.text.into_bytes().as_slice())?,

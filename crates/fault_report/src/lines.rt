@@ -32,7 +32,7 @@ pub fn fault_text(scene: &Scene<'_, '_>, fault: &Fault) -> Result<Text, AllocErr
         return Ok(Text::new(scene.alloc));
     };
     let about = about(scene, fault, &found)?.into_bytes();
-    let text = laid(
+    let text = concatenate(
         scene.alloc,
         b"  in ",
         found.path.as_slice(),
@@ -43,7 +43,7 @@ pub fn fault_text(scene: &Scene<'_, '_>, fault: &Fault) -> Result<Text, AllocErr
 }
 
 /// A text of four parts.
-pub fn laid(
+pub fn concatenate(
     alloc: Global,
     head: &[u8],
     path: &[u8],
@@ -118,7 +118,7 @@ fn say_blamed(
 ) -> Result<Text, AllocError> {
     let text = text.say(b"  the ")?.say(word_of(blamed.clause))?;
     let text = scene.say_clause(text, way, purpose_of(blamed.clause))?;
-    say_said(text.say(b" ")?, scene.said(blamed, way)?)?.say(b"\n")
+    say_said(text.say(b" ")?, scene.texts_of(blamed, way)?)?.say(b"\n")
 }
 
 /// What a clause is called.
@@ -161,7 +161,7 @@ fn say_lead(scene: &Scene<'_, '_>, text: Text, lead: &Lead) -> Result<Text, Allo
     let text = text.say(b"  the ")?.say(word_of(clause))?;
     let text = scene.say_clause(text, &lead.way, purpose_of(clause))?;
     let text = text.say(b" of ")?.say(found.path.as_slice())?.say(b" ")?;
-    let text = say_said(text, scene.said(&lead.value, &lead.way)?)?;
+    let text = say_said(text, scene.texts_of(&lead.value, &lead.way)?)?;
     let text = match clause {
         Clause::Label => say_bit(scene.alloc, text.say(b", counted from ")?, lead.start)?,
         Clause::Constraint | Clause::Condition | Clause::Count | Clause::Size => text,
@@ -376,7 +376,7 @@ fn say_unmet(
     blamed: &Blamed,
 ) -> Result<Text, AllocError> {
     let text = scene.say_clause(text.say(b":")?, way, purpose_of(blamed.clause))?;
-    say_said(text.say(b" ")?, scene.said(blamed, way)?)
+    say_said(text.say(b" ")?, scene.texts_of(blamed, way)?)
 }
 
 /// The lines on the arrays that ended early. Those whose next element begins otherwise stand behind those that ended
@@ -413,7 +413,7 @@ fn say_planned(scene: &Scene<'_, '_>, text: Text, count: usize) -> Result<Text, 
 fn planned_line(scene: &Scene<'_, '_>, count: &[u8]) -> Result<Text, AllocError>
     ensures { IfOk result (λ text. text.bytes.items ≡ codes "  " ++ (count.now ++ planned_ending)) }
 {
-    laid(
+    concatenate(
         scene.alloc,
         b"  ",
         count,
@@ -450,7 +450,7 @@ fn more_line(scene: &Scene<'_, '_>, count: &[u8]) -> Result<Text, AllocError>
     ensures { IfOk result
         (λ text. text.bytes.items ≡ codes "  " ++ (count.now ++ codes " ended early before these\n")) }
 {
-    laid(
+    concatenate(
         scene.alloc,
         b"  ",
         count,
@@ -479,7 +479,7 @@ fn array_line(scene: &Scene<'_, '_>, ended: &EndedArray) -> Result<Text, AllocEr
         return Ok(Text::new(scene.alloc));
     };
     let about = ending(scene, ended, &found)?.into_bytes();
-    let text = laid(
+    let text = concatenate(
         scene.alloc,
         b"  ",
         array.path.as_slice(),

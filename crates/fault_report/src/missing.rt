@@ -3,7 +3,7 @@
 ghost use Rattle.std.specs.Prelude.{IfOk};
 ghost use Rattle.fault_report.specs.Why.{TellsMissing};
 
-use crate::lines::laid;
+use crate::lines::concatenate;
 use crate::members::{name_in, say_members};
 use crate::way::say_element;
 use pickle_map::ValueRef;
@@ -47,7 +47,7 @@ fn say_first_missing(
         None => Text::new(alloc),
     };
     let behind = behind.say(b"\n")?.into_bytes();
-    let text = laid(alloc, b"  ", shown, b" is there", behind.as_slice())?;
+    let text = concatenate(alloc, b"  ", shown, b" is there", behind.as_slice())?;
     Ok(text)
 }
 

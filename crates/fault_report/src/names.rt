@@ -89,7 +89,7 @@ fn tell<'a>(seen: Seen<'a>, e: &'a Resolved, names: &mut Vec<Vec<u8>>) -> Result
     let Some(known) = seen.known(e) else {
         return Ok(false);
     };
-    let Some(called) = seen.called(e)? else {
+    let Some(called) = seen.expression_path(e)? else {
         return Ok(false);
     };
     let text = say_known(seen.alloc, called.text.say(b"=")?, known, seen.base)?.into_bytes();

@@ -58,15 +58,15 @@ impl TypeMapping<'_> {
         if ends_run(fault.kind) {
             return Ok(with_stop(part, self.ask, fault));
         }
-        match self.checked(look, fault, part, space, store)? {
+        match self.confirm_part(look, fault, part, space, store)? {
             Some(part) => Ok(Some(part)),
-            None => self.searched(fault, space, store),
+            None => self.search_part(fault, space, store),
         }
     }
 
     /// A part with what was seen near it, if its stop is the fault and the check finds the fault there. Otherwise the
     /// store is empty afterwards.
-    fn checked<S: Space>(
+    fn confirm_part<S: Space>(
         self,
         look: Option<Look>,
         fault: MapFault,
@@ -104,12 +104,12 @@ impl TypeMapping<'_> {
         };
         store.clear();
         let fits = self.other_order(fault, &part, space, store);
-        Ok(Some(seen_near(part, approached, front, fits, met)))
+        Ok(Some(with_surroundings(part, approached, front, fits, met)))
     }
 
     /// The part with a fault that the type means, found without the watcher. `None` if the search ends before it is
     /// found.
-    fn searched<S: Space>(
+    fn search_part<S: Space>(
         self,
         fault: MapFault,
         space: &mut S,
@@ -192,7 +192,7 @@ fn front_of(
 }
 
 /// A part, with what was seen near it.
-fn seen_near(
+fn with_surroundings(
     part: Fault,
     approached: Approached,
     front: Vec<Vec<u8>>,

@@ -102,7 +102,7 @@ impl<'p, 't> Scene<'p, 't> {
     }
 
     /// What is printed of an expression of a part: in base sixteen if a number in it is written so.
-    pub fn said<'b>(&self, blamed: &'b Blamed, way: &Way) -> Result<&'b Said, AllocError> {
+    pub fn texts_of<'b>(&self, blamed: &'b Blamed, way: &Way) -> Result<&'b Said, AllocError> {
         let Some(part) = self.clause(way, purpose_of(blamed.clause))? else {
             return Ok(&blamed.decimal);
         };

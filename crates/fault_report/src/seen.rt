@@ -83,21 +83,21 @@ impl<'a> Seen<'a> {
 
     /// A name, or a path from one, as it is printed: `a.b`, `a[2].b` or `a'length`. `None` for any other expression,
     /// and if an index has no value.
-    pub fn called(self, e: &'a Resolved) -> Result<Option<Called>, AllocError>
+    pub fn expression_path(self, e: &'a Resolved) -> Result<Option<Called>, AllocError>
         requires { IsSoundTerm (term_of e.now) }
     {
         match e {
-            Resolved::Bracket(e) => self.called(e),
+            Resolved::Bracket(e) => self.expression_path(e),
             Resolved::Name(level, place) => self.name(*level, *place),
-            Resolved::Select(e, place) => match self.called(e)? {
+            Resolved::Select(e, place) => match self.expression_path(e)? {
                 Some(called) => self.select(called, *place),
                 None => Ok(None),
             },
-            Resolved::Index(e, i) => match (self.called(e)?, self.number(i)) {
+            Resolved::Index(e, i) => match (self.expression_path(e)?, self.number(i)) {
                 (Some(called), Some(place)) => self.element(called, place),
                 _ => Ok(None),
             },
-            Resolved::Attribute(attribute, e) => match self.called(e)? {
+            Resolved::Attribute(attribute, e) => match self.expression_path(e)? {
                 Some(called) => Ok(Some(attribute_of(called, *attribute)?)),
                 None => Ok(None),
             },

@@ -4,7 +4,7 @@ ghost use Rattle.std.specs.Prelude.{◌≡◌, false, IfOk, IfSome, IfNone};
 ghost use Rattle.fault_report.specs.Why.{is_of_value, TellsTerm, TellsRoom, TellsSize, TellsOutput};
 
 use crate::absent::absent_text;
-use crate::lines::{laid, say_room};
+use crate::lines::{concatenate, say_room};
 use crate::missing::missing_text;
 use pickle_map::ValueRef;
 use pickle_source::text::Text;
@@ -101,7 +101,7 @@ fn left_text(alloc: Global, value: ValueRef<'_>, bits: u64) -> Result<Text, Allo
     let end = u128::from(value.start()) + u128::from(value.size());
     let left = u128::from(bits).saturating_sub(end);
     let room = say_room(Text::new(alloc), left)?.into_bytes();
-    let text = laid(alloc, b"  ", room.as_slice(), b"\n", b"")?;
+    let text = concatenate(alloc, b"  ", room.as_slice(), b"\n", b"")?;
     Ok(text)
 }
 
@@ -134,7 +134,7 @@ fn size_text(alloc: Global, value: Typed<'_>, terms: &Terms, mode: Mode) -> Resu
     let count = Text::new(alloc)
         .say_number(counter.bytes as usize)?
         .into_bytes();
-    let text = laid(
+    let text = concatenate(
         alloc,
         b"  the text has ",
         count.as_slice(),

@@ -6,7 +6,7 @@ ghost use Rattle.pickle_types.specs.Sound.{IsSoundTerm};
 ghost use Rattle.pickle_types.specs.Table.{term_of};
 
 use crate::again::Kept;
-use crate::blame::blamed;
+use crate::blame::blame_of;
 use crate::cause::{Cause, EndedArray, Fault, Miss, Misses};
 use crate::endings::Endings;
 use crate::seen::Seen;
@@ -209,7 +209,7 @@ impl<'t> Told<'t> {
             Cause::Plain
         } else {
             let seen = Seen::new(self.alloc, table, store, &self.trail, clause);
-            match blamed(seen, clause, e, stop)? {
+            match blame_of(seen, clause, e, stop)? {
                 Some(blamed) => Cause::Expression(blamed),
                 None => Cause::Plain,
             }

@@ -803,7 +803,7 @@ pub fn advice(around: Around<'_, '_>, expected: Expected) -> Option<&'static str
 
 /// The advice for the first word of a declaration or field, if it isn't the name of a declared type.
 fn of_opening(around: Around<'_, '_>) -> Option<&'static str> {
-    if around.script.declared(around.opening()).is_some() {
+    if around.script.declaring_token(around.opening()).is_some() {
         return None;
     }
     let first = Around {

@@ -44,7 +44,7 @@ fn declared_type(script: &Script<'_>, token: usize) -> Option<usize> {
     if !is_field(script, token) || !script.is_name(form) || is_predeclared(script.text(form)) {
         return None;
     }
-    script.declared(script.text(form))
+    script.declaring_token(script.text(form))
 }
 
 /// Whether a declared struct or union has a field of a name. `declared` is the token of its own name.

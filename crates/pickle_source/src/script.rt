@@ -63,7 +63,7 @@ impl<'t> Script<'t> {
     }
 
     /// The token that declares a name, after `type`.
-    pub fn declared(&self, name: &[u8]) -> Option<usize> {
+    pub fn declaring_token(&self, name: &[u8]) -> Option<usize> {
         self.names
             .iter()
             .copied()

@@ -52,7 +52,7 @@ struct Opened {
 impl Site {
     /// The declared type with a name. `None` if no type of that name is declared.
     pub fn of_type(script: &Script<'_>, name: &[u8]) -> Option<Site> {
-        let token = script.declared(name)?;
+        let token = script.declaring_token(name)?;
         Some(Site {
             at: token,
             owner: None,
@@ -196,7 +196,7 @@ fn declared_as(script: &Script<'_>, form: TokenRange) -> Option<Opened> {
     if form.first.saturating_add(1) != form.end {
         return None;
     }
-    let owner = script.declared(script.text(form.first))?;
+    let owner = script.declaring_token(script.text(form.first))?;
     Some(Opened {
         form: form_from(script, owner.saturating_add(2), script.len()),
         owner,

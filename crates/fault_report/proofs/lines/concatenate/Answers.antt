@@ -1,5 +1,5 @@
 use Rattle.fault_report.proofs.Laid.{four_parts}
-use Rattle.fault_report.proofs.lines.laid.Goals as goal
+use Rattle.fault_report.proofs.lines.concatenate.Goals as goal
 
 pub returns : goal.returns
 returns c =

@@ -3,7 +3,7 @@ use Rattle.fault_report.specs.Mapped.{mapped_type}
 use Rattle.fault_location.specs.Ways.{fault_of}
 use Rattle.fault_report.specs.Meant.{arises_there}
 use Rattle.fault_report.proofs.Kept.{fault_means}
-use Rattle.fault_report.proofs.mapping.TypeMapping.searched.Goals as goal
+use Rattle.fault_report.proofs.mapping.TypeMapping.search_part.Goals as goal
 
 pub returns-in_ok-way-in-Ok-clause-part : goal.returns-in_ok-way-in-Ok-clause-part
 returns-in_ok-way-in-Ok-clause-part g c =
