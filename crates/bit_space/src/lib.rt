@@ -1,6 +1,16 @@
 #![tactic(auto)]
 
 //! Bytes at positions, counted reads, and the numbers that bits stand for.
+//!
+//! The 8 bits from the fifth bit of three bytes in memory, as a number:
+//!
+//! ```
+//! let mut space = MemSpace::new(Vec::from_slice(alloc, &[0x12, 0x34, 0x56])?)?;
+//! let mut meter = Meter::new(100);
+//! let number = read_number(&mut space, 4, 8, Order::Big, &mut meter);
+//! assert_eq!(rt; number, Ok(0x23));
+//! assert_eq!(rt; meter.steps(), 1);
+//! ```
 
 mod file;
 pub mod laws;

@@ -1,4 +1,17 @@
 //! The types of a pickle: names, type rules, and the bounds of steps and memory.
+//!
+//! How many steps and slots a mapping of an array of pairs takes at most, over 32 bits:
+//!
+//! ```
+//! let tokens = lex(
+//!     alloc,
+//!     b"type Pair = struct { byte a; byte b; }; type Pairs = Pair[];",
+//! )?;
+//! let table = Table::build(alloc, &parse(alloc, &tokens)?)?;
+//! let pairs = table.find(b"Pairs").ok_or("no such type")?;
+//! assert_eq!(rt; table.step_bound(pairs, 32), Some(19));
+//! assert_eq!(rt; table.slot_bound(pairs, 32), Some(19));
+//! ```
 #![tactic(auto)]
 
 pub mod bounds;

@@ -2,6 +2,25 @@
 //!
 //! All output goes through one loop over the writer, [`write::put`]. Values and answers go to one writer. Refusals and
 //! faults go to another, one line each.
+//!
+//! The text of a struct that is mapped over two bytes in memory:
+//!
+//! ```
+//! let pickle = b"type Pair = struct { byte a; byte b; };";
+//! let ask = Ask {
+//!     name: b"Pair",
+//!     start: 0,
+//!     order: Order::Big,
+//!     limit: 1000,
+//!     mode: Mode::Flat,
+//! };
+//! let mut space = MemSpace::new(Vec::from_slice(alloc, &[1, 2])?)?;
+//! let mut out = Vec::new(alloc);
+//! let mut err = Vec::new(alloc);
+//! let status = run_map(alloc, pickle, &ask, &mut space, &mut out, &mut err);
+//! assert_eq!(rt; status, Status::Done);
+//! assert_eq!(rt; out.as_slice(), b"Pair {a=1UB,b=2UB}\n".as_slice());
+//! ```
 #![tactic(auto)]
 
 pub mod draft;

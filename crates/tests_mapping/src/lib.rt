@@ -6,6 +6,8 @@ mod devices;
 #[cfg(test)]
 mod displays;
 #[cfg(test)]
+mod examples;
+#[cfg(test)]
 mod mappings;
 #[cfg(test)]
 mod reads;

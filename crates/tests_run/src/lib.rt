@@ -10,6 +10,8 @@ mod checks;
 #[cfg(test)]
 mod dumps;
 #[cfg(test)]
+mod examples;
+#[cfg(test)]
 mod modes;
 #[cfg(test)]
 mod offset_words;

@@ -4,6 +4,8 @@
 #[cfg(test)]
 mod counted;
 #[cfg(test)]
+mod examples;
+#[cfg(test)]
 mod files;
 #[cfg(test)]
 mod numbers;
