@@ -101,6 +101,7 @@ impl<'n> Builder<'n> {
         requires seen { AreBelow (length self.old.nodes) levels self.old.seen }
         ensures names { self.new.names ≡ self.old.names }
         ensures nodes { self.new.nodes ≡ self.old.nodes }
+        ensures seen { self.new.seen ≡ self.old.seen }
     {
         if let Some(e) = e {
             self.site.expression = refused_in(&self.context(levels), trail, e);
@@ -301,6 +302,54 @@ impl<'n> Builder<'n> {
         }
     }
 
+    /// The label of a field. It sees what comes before the field.
+    fn label(
+        &mut self,
+        levels: u8,
+        e: Option<&Expression<'_>>,
+    ) -> Result<Option<Box<Resolved>>, FaultKind>
+        requires table { IsTable self.old.nodes }
+        requires names { AreNamed self.old.nodes self.old.names }
+        requires seen { AreBelow (length self.old.nodes) levels self.old.seen }
+        ensures gives { Gives optional_term result
+            (offset_expression (known_types self.old) (visible_in self.old) levels (borrowed_tree e.entry)) }
+        ensures sound { IfOk result (λ c. IsSoundClause (optional_term c)) }
+        ensures names { self.new.names ≡ self.old.names }
+        ensures nodes { self.new.nodes ≡ self.old.nodes }
+        ensures seen { self.new.seen ≡ self.old.seen }
+    {
+        let mut trail = Trail::new();
+        let label = self.offset_expression(levels, &mut trail, e);
+        if label.is_err() {
+            self.refuse_clause(RefusedPart::Label, levels, trail, e);
+        }
+        label
+    }
+
+    /// The condition of a field. It sees what comes before the field.
+    fn condition(
+        &mut self,
+        levels: u8,
+        e: Option<&Expression<'_>>,
+    ) -> Result<Option<Box<Resolved>>, FaultKind>
+        requires table { IsTable self.old.nodes }
+        requires names { AreNamed self.old.nodes self.old.names }
+        requires seen { AreBelow (length self.old.nodes) levels self.old.seen }
+        ensures gives { Gives optional_term result
+            (integer_expression (known_types self.old) (visible_in self.old) levels (borrowed_tree e.entry)) }
+        ensures sound { IfOk result (λ c. IsSoundClause (optional_term c)) }
+        ensures names { self.new.names ≡ self.old.names }
+        ensures nodes { self.new.nodes ≡ self.old.nodes }
+        ensures seen { self.new.seen ≡ self.old.seen }
+    {
+        let mut trail = Trail::new();
+        let condition = self.integer_expression(levels, &mut trail, e);
+        if condition.is_err() {
+            self.refuse_clause(RefusedPart::Condition, levels, trail, e);
+        }
+        condition
+    }
+
     /// The constraint of a field. It sees the field itself, and so does what comes after the field, except in a union.
     fn constraint(
         &mut self,
@@ -369,31 +418,8 @@ impl<'n> Builder<'n> {
             self.refuse(RefusedPart::Name);
             return Err(kind);
         }
-        let mut trail = Trail::new();
-        let label = match self.offset_expression(levels + 1, &mut trail, label_in(written)) {
-            Ok(label) => label,
-            Err(kind) => {
-                self.refuse_clause(RefusedPart::Label, levels + 1, trail, label_in(written));
-                return Err(kind);
-            }
-        };
-        let mut trail = Trail::new();
-        let condition = match self.integer_expression(
-            levels + 1,
-            &mut trail,
-            condition_in(written),
-        ) {
-            Ok(condition) => condition,
-            Err(kind) => {
-                self.refuse_clause(
-                    RefusedPart::Condition,
-                    levels + 1,
-                    trail,
-                    condition_in(written),
-                );
-                return Err(kind);
-            }
-        };
+        let label = self.label(levels + 1, label_in(written))?;
+        let condition = self.condition(levels + 1, condition_in(written))?;
         let itself = Seen {
             name: word,
             level: levels,
