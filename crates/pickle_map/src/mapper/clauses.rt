@@ -40,7 +40,7 @@ pub fn check(
 {
     match clause {
         None => Ok(()),
-        Some(e) => satisfied(truth_told(e, store, place, meter)?, place),
+        Some(e) => fail_unless(find_truth(e, store, place, meter)?, place),
     }
 }
 
@@ -59,7 +59,7 @@ pub fn is_there(
 {
     match clause {
         None => Ok(true),
-        Some(e) => truth_told(e, store, start, meter),
+        Some(e) => find_truth(e, store, start, meter),
     }
 }
 
@@ -87,7 +87,7 @@ pub fn find_start(
     }
     match label {
         None => Ok(u128::from(behind)),
-        Some(e) => labelled_start(e, store, u128::from(start), meter),
+        Some(e) => evaluate_label(e, store, u128::from(start), meter),
     }
 }
 
@@ -107,14 +107,14 @@ pub fn find_extent(
 {
     match bound {
         Bound::Unbounded => Ok(Extent::Open),
-        Bound::Count(e) => evaluated_count(e, store, start, meter),
-        Bound::Size(e) => evaluated_size(e, store, start, meter),
+        Bound::Count(e) => evaluate_count(e, store, start, meter),
+        Bound::Size(e) => evaluate_size(e, store, start, meter),
     }
 }
 
 /// The bit that a label means. Its fault is at `start`.
 #[inline(never)]
-fn labelled_start(e: &Resolved, store: &Store, start: u128, meter: &mut Meter) -> Result<u128, Stop>
+fn evaluate_label(e: &Resolved, store: &Store, start: u128, meter: &mut Meter) -> Result<u128, Stop>
     requires sound { IsSoundTerm (term_of e.now) }
     requires start { start < 2 ^ 127 }
     ensures limit { meter.new.limit ≡ meter.old.limit }
@@ -123,12 +123,12 @@ fn labelled_start(e: &Resolved, store: &Store, start: u128, meter: &mut Meter) -
     ensures is { (nodes : List TableNode) →
         TellsOf nodes meter.old meter.new store.now e.now start (behind_start start) result }
 {
-    behind_start(told(e, store, start, meter)?, start)
+    behind_start(evaluate(e, store, start, meter)?, start)
 }
 
 /// The number of elements that a bound is. Its fault is at `start`.
 #[inline(never)]
-fn evaluated_count(
+fn evaluate_count(
     e: &Resolved,
     store: &Store,
     start: u128,
@@ -141,12 +141,12 @@ fn evaluated_count(
     ensures is { (nodes : List TableNode) →
         TellsOf nodes meter.old meter.new store.now e.now start (count_of start) result }
 {
-    count_of(told(e, store, start, meter)?, start)
+    count_of(evaluate(e, store, start, meter)?, start)
 }
 
 /// The number of bits that a bound is. Its fault is at `start`.
 #[inline(never)]
-fn evaluated_size(
+fn evaluate_size(
     e: &Resolved,
     store: &Store,
     start: u128,
@@ -159,11 +159,11 @@ fn evaluated_size(
     ensures is { (nodes : List TableNode) →
         TellsOf nodes meter.old meter.new store.now e.now start (size_of start) result }
 {
-    size_of(told(e, store, start, meter)?, start)
+    size_of(evaluate(e, store, start, meter)?, start)
 }
 
 /// What matters to an operator about an expression's value. Its fault is at `place`.
-fn told<'a>(
+fn evaluate<'a>(
     e: &'a Resolved,
     store: &'a Store,
     place: u128,
@@ -185,7 +185,7 @@ fn told<'a>(
 
 /// The truth of an expression. Its fault is at `place`. Comparisons of integers take a fast path.
 #[inline(always)]
-fn truth_told(e: &Resolved, store: &Store, place: u128, meter: &mut Meter) -> Result<bool, Stop>
+fn find_truth(e: &Resolved, store: &Store, place: u128, meter: &mut Meter) -> Result<bool, Stop>
     requires { IsSoundTerm (term_of e.now) }
     ensures limit { meter.new.limit ≡ meter.old.limit }
     ensures made { meter.new.made ≡ meter.old.made }
@@ -199,29 +199,24 @@ fn truth_told(e: &Resolved, store: &Store, place: u128, meter: &mut Meter) -> Re
             meter.tick()?;
             Ok(holds)
         }
-        None => evaluated_truth(e, store, place, meter),
+        None => evaluate_truth(e, store, place, meter),
     }
 }
 
 /// The truth of an expression's value. Its fault is at `place`.
 #[inline(never)]
-fn evaluated_truth(
-    e: &Resolved,
-    store: &Store,
-    place: u128,
-    meter: &mut Meter,
-) -> Result<bool, Stop>
+fn evaluate_truth(e: &Resolved, store: &Store, place: u128, meter: &mut Meter) -> Result<bool, Stop>
     requires { IsSoundTerm (term_of e.now) }
     ensures limit { meter.new.limit ≡ meter.old.limit }
     ensures made { meter.new.made ≡ meter.old.made }
     ensures steps { meter.old.steps ≤ meter.new.steps }
     ensures is { (nodes : List TableNode) → TellsTruth nodes meter.old meter.new store.now e.now place result }
 {
-    told_truth(told(e, store, place, meter)?, place)
+    truth_at(evaluate(e, store, place, meter)?, place)
 }
 
 /// Fails with a Constraint fault unless the constraint holds.
-fn satisfied(holds: bool, place: u128) -> Result<(), Stop>
+fn fail_unless(holds: bool, place: u128) -> Result<(), Stop>
     ensures { Ends result (satisfied place (Ok holds)) }
 {
     if holds {
@@ -232,7 +227,7 @@ fn satisfied(holds: bool, place: u128) -> Result<(), Stop>
 }
 
 /// The truth of a value: any integer but 0 is true.
-fn told_truth(x: Content<'_>, place: u128) -> Result<bool, Stop>
+fn truth_at(x: Content<'_>, place: u128) -> Result<bool, Stop>
     ensures { (y : Label) → IsHeld x.entry y → Ends result (kind_at place (truth_of y)) }
 {
     match truth_of(x) {

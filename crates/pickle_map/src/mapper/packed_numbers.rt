@@ -50,7 +50,7 @@ fn packs_structs(nodes: &[Node], pinned: bool, fields: &[Field]) -> bool
 }
 
 /// How the elements of an array are kept, whose type is the one at a place of the table.
-pub(crate) fn packed_as<'a>(nodes: &'a [Node], element: usize, store: &Store) -> Packing<'a>
+pub(crate) fn packing_of<'a>(nodes: &'a [Node], element: usize, store: &Store) -> Packing<'a>
     requires table { IsTable nodes.now }
     requires element { element < length nodes.now }
     ensures { PacksOrNot nodes.entry.now element result store.now.room }

@@ -16,7 +16,7 @@ ghost use Rattle.value_store.specs.Names.{names_at, field_name, part_name};
 ghost use Rattle.value_store.specs.Slots.{levels, level_count, AreLevels};
 
 use crate::mapper::level::leave_level;
-use crate::mapper::packed_numbers::{Packing, packed_as};
+use crate::mapper::packed_numbers::{Packing, packing_of};
 use crate::mapper::state::Mapper;
 use crate::mapper::stop::Stop;
 use crate::mapper::watch::Watch;
@@ -213,7 +213,7 @@ impl<W: Watch> Mapper<'_, W> {
         ensures is { Closes (S.view space.old) self.old self.new (as_array_level element extent order start) result }
         ensures level { LeavesLevel self.old self.new result }
     {
-        match packed_as(self.nodes, element, self.store) {
+        match packing_of(self.nodes, element, self.store) {
             Packing::Numbers(shape) => self.row_body(element, shape, extent, order, start, space),
             Packing::Records(fields) => {
                 self.records_body(element, fields, extent, order, start, space)

@@ -8,8 +8,8 @@ returns-in-Unbounded-clause-is c nodes = rw c.in-Unbounded.is (refl, omega arith
 
 pub returns-in-Count-clause-is : goal.returns-in-Count-clause-is
 unfolding extent_of
-returns-in-Count-clause-is c nodes = rw (c.in-Count.is, ← c.deref.ensures) (c.evaluated_count.ensures.is nodes)
+returns-in-Count-clause-is c nodes = rw (c.in-Count.is, ← c.deref.ensures) (c.evaluate_count.ensures.is nodes)
 
 pub returns-in-Size-clause-is : goal.returns-in-Size-clause-is
 unfolding extent_of
-returns-in-Size-clause-is c nodes = rw (c.in-Size.is, ← c.deref-in-Size.ensures) (c.evaluated_size.ensures.is nodes)
+returns-in-Size-clause-is c nodes = rw (c.in-Size.is, ← c.deref-in-Size.ensures) (c.evaluate_size.ensures.is nodes)

@@ -9,7 +9,7 @@ returns-in-None-clause-is c nodes = rw (c.if-pinned.false, c.in-None.is, c.from-
 pub returns-in-Some-clause-is : goal.returns-in-Some-clause-is
 unfolding field_start
 returns-in-Some-clause-is c nodes = rw (c.if-pinned.false, c.in-Some.is, ← c.deref.ensures)
-    (rw c.from-in-Some.ensures at (c.labelled_start.ensures.is nodes))
+    (rw c.from-in-Some.ensures at (c.evaluate_label.ensures.is nodes))
 
 pub returns-then-pinned-clause-is : goal.returns-then-pinned-clause-is
 unfolding field_start

@@ -8,4 +8,4 @@ returns-in-None-clause-is c nodes = rw c.in-None.is (refl, omega arith)
 
 pub returns-in-Some-clause-is : goal.returns-in-Some-clause-is
 unfolding condition
-returns-in-Some-clause-is c nodes = rw (c.in-Some.is, ← c.deref.ensures) (c.truth_told.ensures.is nodes)
+returns-in-Some-clause-is c nodes = rw (c.in-Some.is, ← c.deref.ensures) (c.find_truth.ensures.is nodes)

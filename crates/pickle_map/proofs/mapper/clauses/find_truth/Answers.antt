@@ -6,7 +6,7 @@ use Rattle.pickle_meaning.specs.Values.{IntegerLabel}
 use Rattle.pickle_meaning.specs.Evaluation.{evaluation}
 use Rattle.pickle_map.proofs.Settling.{known_truth, known_stops}
 use Rattle.value_store.specs.Slots.{levels}
-use Rattle.pickle_map.proofs.mapper.clauses.truth_told.Goals as goal
+use Rattle.pickle_map.proofs.mapper.clauses.find_truth.Goals as goal
 
 pub returns-in_err-tick-in-Some-clause-is : goal.returns-in_err-tick-in-Some-clause-is
 returns-in_err-tick-in-Some-clause-is c nodes =

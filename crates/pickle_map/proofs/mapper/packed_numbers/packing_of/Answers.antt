@@ -5,7 +5,7 @@ use Rattle.mapping_plans.specs.Rows.{Records, struct_row, row_of}
 use Rattle.pickle_map.proofs.Elements.{apart_shape}
 use Rattle.pickle_map.proofs.RecordTypes.{record_type}
 use Rattle.pickle_map.proofs.Shapes.{opened_as, below_as}
-use Rattle.pickle_map.proofs.mapper.packed_numbers.packed_as.Goals as goal
+use Rattle.pickle_map.proofs.mapper.packed_numbers.packing_of.Goals as goal
 
 pub returns-in-Integer : goal.returns-in-Integer
 returns-in-Integer c =

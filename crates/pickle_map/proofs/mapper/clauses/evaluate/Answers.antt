@@ -4,7 +4,7 @@ use Rattle.pickle_meaning.specs.Evaluation.{evaluation}
 use Rattle.pickle_evaluation.specs.declared.operand.Unvalued.{Unvalued}
 use Rattle.pickle_evaluation.specs.Comes.{Seen}
 use Rattle.value_store.specs.Slots.{levels}
-use Rattle.pickle_map.proofs.mapper.clauses.told.Goals as goal
+use Rattle.pickle_map.proofs.mapper.clauses.evaluate.Goals as goal
 
 pub returns-in-Err-Limit-clause-is : goal.returns-in-Err-Limit-clause-is
 returns-in-Err-Limit-clause-is c nodes =
