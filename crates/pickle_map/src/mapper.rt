@@ -14,6 +14,7 @@ pub(crate) mod packed_fields;
 pub(crate) mod packed_numbers;
 pub(crate) mod packed_structs;
 pub mod read;
+pub(crate) mod start;
 pub mod state;
 pub mod stop;
 pub(crate) mod text;

@@ -19,25 +19,24 @@ ghost use Rattle.value_store.specs.Slots.{level_count, HoldsInRoom};
 
 use crate::mapper::level::leave_level;
 use crate::mapper::read::read_digits;
+use crate::mapper::start::Start;
 use crate::mapper::state::Mapper;
 use crate::mapper::stop::Stop;
 use crate::mapper::watch::Watch;
 use crate::mapper::watched_clauses::check;
-use bit_space::{Order, Space};
+use bit_space::Space;
 use pickle_meaning::faults::MapFaultKind;
 use pickle_types::integer::IntegerType;
 use pickle_types::view::{Node, Part, Shape};
 use value_store::ranges::low_digits;
 
 impl<W: Watch> Mapper<'_, W> {
-    /// Maps the type at a place of the table, which is read as one number, from the bit `start` on. Returns the bit
-    /// after it.
+    /// Maps the type at a place of the table, which is read as one number. Returns the bit after it.
     pub(crate) fn map_number<S: Space>(
         &mut self,
         at: usize,
         number: IntegerType,
-        order: Order,
-        start: u64,
+        start: Start,
         space: &mut S,
     ) -> Result<u64, Stop>
         requires table { IsTable self.old.nodes.now }
@@ -45,36 +44,35 @@ impl<W: Watch> Mapper<'_, W> {
         requires open { level_count self.old.store.now + depth (type_of self.old.nodes.now at) ≤ 65 }
         requires number { number_type (type_of self.old.nodes.now at) ≡ Some number }
         requires width { IsWidth number }
-        requires inside { start ≤ 8 * (S.view space.old).len }
+        requires inside { start.bit ≤ 8 * (S.view space.old).len }
         ensures frame { Frame (S.view space.old) (S.view space.new) self.old self.new 0 result }
-        ensures ends { IfOk result (IsEnd start (S.view space.old)) }
-        ensures is { Maps (S.view space.old) self.old self.new (as_number at number order start) result }
+        ensures ends { IfOk result (IsEnd start.bit (S.view space.old)) }
+        ensures is { Maps (S.view space.old) self.old self.new (as_number at number start.order start.bit) result }
         ensures level { AddsToLevel self.old self.new result }
     {
-        let digits = read_digits(space, start, number.width, order, self.meter)?;
-        self.place_number(at, digits, start)?;
-        Ok(start + u64::from(number.width))
+        let digits = read_digits(space, start.bit, number.width, start.order, self.meter)?;
+        self.place_number(at, digits, start.bit)?;
+        Ok(start.bit + u64::from(number.width))
     }
 
-    /// Maps an integer from the bit `start` on. Returns the bit after it.
+    /// Maps an integer. Returns the bit after it.
     #[inline(always)]
     pub(crate) fn map_integer<S: Space>(
         &mut self,
         number: IntegerType,
-        order: Order,
-        start: u64,
+        start: Start,
         space: &mut S,
     ) -> Result<u64, Stop>
         requires width { IsWidth number }
-        requires inside { start ≤ 8 * (S.view space.old).len }
+        requires inside { start.bit ≤ 8 * (S.view space.old).len }
         ensures frame { Frame (S.view space.old) (S.view space.new) self.old self.new 0 result }
-        ensures ends { IfOk result (IsEnd start (S.view space.old)) }
-        ensures is { Maps (S.view space.old) self.old self.new (as_integer number order start) result }
+        ensures ends { IfOk result (IsEnd start.bit (S.view space.old)) }
+        ensures is { Maps (S.view space.old) self.old self.new (as_integer number start.order start.bit) result }
         ensures level { AddsToLevel self.old self.new result }
     {
-        let digits = read_digits(space, start, number.width, order, self.meter)?;
-        self.place_integer(number, digits, start)?;
-        Ok(start + u64::from(number.width))
+        let digits = read_digits(space, start.bit, number.width, start.order, self.meter)?;
+        self.place_integer(number, digits, start.bit)?;
+        Ok(start.bit + u64::from(number.width))
     }
 
     /// Stores a number as the type at a place of the table, after its own first step.

@@ -18,13 +18,14 @@ ghost use Rattle.value_store.specs.PackedStructs.{struct_bytes};
 ghost use Rattle.value_store.specs.Slots.{level_count, number_bits, HoldsInRoom};
 
 use crate::mapper::read::read_digits;
+use crate::mapper::start::Start;
 use crate::mapper::state::Mapper;
 use crate::mapper::stop::Stop;
 use crate::mapper::walk::ordered;
 use crate::mapper::watch::Watch;
 use crate::mapper::watched_clauses::check;
 use arrayvec::ArrayVec;
-use bit_space::{Order, Space};
+use bit_space::Space;
 use pickle_types::integer::IntegerType;
 use pickle_types::view::{Field, Node, Resolved, Shape};
 
@@ -154,8 +155,7 @@ impl<W: Watch> Mapper<'_, W> {
         &mut self,
         at: usize,
         number: IntegerType,
-        order: Order,
-        start: u64,
+        start: Start,
         row: &mut RecordBytes,
         space: &mut S,
     ) -> Result<u64, Stop>
@@ -165,47 +165,46 @@ impl<W: Watch> Mapper<'_, W> {
         requires number { number_type (type_of self.old.nodes.now at) ≡ Some number }
         requires width { IsWidth number }
         requires bits { number_bits (scalar_shape (type_of self.old.nodes.now at)) ≡ number.width }
-        requires inside { start ≤ 8 * (S.view space.old).len }
+        requires inside { start.bit ≤ 8 * (S.view space.old).len }
         requires room { array_vec_len row.old + bytes_for number.width ≤ 512 }
         ensures frame { Frame (S.view space.old) (S.view space.new) self.old self.new 0 result }
-        ensures ends { IfOk result (IsEnd start (S.view space.old)) }
-        ensures is { Maps (S.view space.old) self.old self.new (as_number at number order start) result }
+        ensures ends { IfOk result (IsEnd start.bit (S.view space.old)) }
+        ensures is { Maps (S.view space.old) self.old self.new (as_number at number start.order start.bit) result }
         ensures more { PlacesMore self.old.store.now self.new.store.now }
-        ensures adds { IfOk result (λ end. AddsScalar self.old self.new at start end row.old.items row.new.items) }
+        ensures adds { IfOk result (λ end. AddsScalar self.old self.new at start.bit end row.old.items row.new.items) }
         ensures level { AddsToLevel self.old self.new result }
     {
-        let digits = read_digits(space, start, number.width, order, self.meter)?;
-        self.place_scalar(at, digits, start)?;
+        let digits = read_digits(space, start.bit, number.width, start.order, self.meter)?;
+        self.place_scalar(at, digits, start.bit)?;
         append_digits(row, number.width, digits);
-        Ok(start + u64::from(number.width))
+        Ok(start.bit + u64::from(number.width))
     }
 
     /// Maps the integer or offset at a place of the table, and appends its bytes to a row. Returns the bit after it.
     fn map_scalar<S: Space>(
         &mut self,
         at: usize,
-        order: Order,
-        start: u64,
+        start: Start,
         row: &mut RecordBytes,
         space: &mut S,
     ) -> Result<u64, Stop>
         requires table { IsTable self.old.nodes.now }
         requires at { at < length self.old.nodes.now }
         requires scalar { IsScalar (type_of self.old.nodes.now at) }
-        requires inside { start ≤ 8 * (S.view space.old).len }
+        requires inside { start.bit ≤ 8 * (S.view space.old).len }
         requires room { array_vec_len row.old + bytes_for (number_bits (scalar_shape (type_of self.old.nodes.now at)))
             ≤ 512 }
         ensures frame { Frame (S.view space.old) (S.view space.new) self.old self.new 0 result }
-        ensures ends { IfOk result (IsEnd start (S.view space.old)) }
-        ensures is { Maps (S.view space.old) self.old self.new (as_type at order start) result }
+        ensures ends { IfOk result (IsEnd start.bit (S.view space.old)) }
+        ensures is { Maps (S.view space.old) self.old self.new (as_type at start.order start.bit) result }
         ensures more { PlacesMore self.old.store.now self.new.store.now }
-        ensures adds { IfOk result (λ end. AddsScalar self.old self.new at start end row.old.items row.new.items) }
+        ensures adds { IfOk result (λ end. AddsScalar self.old self.new at start.bit end row.old.items row.new.items) }
         ensures level { AddsToLevel self.old self.new result }
     {
         let nodes = self.nodes;
         match &nodes[at].shape {
-            Shape::Integer(number) => self.map_digits(at, *number, order, start, row, space),
-            Shape::Offset(number, _) => self.map_digits(at, *number, order, start, row, space),
+            Shape::Integer(number) => self.map_digits(at, *number, start, row, space),
+            Shape::Offset(number, _) => self.map_digits(at, *number, start, row, space),
             _ => unreachable!(),
         }
     }
@@ -216,8 +215,7 @@ impl<W: Watch> Mapper<'_, W> {
         &mut self,
         node: usize,
         constraint: &Option<Box<Resolved>>,
-        order: Order,
-        start: u64,
+        start: Start,
         row: &mut RecordBytes,
         space: &mut S,
     ) -> Result<u64, Stop>
@@ -225,23 +223,25 @@ impl<W: Watch> Mapper<'_, W> {
         requires at { node < length self.old.nodes.now }
         requires scalar { IsScalar (type_of self.old.nodes.now node) }
         requires sound { IsSoundClause (optional_term constraint.now) }
-        requires inside { start ≤ 8 * (S.view space.old).len }
+        requires inside { start.bit ≤ 8 * (S.view space.old).len }
         requires room { array_vec_len row.old + bytes_for (number_bits (scalar_shape (type_of self.old.nodes.now node)))
             ≤ 512 }
         ensures frame { Frame (S.view space.old) (S.view space.new) self.old self.new 0 result }
-        ensures ends { IfOk result (IsEnd start (S.view space.old)) }
-        ensures is { Maps (S.view space.old) self.old self.new (as_checked node constraint.now order start) result }
+        ensures ends { IfOk result (IsEnd start.bit (S.view space.old)) }
+        ensures is { Maps (S.view space.old) self.old self.new
+            (as_checked node constraint.now start.order start.bit) result }
         ensures more { PlacesMore self.old.store.now self.new.store.now }
-        ensures adds { IfOk result (λ end. AddsScalar self.old self.new node start end row.old.items row.new.items) }
+        ensures adds { IfOk result
+            (λ end. AddsScalar self.old self.new node start.bit end row.old.items row.new.items) }
         ensures level { LevelStays self.old self.new }
     {
         let nodes = self.nodes;
-        let end = self.map_scalar(node, order, start, row, space)?;
+        let end = self.map_scalar(node, start, row, space)?;
         check(
             nodes,
             constraint,
             self.store,
-            u128::from(start),
+            u128::from(start.bit),
             self.meter,
             self.watch,
         )?;
@@ -253,37 +253,34 @@ impl<W: Watch> Mapper<'_, W> {
     pub(crate) fn map_columns<S: Space>(
         &mut self,
         fields: &[Field],
-        order: Order,
-        start: u64,
+        start: Start,
         row: &mut RecordBytes,
         space: &mut S,
     ) -> Result<u64, Stop>
         requires table { IsTable self.old.nodes.now }
         requires fields { All (IsFieldOf self.old.nodes.now (level_count self.old.store.now)) fields.now }
         requires columns { AreColumns (open_fields (type_of self.old.nodes.now) fields.now) }
-        requires inside { start ≤ 8 * (S.view space.old).len }
+        requires inside { start.bit ≤ 8 * (S.view space.old).len }
         requires holds { HoldsInRoom self.old.store.now }
         requires room { array_vec_len row.old + struct_bytes (columns_of self.old fields.now) ≤ 512 }
         ensures frame { Frame (S.view space.old) (S.view space.new) self.old self.new 0 result }
-        ensures ends { IfOk result (IsEnd start (S.view space.old)) }
-        ensures is { Fills (S.view space.old) self.old self.new (as_fields false fields.now order start) result }
+        ensures ends { IfOk result (IsEnd start.bit (S.view space.old)) }
+        ensures is { Fills (S.view space.old) self.old self.new
+            (as_fields false fields.now start.order start.bit) result }
         ensures more { PlacesMore self.old.store.now self.new.store.now }
         ensures adds { IfOk result
-            (λ end. AddsColumns self.old self.new fields.now start end row.old.items row.new.items) }
+            (λ end. AddsColumns self.old self.new fields.now start.bit end row.old.items row.new.items) }
         ensures level { LevelStays self.old self.new }
     {
-        let mut place = start;
+        let mut place = start.bit;
         for field in fields {
             self.watch.next();
             self.meter.tick()?;
-            place = self.map_column(
-                field.node,
-                &field.constraint,
-                ordered(field.order, order),
-                place,
-                row,
-                space,
-            )?;
+            let next = Start {
+                order: ordered(field.order, start.order),
+                bit: place,
+            };
+            place = self.map_column(field.node, &field.constraint, next, row, space)?;
         }
         Ok(place)
     }

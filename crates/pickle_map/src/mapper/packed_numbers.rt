@@ -13,10 +13,11 @@ ghost use Rattle.pickle_meaning.specs.Values.{outer_of};
 
 use crate::mapper::packed_fields::stride_of;
 use crate::mapper::read::read_digits;
+use crate::mapper::start::Start;
 use crate::mapper::state::Mapper;
 use crate::mapper::stop::Stop;
 use crate::mapper::watch::Watch;
-use bit_space::{Order, Space};
+use bit_space::Space;
 use pickle_meaning::extent::Extent;
 use pickle_meaning::faults::MapFaultKind;
 use pickle_types::view::{Field, Node, Shape as Type};
@@ -90,23 +91,23 @@ impl<W: Watch> Mapper<'_, W> {
         element: usize,
         shape: Shape,
         extent: Extent,
-        order: Order,
-        start: u64,
+        start: Start,
         space: &mut S,
     ) -> Result<u64, Stop>
         requires shape { PacksAs shape (type_of self.old.nodes.now element) self.old.store.now.room }
-        requires packing { IsPacking self.old.nodes.now self.old.store.now shape [] start
+        requires packing { IsPacking self.old.nodes.now self.old.store.now shape [] start.bit
             (outer_of (levels self.old.nodes.now self.old.store.now)) }
         requires open { 1 < level_count self.old.store.now }
-        requires inside { start ≤ 8 * (S.view space.old).len }
+        requires inside { start.bit ≤ 8 * (S.view space.old).len }
         requires free { self.old.meter.now.made < self.old.meter.now.steps }
         ensures frame { Frame (S.view space.old) (S.view space.new) self.old self.new 1 result }
-        ensures ends { IfOk result (IsEnd start (S.view space.old)) }
-        ensures is { Closes (S.view space.old) self.old self.new (as_array_level element extent order start) result }
+        ensures ends { IfOk result (IsEnd start.bit (S.view space.old)) }
+        ensures is { Closes (S.view space.old) self.old self.new
+            (as_array_level element extent start.order start.bit) result }
         ensures level { LeavesLevel self.old self.new result }
     {
-        let end = self.map_packed(element, shape, extent, order, start, space)?;
-        self.store.close_row(shape, start)?;
+        let end = self.map_packed(element, shape, extent, start, space)?;
+        self.store.close_row(shape, start.bit)?;
         self.meter.note_made();
         Ok(end)
     }
@@ -119,17 +120,16 @@ impl<W: Watch> Mapper<'_, W> {
         element: usize,
         shape: Shape,
         extent: Extent,
-        order: Order,
-        start: u64,
+        start: Start,
         space: &mut S,
     ) -> Result<u64, Stop>
         requires shape { PacksAs shape (type_of self.old.nodes.now element) self.old.store.now.room }
-        requires packing { IsPacking self.old.nodes.now self.old.store.now shape [] start
+        requires packing { IsPacking self.old.nodes.now self.old.store.now shape [] start.bit
             (outer_of (levels self.old.nodes.now self.old.store.now)) }
-        requires inside { start ≤ 8 * (S.view space.old).len }
+        requires inside { start.bit ≤ 8 * (S.view space.old).len }
         ensures frame { Frame (S.view space.old) (S.view space.new) self.old self.new 0 result }
-        ensures ends { IfOk result (IsEnd start (S.view space.old)) }
-        ensures is { PacksRow (S.view space.old) self.old self.new shape element extent order start result }
+        ensures ends { IfOk result (IsEnd start.bit (S.view space.old)) }
+        ensures is { PacksRow (S.view space.old) self.old self.new shape element extent start.order start.bit result }
         ensures level { LevelStays self.old self.new }
     {
         let meter = &mut *self.meter;
@@ -137,14 +137,14 @@ impl<W: Watch> Mapper<'_, W> {
         let watch = &mut *self.watch;
         let bits = 8 * space.len();
         let width = shape.element_width();
-        let mut place = start;
+        let mut place = start.bit;
         let mut count = 0;
-        while extent.is_due(bits, start, count, place) {
+        while extent.is_due(bits, start.bit, count, place) {
             watch.next();
             meter.tick()?;
-            match read_digits(space, place, width, order, meter) {
+            match read_digits(space, place, width, start.order, meter) {
                 Ok(digits) => {
-                    store.push_packed(shape, width, digits, count == 0, start)?;
+                    store.push_packed(shape, width, digits, count == 0, start.bit)?;
                     meter.note_made();
                     place += u64::from(width);
                     count += 1;
@@ -158,10 +158,10 @@ impl<W: Watch> Mapper<'_, W> {
                 }
             }
         }
-        if extent.is_met(start, place) {
+        if extent.is_met(start.bit, place) {
             Ok(place)
         } else {
-            let stop = Stop::Fault(MapFaultKind::Bounds, u128::from(start));
+            let stop = Stop::Fault(MapFaultKind::Bounds, u128::from(start.bit));
             watch.outgrow(extent, place, stop);
             Err(stop)
         }

@@ -18,10 +18,11 @@ ghost use Rattle.value_store.specs.Slots.{levels, level_count, packs, IsNumber, 
 
 use crate::mapper::number::width_at;
 use crate::mapper::packed_fields::RecordBytes;
+use crate::mapper::start::Start;
 use crate::mapper::state::Mapper;
 use crate::mapper::stop::Stop;
 use crate::mapper::watch::Watch;
-use bit_space::{Memory, Order, Space};
+use bit_space::{Memory, Space};
 use pickle_meaning::extent::Extent;
 use pickle_meaning::faults::MapFaultKind;
 use pickle_types::view::{Field, Node, Shape as Type};
@@ -88,8 +89,7 @@ impl<W: Watch> Mapper<'_, W> {
         element: usize,
         fields: &[Field],
         extent: Extent,
-        order: Order,
-        start: u64,
+        start: Start,
         space: &mut S,
     ) -> Result<u64, Stop>
         requires record { IsRecord self.old element fields.now }
@@ -98,16 +98,17 @@ impl<W: Watch> Mapper<'_, W> {
         requires fresh { levels self.old.nodes.now self.old.store.now
             ≡ [] ∷ outer_of (levels self.old.nodes.now self.old.store.now) }
         requires opened { IsOpened self.old.store.now }
-        requires inside { start ≤ 8 * (S.view space.old).len }
+        requires inside { start.bit ≤ 8 * (S.view space.old).len }
         requires free { self.old.meter.now.made < self.old.meter.now.steps }
         ensures frame { Frame (S.view space.old) (S.view space.new) self.old self.new 1 result }
-        ensures ends { IfOk result (IsEnd start (S.view space.old)) }
-        ensures is { Closes (S.view space.old) self.old self.new (as_array_level element extent order start) result }
+        ensures ends { IfOk result (IsEnd start.bit (S.view space.old)) }
+        ensures is { Closes (S.view space.old) self.old self.new
+            (as_array_level element extent start.order start.bit) result }
         ensures level { LeavesLevel self.old self.new result }
     {
-        let end = self.map_records(element, fields, extent, order, start, space)?;
-        if end == start {
-            self.store.close_array(start, end)?;
+        let end = self.map_records(element, fields, extent, start, space)?;
+        if end == start.bit {
+            self.store.close_array(start.bit, end)?;
         } else {
             self.store.close_records();
         }
@@ -121,8 +122,7 @@ impl<W: Watch> Mapper<'_, W> {
         element: usize,
         fields: &[Field],
         extent: Extent,
-        order: Order,
-        start: u64,
+        start: Start,
         space: &mut S,
     ) -> Result<u64, Stop>
         requires record { IsRecord self.old element fields.now }
@@ -131,21 +131,25 @@ impl<W: Watch> Mapper<'_, W> {
         requires fresh { levels self.old.nodes.now self.old.store.now
             ≡ [] ∷ outer_of (levels self.old.nodes.now self.old.store.now) }
         requires opened { IsOpened self.old.store.now }
-        requires inside { start ≤ 8 * (S.view space.old).len }
+        requires inside { start.bit ≤ 8 * (S.view space.old).len }
         ensures frame { Frame (S.view space.old) (S.view space.new) self.old self.new 0 result }
-        ensures ends { IfOk result (IsEnd start (S.view space.old)) }
-        ensures is { PacksAll (S.view space.old) self.old self.new element fields.now start
-            (as_elements element extent order start) result }
+        ensures ends { IfOk result (IsEnd start.bit (S.view space.old)) }
+        ensures is { PacksAll (S.view space.old) self.old self.new element fields.now start.bit
+            (as_elements element extent start.order start.bit) result }
         ensures level { LevelStays self.old self.new }
     {
         let bits = 8 * space.len();
         let mut row = RecordBytes::new();
-        let mut place = start;
+        let mut place = start.bit;
         let mut count = 0;
-        while extent.is_due(bits, start, count, place) {
+        while extent.is_due(bits, start.bit, count, place) {
             self.watch.next();
             self.meter.tick()?;
-            match self.map_record(element, fields, order, place, &mut row, space) {
+            let next = Start {
+                order: start.order,
+                bit: place,
+            };
+            match self.map_record(element, fields, next, &mut row, space) {
                 Ok(end) => {
                     place = end;
                     count += 1;
@@ -159,10 +163,10 @@ impl<W: Watch> Mapper<'_, W> {
                 }
             }
         }
-        if extent.is_met(start, place) {
+        if extent.is_met(start.bit, place) {
             Ok(place)
         } else {
-            let stop = Stop::Fault(MapFaultKind::Bounds, u128::from(start));
+            let stop = Stop::Fault(MapFaultKind::Bounds, u128::from(start.bit));
             self.watch.outgrow(extent, place, stop);
             Err(stop)
         }
@@ -173,26 +177,25 @@ impl<W: Watch> Mapper<'_, W> {
         &mut self,
         at: usize,
         fields: &[Field],
-        order: Order,
-        start: u64,
+        start: Start,
         row: &mut RecordBytes,
         space: &mut S,
     ) -> Result<u64, Stop>
         requires record { IsRecord self.old at fields.now }
         requires fields { All (IsFieldOf self.old.nodes.now (level_count self.old.store.now + 1)) fields.now }
         requires open { level_count self.old.store.now ≤ 64 }
-        requires among { IsAmong self.old at fields.now start }
-        requires inside { start ≤ 8 * (S.view space.old).len }
+        requires among { IsAmong self.old at fields.now start.bit }
+        requires inside { start.bit ≤ 8 * (S.view space.old).len }
         ensures frame { Frame (S.view space.old) (S.view space.new) self.old self.new 0 result }
-        ensures ends { IfOk result (IsEnd start (S.view space.old)) }
-        ensures is { PacksOne (S.view space.old) self.old self.new at fields.now start
-            (as_record at fields.now order start) result }
+        ensures ends { IfOk result (IsEnd start.bit (S.view space.old)) }
+        ensures is { PacksOne (S.view space.old) self.old self.new at fields.now start.bit
+            (as_record at fields.now start.order start.bit) result }
         ensures level { LevelStays self.old self.new }
     {
         self.meter.tick()?;
         self.watch.open(at);
         row.clear();
-        let mapped = self.record_body(at, fields, order, start, row, space);
+        let mapped = self.record_body(at, fields, start, row, space);
         match mapped {
             Ok(_) => self.watch.close(),
             Err(stop) => self.watch.stop(stop),
@@ -205,29 +208,28 @@ impl<W: Watch> Mapper<'_, W> {
         &mut self,
         at: usize,
         fields: &[Field],
-        order: Order,
-        start: u64,
+        start: Start,
         row: &mut RecordBytes,
         space: &mut S,
     ) -> Result<u64, Stop>
         requires record { IsRecord self.old at fields.now }
         requires fields { All (IsFieldOf self.old.nodes.now (level_count self.old.store.now + 1)) fields.now }
         requires open { level_count self.old.store.now ≤ 64 }
-        requires among { IsAmong self.old at fields.now start }
+        requires among { IsAmong self.old at fields.now start.bit }
         requires empty { row.old.items ≡ [] }
-        requires inside { start ≤ 8 * (S.view space.old).len }
+        requires inside { start.bit ≤ 8 * (S.view space.old).len }
         requires free { self.old.meter.now.made < self.old.meter.now.steps }
         ensures frame { Frame (S.view space.old) (S.view space.new) self.old self.new 1 result }
-        ensures ends { IfOk result (IsEnd start (S.view space.old)) }
-        ensures is { PacksOne (S.view space.old) self.old self.new at fields.now start
-            (as_packed at fields.now order start) result }
+        ensures ends { IfOk result (IsEnd start.bit (S.view space.old)) }
+        ensures is { PacksOne (S.view space.old) self.old self.new at fields.now start.bit
+            (as_packed at fields.now start.order start.bit) result }
         ensures level { LevelStays self.old self.new }
     {
         self.store.open_level();
-        let filled = self.map_columns(fields, order, start, row, space);
+        let filled = self.map_columns(fields, start, row, space);
         self.store.drop_level();
         let end = filled?;
-        self.pack_row(at, fields, start, end, row)?;
+        self.pack_row(at, fields, start.bit, end, row)?;
         self.meter.note_made();
         Ok(end)
     }

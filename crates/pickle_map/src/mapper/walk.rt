@@ -17,10 +17,11 @@ ghost use Rattle.value_store.specs.Slots.{levels, level_count, AreLevels};
 
 use crate::mapper::level::leave_level;
 use crate::mapper::packed_numbers::{Packing, packing_of};
+use crate::mapper::start::Start;
 use crate::mapper::state::Mapper;
 use crate::mapper::stop::Stop;
 use crate::mapper::watch::Watch;
-use crate::mapper::watched_clauses::{check, find_extent, find_start, is_there};
+use crate::mapper::watched_clauses::{Layout, check, find_extent, find_start, is_there};
 use bit_space::{Order, Space};
 use pickle_meaning::extent::Extent;
 use pickle_meaning::faults::MapFaultKind;
@@ -49,78 +50,65 @@ impl<W: Watch> Mapper<'_, W> {
         if u128::from(8 * space.len()) < start {
             return Err(Stop::Fault(MapFaultKind::End, start));
         }
-        self.map_inside(at, order, start as u64, space)
+        let bit = start as u64;
+        self.map_inside(at, Start { order, bit }, space)
     }
 
     /// Maps the type at a place of the table, whose start is inside the file. Most values are integers: those are
     /// mapped with one call less, and strings too.
     #[cycle(mapping)]
     #[inline(always)]
-    fn map_inside<S: Space>(
-        &mut self,
-        at: usize,
-        order: Order,
-        start: u64,
-        space: &mut S,
-    ) -> Result<u64, Stop>
+    fn map_inside<S: Space>(&mut self, at: usize, start: Start, space: &mut S) -> Result<u64, Stop>
         requires table { IsTable self.old.nodes.now }
         requires at { at < length self.old.nodes.now }
         requires open { level_count self.old.store.now + depth (type_of self.old.nodes.now at) ≤ 65 }
-        requires inside { start ≤ 8 * (S.view space.old).len }
+        requires inside { start.bit ≤ 8 * (S.view space.old).len }
         ensures frame { Frame (S.view space.old) (S.view space.new) self.old self.new 0 result }
-        ensures ends { IfOk result (IsEnd start (S.view space.old)) }
-        ensures is { Maps (S.view space.old) self.old self.new (as_type at order start) result }
+        ensures ends { IfOk result (IsEnd start.bit (S.view space.old)) }
+        ensures is { Maps (S.view space.old) self.old self.new (as_type at start.order start.bit) result }
         ensures level { AddsToLevel self.old self.new result }
     {
         let nodes = self.nodes;
         match &nodes[at].shape {
-            Shape::Integer(number) => self.map_integer(*number, order, start, space),
-            Shape::String => self.map_text(start, space),
-            _ => self.map_shape(at, order, start, space),
+            Shape::Integer(number) => self.map_integer(*number, start, space),
+            Shape::String => self.map_text(start.bit, space),
+            _ => self.map_shape(at, start, space),
         }
     }
 
     /// Maps the type at a place of the table by its shape.
     #[cycle(mapping)]
     #[inline(never)]
-    fn map_shape<S: Space>(
-        &mut self,
-        at: usize,
-        order: Order,
-        start: u64,
-        space: &mut S,
-    ) -> Result<u64, Stop>
+    fn map_shape<S: Space>(&mut self, at: usize, start: Start, space: &mut S) -> Result<u64, Stop>
         requires table { IsTable self.old.nodes.now }
         requires at { at < length self.old.nodes.now }
         requires open { level_count self.old.store.now + depth (type_of self.old.nodes.now at) ≤ 65 }
-        requires inside { start ≤ 8 * (S.view space.old).len }
+        requires inside { start.bit ≤ 8 * (S.view space.old).len }
         ensures frame { Frame (S.view space.old) (S.view space.new) self.old self.new 0 result }
-        ensures ends { IfOk result (IsEnd start (S.view space.old)) }
-        ensures is { Maps (S.view space.old) self.old self.new (as_type at order start) result }
+        ensures ends { IfOk result (IsEnd start.bit (S.view space.old)) }
+        ensures is { Maps (S.view space.old) self.old self.new (as_type at start.order start.bit) result }
         ensures level { AddsToLevel self.old self.new result }
     {
         let nodes = self.nodes;
         match &nodes[at].shape {
-            Shape::Integer(number) => { self.map_number(at, *number, order, start, space) }
-            Shape::Offset(number, _) => { self.map_number(at, *number, order, start, space) }
+            Shape::Integer(number) => { self.map_number(at, *number, start, space) }
+            Shape::Offset(number, _) => { self.map_number(at, *number, start, space) }
             Shape::Integral {
                 name: _,
                 number,
                 fields: _,
-            } => self.map_number(at, *number, order, start, space),
-            Shape::String => self.map_text(start, space),
-            Shape::Array(element, bound) => {
-                self.map_array(at, *element, bound, order, start, space)
-            }
+            } => self.map_number(at, *number, start, space),
+            Shape::String => self.map_text(start.bit, space),
+            Shape::Array(element, bound) => { self.map_array(at, *element, bound, start, space) }
             Shape::Struct {
                 name: _,
                 pinned,
                 fields,
-            } => self.map_struct(at, *pinned, fields, order, start, space),
+            } => self.map_struct(at, *pinned, fields, start, space),
             Shape::Union {
                 name: _,
                 alternatives,
-            } => self.map_union(at, alternatives, order, start, space),
+            } => self.map_union(at, alternatives, start, space),
         }
     }
 
@@ -157,18 +145,18 @@ impl<W: Watch> Mapper<'_, W> {
         at: usize,
         element: usize,
         bound: &Bound,
-        order: Order,
-        start: u64,
+        start: Start,
         space: &mut S,
     ) -> Result<u64, Stop>
         requires table { IsTable self.old.nodes.now }
         requires element { element < length self.old.nodes.now }
         requires open { level_count self.old.store.now + 1 + depth (type_of self.old.nodes.now element) ≤ 65 }
         requires sound { IsSoundBound (bound_of bound.now) }
-        requires inside { start ≤ 8 * (S.view space.old).len }
+        requires inside { start.bit ≤ 8 * (S.view space.old).len }
         ensures frame { Frame (S.view space.old) (S.view space.new) self.old self.new 0 result }
-        ensures ends { IfOk result (IsEnd start (S.view space.old)) }
-        ensures is { Maps (S.view space.old) self.old self.new (as_array element bound.now order start) result }
+        ensures ends { IfOk result (IsEnd start.bit (S.view space.old)) }
+        ensures is { Maps (S.view space.old) self.old self.new
+            (as_array element bound.now start.order start.bit) result }
         ensures level { AddsToLevel self.old self.new result }
     {
         self.meter.tick()?;
@@ -177,12 +165,12 @@ impl<W: Watch> Mapper<'_, W> {
             self.nodes,
             bound,
             self.store,
-            u128::from(start),
+            u128::from(start.bit),
             self.meter,
             self.watch,
         )?;
         self.store.open_level();
-        let mapped = self.array_body(element, extent, order, start, space);
+        let mapped = self.array_body(element, extent, start, space);
         leave_level(&mapped, self.store, self.watch);
         mapped
     }
@@ -194,8 +182,7 @@ impl<W: Watch> Mapper<'_, W> {
         &mut self,
         element: usize,
         extent: Extent,
-        order: Order,
-        start: u64,
+        start: Start,
         space: &mut S,
     ) -> Result<u64, Stop>
         requires table { IsTable self.old.nodes.now }
@@ -206,19 +193,18 @@ impl<W: Watch> Mapper<'_, W> {
             ≡ [] ∷ outer_of (levels self.old.nodes.now self.old.store.now) }
         requires opened { IsOpened self.old.store.now }
         requires sound { AreLevels self.old.store.now.room self.old.store.now.frames self.old.store.now.slots }
-        requires inside { start ≤ 8 * (S.view space.old).len }
+        requires inside { start.bit ≤ 8 * (S.view space.old).len }
         requires free { self.old.meter.now.made < self.old.meter.now.steps }
         ensures frame { Frame (S.view space.old) (S.view space.new) self.old self.new 1 result }
-        ensures ends { IfOk result (IsEnd start (S.view space.old)) }
-        ensures is { Closes (S.view space.old) self.old self.new (as_array_level element extent order start) result }
+        ensures ends { IfOk result (IsEnd start.bit (S.view space.old)) }
+        ensures is { Closes (S.view space.old) self.old self.new
+            (as_array_level element extent start.order start.bit) result }
         ensures level { LeavesLevel self.old self.new result }
     {
         match packing_of(self.nodes, element, self.store) {
-            Packing::Numbers(shape) => self.row_body(element, shape, extent, order, start, space),
-            Packing::Records(fields) => {
-                self.records_body(element, fields, extent, order, start, space)
-            }
-            Packing::Apart => self.elements_body(element, extent, order, start, space),
+            Packing::Numbers(shape) => self.row_body(element, shape, extent, start, space),
+            Packing::Records(fields) => { self.records_body(element, fields, extent, start, space) }
+            Packing::Apart => self.elements_body(element, extent, start, space),
         }
     }
 
@@ -228,8 +214,7 @@ impl<W: Watch> Mapper<'_, W> {
         &mut self,
         element: usize,
         extent: Extent,
-        order: Order,
-        start: u64,
+        start: Start,
         space: &mut S,
     ) -> Result<u64, Stop>
         requires table { IsTable self.old.nodes.now }
@@ -239,15 +224,16 @@ impl<W: Watch> Mapper<'_, W> {
         requires fresh { levels self.old.nodes.now self.old.store.now
             ≡ [] ∷ outer_of (levels self.old.nodes.now self.old.store.now) }
         requires apart { StandApart (type_of self.old.nodes.now element) self.old.store.now.room }
-        requires inside { start ≤ 8 * (S.view space.old).len }
+        requires inside { start.bit ≤ 8 * (S.view space.old).len }
         requires free { self.old.meter.now.made < self.old.meter.now.steps }
         ensures frame { Frame (S.view space.old) (S.view space.new) self.old self.new 1 result }
-        ensures ends { IfOk result (IsEnd start (S.view space.old)) }
-        ensures is { Closes (S.view space.old) self.old self.new (as_array_level element extent order start) result }
+        ensures ends { IfOk result (IsEnd start.bit (S.view space.old)) }
+        ensures is { Closes (S.view space.old) self.old self.new
+            (as_array_level element extent start.order start.bit) result }
         ensures level { LeavesLevel self.old self.new result }
     {
-        let end = self.map_elements(element, extent, order, start, space)?;
-        self.store.close_array(start, end)?;
+        let end = self.map_elements(element, extent, start, space)?;
+        self.store.close_array(start.bit, end)?;
         self.meter.note_made();
         Ok(end)
     }
@@ -258,27 +244,31 @@ impl<W: Watch> Mapper<'_, W> {
         &mut self,
         element: usize,
         extent: Extent,
-        order: Order,
-        start: u64,
+        start: Start,
         space: &mut S,
     ) -> Result<u64, Stop>
         requires table { IsTable self.old.nodes.now }
         requires element { element < length self.old.nodes.now }
         requires open { level_count self.old.store.now + depth (type_of self.old.nodes.now element) ≤ 65 }
         requires apart { StandApart (type_of self.old.nodes.now element) self.old.store.now.room }
-        requires inside { start ≤ 8 * (S.view space.old).len }
+        requires inside { start.bit ≤ 8 * (S.view space.old).len }
         ensures frame { Frame (S.view space.old) (S.view space.new) self.old self.new 0 result }
-        ensures ends { IfOk result (IsEnd start (S.view space.old)) }
-        ensures is { Fills (S.view space.old) self.old self.new (as_elements element extent order start) result }
+        ensures ends { IfOk result (IsEnd start.bit (S.view space.old)) }
+        ensures is { Fills (S.view space.old) self.old self.new
+            (as_elements element extent start.order start.bit) result }
         ensures level { LevelStays self.old self.new }
     {
         let bits = 8 * space.len();
-        let mut place = start;
+        let mut place = start.bit;
         let mut count = 0;
-        while extent.is_due(bits, start, count, place) {
+        while extent.is_due(bits, start.bit, count, place) {
             self.watch.next();
             self.meter.tick()?;
-            match self.map_inside(element, order, place, space) {
+            let next = Start {
+                order: start.order,
+                bit: place,
+            };
+            match self.map_inside(element, next, space) {
                 Ok(end) => {
                     if end == place {
                         return Err(Stop::Fault(MapFaultKind::NoBits, u128::from(place)));
@@ -295,10 +285,10 @@ impl<W: Watch> Mapper<'_, W> {
                 }
             }
         }
-        if extent.is_met(start, place) {
+        if extent.is_met(start.bit, place) {
             Ok(place)
         } else {
-            let stop = Stop::Fault(MapFaultKind::Bounds, u128::from(start));
+            let stop = Stop::Fault(MapFaultKind::Bounds, u128::from(start.bit));
             self.watch.outgrow(extent, place, stop);
             Err(stop)
         }
@@ -311,8 +301,7 @@ impl<W: Watch> Mapper<'_, W> {
         at: usize,
         pinned: bool,
         fields: &[Field],
-        order: Order,
-        start: u64,
+        start: Start,
         space: &mut S,
     ) -> Result<u64, Stop>
         requires table { IsTable self.old.nodes.now }
@@ -320,16 +309,17 @@ impl<W: Watch> Mapper<'_, W> {
         requires fields { All (IsFieldOf self.old.nodes.now (level_count self.old.store.now + 1)) fields.now }
         requires names { names_at self.old.nodes.now at ≡ map field_name fields.now }
         requires open { level_count self.old.store.now ≤ 64 }
-        requires inside { start ≤ 8 * (S.view space.old).len }
+        requires inside { start.bit ≤ 8 * (S.view space.old).len }
         ensures frame { Frame (S.view space.old) (S.view space.new) self.old self.new 0 result }
-        ensures ends { IfOk result (IsEnd start (S.view space.old)) }
-        ensures is { Maps (S.view space.old) self.old self.new (as_struct at pinned fields.now order start) result }
+        ensures ends { IfOk result (IsEnd start.bit (S.view space.old)) }
+        ensures is { Maps (S.view space.old) self.old self.new
+            (as_struct at pinned fields.now start.order start.bit) result }
         ensures level { AddsToLevel self.old self.new result }
     {
         self.meter.tick()?;
         self.watch.open(at);
         self.store.open_level();
-        let mapped = self.struct_body(at, pinned, fields, order, start, space);
+        let mapped = self.struct_body(at, pinned, fields, start, space);
         leave_level(&mapped, self.store, self.watch);
         mapped
     }
@@ -341,8 +331,7 @@ impl<W: Watch> Mapper<'_, W> {
         at: usize,
         pinned: bool,
         fields: &[Field],
-        order: Order,
-        start: u64,
+        start: Start,
         space: &mut S,
     ) -> Result<u64, Stop>
         requires table { IsTable self.old.nodes.now }
@@ -350,16 +339,16 @@ impl<W: Watch> Mapper<'_, W> {
         requires fields { All (IsFieldOf self.old.nodes.now (level_count self.old.store.now)) fields.now }
         requires names { names_at self.old.nodes.now at ≡ map field_name fields.now }
         requires open { 1 < level_count self.old.store.now }
-        requires inside { start ≤ 8 * (S.view space.old).len }
+        requires inside { start.bit ≤ 8 * (S.view space.old).len }
         requires free { self.old.meter.now.made < self.old.meter.now.steps }
         ensures frame { Frame (S.view space.old) (S.view space.new) self.old self.new 1 result }
-        ensures ends { IfOk result (IsEnd start (S.view space.old)) }
+        ensures ends { IfOk result (IsEnd start.bit (S.view space.old)) }
         ensures is { Closes (S.view space.old) self.old self.new
-            (as_struct_level at pinned fields.now order start) result }
+            (as_struct_level at pinned fields.now start.order start.bit) result }
         ensures level { LeavesLevel self.old self.new result }
     {
-        let end = self.map_fields(pinned, fields, order, start, space)?;
-        self.store.close_struct(at as u32, start, end)?;
+        let end = self.map_fields(pinned, fields, start, space)?;
+        self.store.close_struct(at as u32, start.bit, end)?;
         self.meter.note_made();
         Ok(end)
     }
@@ -370,22 +359,22 @@ impl<W: Watch> Mapper<'_, W> {
         &mut self,
         pinned: bool,
         fields: &[Field],
-        order: Order,
-        start: u64,
+        start: Start,
         space: &mut S,
     ) -> Result<u64, Stop>
         requires table { IsTable self.old.nodes.now }
         requires fields { All (IsFieldOf self.old.nodes.now (level_count self.old.store.now)) fields.now }
-        requires inside { start ≤ 8 * (S.view space.old).len }
+        requires inside { start.bit ≤ 8 * (S.view space.old).len }
         ensures frame { Frame (S.view space.old) (S.view space.new) self.old self.new 0 result }
-        ensures ends { IfOk result (IsEnd start (S.view space.old)) }
-        ensures is { Fills (S.view space.old) self.old self.new (as_fields pinned fields.now order start) result }
+        ensures ends { IfOk result (IsEnd start.bit (S.view space.old)) }
+        ensures is { Fills (S.view space.old) self.old self.new
+            (as_fields pinned fields.now start.order start.bit) result }
         ensures level { LevelStays self.old self.new }
     {
         let nodes = self.nodes;
-        let origin = u128::from(start);
-        let mut behind = start;
-        let mut top = start;
+        let origin = u128::from(start.bit);
+        let mut behind = start.bit;
+        let mut top = start.bit;
         for field in fields {
             self.watch.next();
             self.meter.tick()?;
@@ -397,20 +386,23 @@ impl<W: Watch> Mapper<'_, W> {
                 self.meter,
                 self.watch,
             )? {
+                let layout = Layout {
+                    pinned,
+                    start: start.bit,
+                    behind,
+                };
                 let place = find_start(
                     nodes,
-                    pinned,
                     &field.label,
                     self.store,
-                    start,
-                    behind,
+                    layout,
                     self.meter,
                     self.watch,
                 )?;
                 behind = self.map_checked(
                     field.node,
                     &field.constraint,
-                    ordered(field.order, order),
+                    ordered(field.order, start.order),
                     place,
                     space,
                 )?;
@@ -428,8 +420,7 @@ impl<W: Watch> Mapper<'_, W> {
         &mut self,
         at: usize,
         alternatives: &[Part],
-        order: Order,
-        start: u64,
+        start: Start,
         space: &mut S,
     ) -> Result<u64, Stop>
         requires table { IsTable self.old.nodes.now }
@@ -439,16 +430,17 @@ impl<W: Watch> Mapper<'_, W> {
         requires few { length alternatives.now ≤ 2 ^ 16 }
         requires names { names_at self.old.nodes.now at ≡ map part_name alternatives.now }
         requires open { level_count self.old.store.now ≤ 64 }
-        requires inside { start ≤ 8 * (S.view space.old).len }
+        requires inside { start.bit ≤ 8 * (S.view space.old).len }
         ensures frame { Frame (S.view space.old) (S.view space.new) self.old self.new 0 result }
-        ensures ends { IfOk result (IsEnd start (S.view space.old)) }
-        ensures is { Maps (S.view space.old) self.old self.new (as_union at alternatives.now order start) result }
+        ensures ends { IfOk result (IsEnd start.bit (S.view space.old)) }
+        ensures is { Maps (S.view space.old) self.old self.new
+            (as_union at alternatives.now start.order start.bit) result }
         ensures level { AddsToLevel self.old self.new result }
     {
         self.meter.tick()?;
         self.watch.open(at);
         self.store.open_level();
-        let mapped = self.union_body(at, alternatives, order, start, space);
+        let mapped = self.union_body(at, alternatives, start, space);
         leave_level(&mapped, self.store, self.watch);
         mapped
     }
@@ -459,8 +451,7 @@ impl<W: Watch> Mapper<'_, W> {
         &mut self,
         at: usize,
         alternatives: &[Part],
-        order: Order,
-        start: u64,
+        start: Start,
         space: &mut S,
     ) -> Result<u64, Stop>
         requires table { IsTable self.old.nodes.now }
@@ -471,16 +462,17 @@ impl<W: Watch> Mapper<'_, W> {
         requires open { 1 < level_count self.old.store.now }
         requires fresh { levels self.old.nodes.now self.old.store.now
             ≡ [] ∷ outer_of (levels self.old.nodes.now self.old.store.now) }
-        requires inside { start ≤ 8 * (S.view space.old).len }
+        requires inside { start.bit ≤ 8 * (S.view space.old).len }
         requires free { self.old.meter.now.made < self.old.meter.now.steps }
         ensures frame { Frame (S.view space.old) (S.view space.new) self.old self.new 1 result }
-        ensures ends { IfOk result (IsEnd start (S.view space.old)) }
+        ensures ends { IfOk result (IsEnd start.bit (S.view space.old)) }
         ensures is { Closes (S.view space.old) self.old self.new
-            (as_union_level at alternatives.now order start) result }
+            (as_union_level at alternatives.now start.order start.bit) result }
         ensures level { LeavesLevel self.old self.new result }
     {
-        let (index, end) = self.map_alternatives(alternatives, order, start, space)?;
-        self.store.close_union(at as u32, index as u16, start, end)?;
+        let (index, end) = self.map_alternatives(alternatives, start, space)?;
+        self.store
+            .close_union(at as u32, index as u16, start.bit, end)?;
         self.meter.note_made();
         Ok(end)
     }
@@ -490,25 +482,24 @@ impl<W: Watch> Mapper<'_, W> {
     fn map_alternatives<S: Space>(
         &mut self,
         alternatives: &[Part],
-        order: Order,
-        start: u64,
+        start: Start,
         space: &mut S,
     ) -> Result<(usize, u64), Stop>
         requires table { IsTable self.old.nodes.now }
         requires alternatives { All (IsPartOf self.old.nodes.now (level_count self.old.store.now)) alternatives.now }
         requires fresh { levels self.old.nodes.now self.old.store.now
             ≡ [] ∷ outer_of (levels self.old.nodes.now self.old.store.now) }
-        requires inside { start ≤ 8 * (S.view space.old).len }
+        requires inside { start.bit ≤ 8 * (S.view space.old).len }
         ensures frame { Frame (S.view space.old) (S.view space.new) self.old self.new 0 result }
-        ensures ends { IfOk result (λ r. IsEnd start (S.view space.old) r.1 × (r.0 < length alternatives.now)) }
-        ensures is { Takes (S.view space.old) self.old self.new alternatives.now order start result }
+        ensures ends { IfOk result (λ r. IsEnd start.bit (S.view space.old) r.1 × (r.0 < length alternatives.now)) }
+        ensures is { Takes (S.view space.old) self.old self.new alternatives.now start.order start.bit result }
         ensures level { LevelStays self.old self.new }
     {
         for (index, part) in alternatives.iter().enumerate() {
             self.watch.next();
             self.meter.tick()?;
-            let prefixed = ordered(part.order, order);
-            let origin = u128::from(start);
+            let prefixed = ordered(part.order, start.order);
+            let origin = u128::from(start.bit);
             match self.map_checked(part.node, &part.constraint, prefixed, origin, space) {
                 Ok(end) => return Ok((index, end)),
                 Err(stop) => {
@@ -520,7 +511,7 @@ impl<W: Watch> Mapper<'_, W> {
                 }
             }
         }
-        let stop = Stop::Fault(MapFaultKind::Constraint, u128::from(start));
+        let stop = Stop::Fault(MapFaultKind::Constraint, u128::from(start.bit));
         self.watch.refuse(stop);
         Err(stop)
     }

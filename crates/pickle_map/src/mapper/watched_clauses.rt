@@ -59,15 +59,22 @@ pub fn is_there<W: Watch>(
     there
 }
 
+/// What says where a field of a struct starts that has no label: whether the struct is pinned, its first bit, and the bit
+/// after the last present field before it.
+#[derive(Clone, Copy)]
+pub struct Layout {
+    pub pinned: bool,
+    pub start: u64,
+    pub behind: u64,
+}
+
 /// The bit where a field of a struct starts. Its label is reported where it stops.
 #[inline(always)]
 pub fn find_start<W: Watch>(
     table: &[Node],
-    pinned: bool,
     label: &Option<Box<Resolved>>,
     store: &Store,
-    start: u64,
-    behind: u64,
+    layout: Layout,
     meter: &mut Meter,
     watch: &mut W,
 ) -> Result<u128, Stop>
@@ -75,8 +82,14 @@ pub fn find_start<W: Watch>(
     ensures limit { meter.new.limit ≡ meter.old.limit }
     ensures made { meter.new.made ≡ meter.old.made }
     ensures steps { meter.old.steps ≤ meter.new.steps }
-    ensures is { FindsStart table.now meter.old meter.new store.now pinned label.now start behind result }
+    ensures is { FindsStart table.now meter.old meter.new store.now layout.pinned label.now
+        layout.start layout.behind result }
 {
+    let Layout {
+        pinned,
+        start,
+        behind,
+    } = layout;
     let found = clauses::find_start(pinned, label, store, start, behind, meter);
     if let Err(stop) = found {
         blame_clause(table, Clause::Label, label, store, stop, watch);

@@ -342,7 +342,7 @@ pub array_body-row_body-requires-clause-packing : goal.array_body-row_body-requi
 array_body-row_body-requires-clause-packing g t c =
     let packs = c.in-Numbers.ensures in
     let short = g.met.S.Space.short c.args.space.now in
-    row-opened c.args.self.now.nodes.now c.args.self.now.store.now c.in-Numbers.shape c.args.start
+    row-opened c.args.self.now.nodes.now c.args.self.now.store.now c.in-Numbers.shape c.args.start.bit
     (outer_of (levels c.args.self.now.nodes.now c.args.self.now.store.now)) packs.packed packs.packs
     (omega (arith, c.requires.inside, short)) (sym (ap (λ (k : Marks). k.nodes) c.requires.opened))
     c.requires.sound c.requires.fresh
@@ -577,8 +577,8 @@ map_fields-returns-clause-is g t c =
     follow_on i.so_far
     (fields_end _ _ _ _ _ _ _ _ _ (drop_all c.loop-field.field-index c.args.fields.now (omega arith)))
 
-pub map_elements-loop-order-init : goal.map_elements-loop-order-init
-map_elements-loop-order-init g t c =
+pub map_elements-loop-self-init : goal.map_elements-loop-self-init
+map_elements-loop-self-init g t c =
     let few = few_enough (8 * (g.S.Space.view c.args.space.now).len)
     (least_width (type_of c.args.self.now.nodes.now c.args.element)) in
     record {
@@ -594,9 +594,9 @@ map_elements-loop-order-init g t c =
 pub map_elements-returns-in_err-tick-clause-is : goal.map_elements-returns-in_err-tick-clause-is
 map_elements-returns-in_err-tick-clause-is g t c =
     let p = err_from_is_err_and c.from_residual.result c.from_residual.ensures.1 in
-    let i = c.loop-order.invariant in
+    let i = c.loop-self.invariant in
     let e = c.in_err-tick.ensures in
-    let due = sym c.is_due.ensures ∙ c.loop-order-test.true in
+    let due = sym c.is_due.ensures ∙ c.loop-self-test.true in
     let due = rw c.len-bits.ensures at due in
     rw (p.1, p.2) (follow_on i.so_far.2
     (elements_no_tick _ _ _ _ _ _ _ (max 1 (least_width (type_of c.args.self.now.nodes.now c.args.element))) _
@@ -604,42 +604,43 @@ map_elements-returns-in_err-tick-clause-is g t c =
 
 pub map_elements-returns-then-end-place-clause-is : goal.map_elements-returns-then-end-place-clause-is
 map_elements-returns-then-end-place-clause-is g t c =
-    let i = c.loop-order.invariant in
+    let i = c.loop-self.invariant in
     let e = c.in_ok-tick.ensures in
-    let due = sym c.is_due.ensures ∙ c.loop-order-test.true in
+    let due = sym c.is_due.ensures ∙ c.loop-self-test.true in
     let due = rw c.len-bits.ensures at due in
     let m = rw i.lent.nodes at c.in-Ok.ensures.is in
     let h = rw i.frame.len at m.follows in
-    let h = in_world (g.S.Space.view c.args.space.now) (g.S.Space.view c.loop-order.space) i.frame.bytes i.frame.room
+    let h = in_world (g.S.Space.view c.args.space.now) (g.S.Space.view c.loop-self.space) i.frame.bytes i.frame.room
     c.in-Ok.ensures.frame.left.room h in
     let h = element_done (row_of (type_of c.args.self.now.nodes.now c.args.element)) c.requires.apart h in
     rw c.from.ensures (follow_on (in_later i.frame.room c.in-Ok.ensures.frame.left.room i.so_far.2)
     (elements_no_bits _ _ _ _ _ _ _ (max 1 (least_width (type_of c.args.self.now.nodes.now c.args.element))) _
     i.so_far.1 i.inside due (e.limit ∙ i.frame.limit) e.ok e.made _ (m.ends ∙ c.if-end-place.true) h))
 
-pub map_elements-loop-order-preserved : goal.map_elements-loop-order-preserved
-map_elements-loop-order-preserved g t c =
-    let i = c.loop-order.invariant in
+pub map_elements-loop-self-preserved : goal.map_elements-loop-self-preserved
+map_elements-loop-self-preserved g t c =
+    let i = c.loop-self.invariant in
     let e = c.in_ok-tick.ensures in
-    let due = sym c.is_due.ensures ∙ c.loop-order-test.true in
+    let due = sym c.is_due.ensures ∙ c.loop-self-test.true in
     let due = rw c.len-bits.ensures at due in
     let m = rw i.lent.nodes at c.in-Ok.ensures.is in
     let h = rw i.frame.len at m.follows in
-    let h = in_world (g.S.Space.view c.args.space.now) (g.S.Space.view c.loop-order.space) i.frame.bytes i.frame.room
+    let h = in_world (g.S.Space.view c.args.space.now) (g.S.Space.view c.loop-self.space) i.frame.bytes i.frame.room
     c.in-Ok.ensures.frame.left.room h in
     let wide = followed_wide _ _ _ _ _ h in
     let ends = m.ends in
-    let far : c.loop-order.place + max 1 (least_width (type_of c.args.self.now.nodes.now c.args.element))
+    let far : c.loop-self.place + max 1 (least_width (type_of c.args.self.now.nodes.now c.args.element))
     ≤ c.in-Ok.end =
     omega (arith, wide, ends, c.in-Ok.ensures.ends.0, c.if-end-place.false) in
     let fit = followed_fits _ _ _ _ _ h in
     let h = element_done (row_of (type_of c.args.self.now.nodes.now c.args.element)) c.requires.apart h in
     let next = elements_goes (element_plan (type_of c.args.self.now.nodes.now c.args.element)
-    (plan (8 * (g.S.Space.view c.args.space.now).len) (type_of c.args.self.now.nodes.now c.args.element) c.args.order))
-    (8 * (g.S.Space.view c.args.space.now).len) c.args.start c.args.extent c.loop-order.count
-    (levels c.args.self.now.nodes.now c.loop-order.self.store.now) c.loop-order.place
+    (plan (8 * (g.S.Space.view c.args.space.now).len) (type_of c.args.self.now.nodes.now c.args.element)
+    c.args.start.order))
+    (8 * (g.S.Space.view c.args.space.now).len) c.args.start.bit c.args.extent c.loop-self.count
+    (levels c.args.self.now.nodes.now c.loop-self.self.store.now) c.loop-self.place
     (max 1 (least_width (type_of c.args.self.now.nodes.now c.args.element))) _ i.so_far.1 i.inside due (e.limit
-    ∙ i.frame.limit) e.ok e.made m.value c.in-Ok.end (c.loop-order.count + 1) refl ends c.if-end-place.false far h in
+    ∙ i.frame.limit) e.ok e.made m.value c.in-Ok.end (c.loop-self.count + 1) refl ends c.if-end-place.false far h in
     record {
       lent = search rules;
       frame = search rules;
@@ -656,12 +657,12 @@ map_elements-loop-order-preserved g t c =
 
 pub map_elements-returns-then-ends-clause-is : goal.map_elements-returns-then-ends-clause-is
 map_elements-returns-then-ends-clause-is g t c =
-    let i = c.loop-order.invariant in
+    let i = c.loop-self.invariant in
     let e = c.in_ok-tick.ensures in
-    let due = sym c.is_due.ensures ∙ c.loop-order-test.true in
+    let due = sym c.is_due.ensures ∙ c.loop-self-test.true in
     let due = rw c.len-bits.ensures at due in
     let h = rw (i.lent.nodes, i.frame.len) at c.in-Err.ensures.is in
-    let h = in_world (g.S.Space.view c.args.space.now) (g.S.Space.view c.loop-order.space) i.frame.bytes i.frame.room
+    let h = in_world (g.S.Space.view c.args.space.now) (g.S.Space.view c.loop-self.space) i.frame.bytes i.frame.room
     c.in-Err.ensures.frame.left.room h in
     let ends = sym c.ends.ensures ∙ c.if-ends.true in
     let h = element_stopped (row_of (type_of c.args.self.now.nodes.now c.args.element)) c.requires.apart _ h in
@@ -672,12 +673,12 @@ map_elements-returns-then-ends-clause-is g t c =
 
 pub map_elements-returns-in-Err-clause-is : goal.map_elements-returns-in-Err-clause-is
 map_elements-returns-in-Err-clause-is g t c =
-    let i = c.loop-order.invariant in
+    let i = c.loop-self.invariant in
     let e = c.in_ok-tick.ensures in
-    let due = sym c.is_due.ensures ∙ c.loop-order-test.true in
+    let due = sym c.is_due.ensures ∙ c.loop-self-test.true in
     let due = rw c.len-bits.ensures at due in
     let h = rw (i.lent.nodes, i.frame.len) at c.in-Err.ensures.is in
-    let h = in_world (g.S.Space.view c.args.space.now) (g.S.Space.view c.loop-order.space) i.frame.bytes i.frame.room
+    let h = in_world (g.S.Space.view c.args.space.now) (g.S.Space.view c.loop-self.space) i.frame.bytes i.frame.room
     c.in-Err.ensures.frame.left.room h in
     let ends = sym c.ends.ensures ∙ c.if-ends.false in
     let h = element_stopped (row_of (type_of c.args.self.now.nodes.now c.args.element)) c.requires.apart _ h in
@@ -687,8 +688,8 @@ map_elements-returns-in-Err-clause-is g t c =
 
 pub map_elements-returns-then-is_met-clause-is : goal.map_elements-returns-then-is_met-clause-is
 map_elements-returns-then-is_met-clause-is g t c =
-    let i = c.loop-order.invariant in
-    let over = sym c.is_due.ensures ∙ c.loop-order-test.false in
+    let i = c.loop-self.invariant in
+    let over = sym c.is_due.ensures ∙ c.loop-self-test.false in
     let over = rw c.len-bits.ensures at over in
     follow_on i.so_far.2
     (elements_end _ _ _ _ _ _ _ (max 1 (least_width (type_of c.args.self.now.nodes.now c.args.element))) _ i.so_far.1
@@ -696,8 +697,8 @@ map_elements-returns-then-is_met-clause-is g t c =
 
 pub map_elements-returns-else-is_met-clause-is : goal.map_elements-returns-else-is_met-clause-is
 map_elements-returns-else-is_met-clause-is g t c =
-    let i = c.loop-order.invariant in
-    let over = sym c.is_due.ensures ∙ c.loop-order-test.false in
+    let i = c.loop-self.invariant in
+    let over = sym c.is_due.ensures ∙ c.loop-self-test.false in
     let over = rw c.len-bits.ensures at over in
     rw c.from-else-is_met.ensures (follow_on i.so_far.2
     (elements_beyond _ _ _ _ _ _ _ (max 1 (least_width (type_of c.args.self.now.nodes.now c.args.element))) _ i.so_far.1

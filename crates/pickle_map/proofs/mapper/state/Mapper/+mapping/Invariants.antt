@@ -58,15 +58,16 @@ invariant-map_fields-loop-field g l = record {
   lent : StaysLent l.initial.self l.self;
   frame : Frame (g.S.Space.view l.initial.space) (g.S.Space.view l.space) l.initial.self.meter.now l.self.meter.now
       l.initial.self.store.now l.self.store.now 0 under_way;
-  after : l.start ≤ l.top;
+  after : l.start.bit ≤ l.top;
   inside : l.top ≤ 8 * (g.S.Space.view l.initial.space).len;
   level : LevelStays l.initial.self.nodes.now l.initial.self.store.now l.self.store.now;
   so_far : Runs (g.S.Space.view l.initial.space) l.initial.self.meter.now l.self.meter.now
       l.initial.self.store.now l.self.store.now
-      (as_fields l.pinned l.fields l.order l.start l.initial.self.nodes.now (8 * (g.S.Space.view l.initial.space).len)
+      (as_fields l.pinned l.fields l.start.order l.start.bit l.initial.self.nodes.now
+      (8 * (g.S.Space.view l.initial.space).len)
       (levels l.initial.self.nodes.now l.initial.self.store.now))
-      (Partly (fields_plan (8 * (g.S.Space.view l.initial.space).len) l.pinned l.start
-      (open_fields (type_of l.initial.self.nodes.now) (drop l.field-index l.fields)) l.order
+      (Partly (fields_plan (8 * (g.S.Space.view l.initial.space).len) l.pinned l.start.bit
+      (open_fields (type_of l.initial.self.nodes.now) (drop l.field-index l.fields)) l.start.order
       (levels l.initial.self.nodes.now l.self.store.now) l.behind l.top));
 }
 
@@ -79,33 +80,33 @@ invariant-map_alternatives-loop-index g l = record {
   depth : level_count l.self.store.now ≡ level_count l.initial.self.store.now;
   so_far : Runs (g.S.Space.view l.initial.space) l.initial.self.meter.now l.self.meter.now
       l.initial.self.store.now l.self.store.now
-      (as_alternatives l.alternatives l.order l.start l.initial.self.nodes.now
+      (as_alternatives l.alternatives l.start.order l.start.bit l.initial.self.nodes.now
       (8 * (g.S.Space.view l.initial.space).len) (levels l.initial.self.nodes.now l.initial.self.store.now))
       (Partly (alternatives_plan (8 * (g.S.Space.view l.initial.space).len)
-      (open_parts (type_of l.initial.self.nodes.now) (drop l.index l.alternatives)) l.index l.order
-      (levels l.initial.self.nodes.now l.initial.self.store.now) l.start));
+      (open_parts (type_of l.initial.self.nodes.now) (drop l.index l.alternatives)) l.index l.start.order
+      (levels l.initial.self.nodes.now l.initial.self.store.now) l.start.bit));
 }
 
-abbrev pub decreases-map_elements-loop-order : goal.decreases-map_elements-loop-order
-decreases-map_elements-loop-order g l = 8 * (g.S.Space.view l.initial.space).len - l.place
+abbrev pub decreases-map_elements-loop-self : goal.decreases-map_elements-loop-self
+decreases-map_elements-loop-self g l = 8 * (g.S.Space.view l.initial.space).len - l.place
 
-abbrev pub invariant-map_elements-loop-order : goal.invariant-map_elements-loop-order
-invariant-map_elements-loop-order g l = record {
+abbrev pub invariant-map_elements-loop-self : goal.invariant-map_elements-loop-self
+invariant-map_elements-loop-self g l = record {
   lent : StaysLent l.initial.self l.self;
   frame : Frame (g.S.Space.view l.initial.space) (g.S.Space.view l.space) l.initial.self.meter.now l.self.meter.now
       l.initial.self.store.now l.self.store.now 0 under_way;
-  after : l.start ≤ l.place;
+  after : l.start.bit ≤ l.place;
   inside : l.place ≤ 8 * (g.S.Space.view l.initial.space).len;
   level : LevelStays l.initial.self.nodes.now l.initial.self.store.now l.self.store.now;
-  counted : l.count + l.start ≤ l.place;
+  counted : l.count + l.start.bit ≤ l.place;
   so_far : (n : ℕ) × (8 * (g.S.Space.view l.initial.space).len
       < l.place + n * max 1 (least_width (type_of l.initial.self.nodes.now l.element))) ×
       Runs (g.S.Space.view l.initial.space) l.initial.self.meter.now l.self.meter.now
       l.initial.self.store.now l.self.store.now
-      (as_elements l.element l.extent l.order l.start l.initial.self.nodes.now
+      (as_elements l.element l.extent l.start.order l.start.bit l.initial.self.nodes.now
       (8 * (g.S.Space.view l.initial.space).len) (levels l.initial.self.nodes.now l.initial.self.store.now))
       (Partly (elements_plan (element_plan (type_of l.initial.self.nodes.now l.element)
-      (plan (8 * (g.S.Space.view l.initial.space).len) (type_of l.initial.self.nodes.now l.element) l.order))
-      (8 * (g.S.Space.view l.initial.space).len) l.start l.extent n l.count
+      (plan (8 * (g.S.Space.view l.initial.space).len) (type_of l.initial.self.nodes.now l.element) l.start.order))
+      (8 * (g.S.Space.view l.initial.space).len) l.start.bit l.extent n l.count
       (levels l.initial.self.nodes.now l.self.store.now) l.place));
 }

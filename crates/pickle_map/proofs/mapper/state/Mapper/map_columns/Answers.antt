@@ -26,7 +26,7 @@ loop-field-init g c = record {
   level = search rules;
   columns = c.requires.columns;
   more = places_none c.args.self.now.store.now c.args.self.now.store.now refl;
-  adds = adds_none c.args.self.now.store.now c.args.start c.args.row.now.items c.requires.holds;
+  adds = adds_none c.args.self.now.store.now c.args.start.bit c.args.row.now.items c.requires.holds;
   room = c.requires.room;
   so_far = follow_here;
 }
@@ -96,7 +96,7 @@ loop-field-preserved g c =
       level = pushed_stays c.args.self.now.nodes.now _ _ _ _ i.level m.kept c.in_ok-place.ensures.level.depth;
       columns = first.4;
       more = places_more _ _ _ i.more c.in_ok-place.ensures.more;
-      adds = rw more (adds_more _ _ _ _ shape c.args.start _ _ _ _ _ i.adds adds);
+      adds = rw more (adds_more _ _ _ _ shape c.args.start.bit _ _ _ _ _ i.adds adds);
       room = omega (arith, i.room, rest, longer);
       so_far =
           rw m.kept (follow_on (in_later i.frame.room c.in_ok-place.ensures.frame.left.room i.so_far) (column_goes _ _ _
@@ -114,7 +114,7 @@ returns-clause-adds g c =
     let all = take_all c.loop-field.field-index c.args.fields.now (omega arith) in
     subst (λ fs.
     AddsColumns c.args.self.now.store.now c.loop-field.self.store.now (shapes_of (type_of c.args.self.now.nodes.now) fs)
-    c.args.start c.loop-field.place c.args.row.now.items c.loop-field.row.items) all c.loop-field.invariant.adds
+    c.args.start.bit c.loop-field.place c.args.row.now.items c.loop-field.row.items) all c.loop-field.invariant.adds
 
 pub returns-in_err-place-clause-more : goal.returns-in_err-place-clause-more
 returns-in_err-place-clause-more g c = places_more _ _ _ c.loop-field.invariant.more c.in_err-place.ensures.more

@@ -17,20 +17,20 @@ invariant-loop-field g l = record {
   lent : StaysLent l.fn.self l.self;
   frame : Frame (g.S.Space.view l.fn.space) (g.S.Space.view l.space) l.fn.self.meter.now l.self.meter.now
       l.fn.self.store.now l.self.store.now 0 under_way;
-  after : l.start ≤ l.place;
+  after : l.start.bit ≤ l.place;
   inside : l.place ≤ 8 * (g.S.Space.view l.fn.space).len;
   level : LevelStays l.fn.self.nodes.now l.fn.self.store.now l.self.store.now;
   columns : AreColumns (open_fields (type_of l.fn.self.nodes.now) (drop l.field-index l.fields));
   more : PlacesMore l.fn.self.store.now l.self.store.now;
   adds : AddsColumns l.fn.self.store.now l.self.store.now
-      (shapes_of (type_of l.fn.self.nodes.now) (take l.field-index l.fields)) l.start l.place
+      (shapes_of (type_of l.fn.self.nodes.now) (take l.field-index l.fields)) l.start.bit l.place
       l.fn.row.items l.row.items;
   room : array_vec_len l.row + struct_bytes (shapes_of (type_of l.fn.self.nodes.now) (drop l.field-index l.fields))
       ≤ 512;
   so_far : Runs (g.S.Space.view l.fn.space) l.fn.self.meter.now l.self.meter.now l.fn.self.store.now l.self.store.now
-      (as_fields false l.fields l.order l.start l.fn.self.nodes.now (8 * (g.S.Space.view l.fn.space).len)
+      (as_fields false l.fields l.start.order l.start.bit l.fn.self.nodes.now (8 * (g.S.Space.view l.fn.space).len)
       (levels l.fn.self.nodes.now l.fn.self.store.now))
-      (Partly (fields_plan (8 * (g.S.Space.view l.fn.space).len) false l.start
-      (open_fields (type_of l.fn.self.nodes.now) (drop l.field-index l.fields)) l.order
+      (Partly (fields_plan (8 * (g.S.Space.view l.fn.space).len) false l.start.bit
+      (open_fields (type_of l.fn.self.nodes.now) (drop l.field-index l.fields)) l.start.order
       (levels l.fn.self.nodes.now l.self.store.now) l.place l.place));
 }

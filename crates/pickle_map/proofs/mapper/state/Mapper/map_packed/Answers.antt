@@ -22,7 +22,7 @@ pub loop-meter-init : goal.loop-meter-init
 loop-meter-init g c =
     let few = few_enough (8 * (g.S.Space.view c.args.space.now).len)
     (least_width (type_of c.args.self.now.nodes.now c.args.element)) in
-    let fresh = packing-empty c.args.self.now.nodes.now c.args.self.now.store.now c.args.shape c.args.start
+    let fresh = packing-empty c.args.self.now.nodes.now c.args.self.now.store.now c.args.shape c.args.start.bit
     (outer_of (levels c.args.self.now.nodes.now c.args.self.now.store.now)) c.requires.packing in
     record {
       frame = search rules;
@@ -56,7 +56,7 @@ returns-in_err-tick-clause-is g c =
 pub push_packed-requires-clause-first : goal.push_packed-requires-clause-first
 push_packed-requires-clause-first g c =
     let i = c.loop-meter.invariant in
-    first_is c.args.self.now.nodes.now c.loop-meter.store c.args.shape i.so_far.0 c.args.start
+    first_is c.args.self.now.nodes.now c.loop-meter.store c.args.shape i.so_far.0 c.args.start.bit
     (outer_of (levels c.args.self.now.nodes.now c.args.self.now.store.now)) c.loop-meter.count i.so_far.5
     c.requires.shape.packed i.so_far.4
 
@@ -76,7 +76,7 @@ returns-in_err-push_packed-in-Ok-clause-is g c =
     let fits = rw (i.frame.len, c.element_width-width.ensures) at r.inside in
     let may = rw c.element_width-width.ensures at r.ok in
     let outer = outer_of (levels c.args.self.now.nodes.now c.args.self.now.store.now) in
-    let more = row_more c.args.shape i.so_far.0 c.in-Ok.digits c.args.start c.loop-meter.place outer i.so_far.3 in
+    let more = row_more c.args.shape i.so_far.0 c.in-Ok.digits c.args.start.bit c.loop-meter.place outer i.so_far.3 in
     let full = subst (Exceeds c.loop-meter.store.room) more
     (c.in_err-push_packed-in-Ok.ensures.full c.args.self.now.nodes.now i.so_far.0 outer i.so_far.5) in
     let cannot = rw c.element_width-width.ensures at c.in_err-push_packed-in-Ok.ensures.lacks in
@@ -84,7 +84,7 @@ returns-in_err-push_packed-in-Ok-clause-is g c =
     let h =
     element_no_room {world = world_of (g.S.Space.view c.loop-meter.space) c.loop-meter.store c.push_packed.new.self}
     c.args.shape (8 * (g.S.Space.view c.args.space.now).len) (type_of c.args.self.now.nodes.now c.args.element)
-    c.args.order (row_levels c.args.shape i.so_far.0 c.args.start
+    c.args.start.order (row_levels c.args.shape i.so_far.0 c.args.start.bit
     (outer_of (levels c.args.self.now.nodes.now c.args.self.now.store.now)))
     c.loop-meter.place c.requires.shape.is i.inside c.in-Ok.digits r.limit r.steps r.made fits may lacks in
     let h = in_world (g.S.Space.view c.args.space.now) (g.S.Space.view c.loop-meter.space) i.frame.bytes i.frame.room
@@ -108,15 +108,16 @@ loop-meter-preserved g c =
     let may = rw width at r.ok in
     let short = g.met.S.Space.short c.args.space.now in
     let place : c.loop-meter.place + element_width c.args.shape
-    ≡ c.args.start + element_width c.args.shape * (length i.so_far.0 + 1) =
+    ≡ c.args.start.bit + element_width c.args.shape * (length i.so_far.0 + 1) =
     omega (arith, i.so_far.3) in
-    let levels = row_more c.args.shape i.so_far.0 c.in-Ok.digits c.args.start c.loop-meter.place outer i.so_far.3 in
+    let levels = row_more c.args.shape i.so_far.0 c.in-Ok.digits c.args.start.bit c.loop-meter.place outer i.so_far.3 in
     let moves = rw width at k.moves in
     let moves = moves_to (same_room c.loop-meter.store) (same_room c.push_packed.new.self) k.within moves in
     let h =
     element_goes {world = world_of (g.S.Space.view c.loop-meter.space) c.loop-meter.store c.push_packed.new.self}
     c.args.shape (8 * (g.S.Space.view c.args.space.now).len) (type_of c.args.self.now.nodes.now c.args.element)
-    c.args.order (row_levels c.args.shape i.so_far.0 c.args.start outer) c.loop-meter.place c.requires.shape.is i.inside
+    c.args.start.order (row_levels c.args.shape i.so_far.0 c.args.start.bit outer) c.loop-meter.place
+    c.requires.shape.is i.inside
     c.in-Ok.digits r.limit r.steps r.made fits may moves n.steps n.made in
     let h = in_world (g.S.Space.view c.args.space.now) (g.S.Space.view c.loop-meter.space) i.frame.bytes
     i.frame.room k.room h in
@@ -126,9 +127,10 @@ loop-meter-preserved g c =
     ≤ c.loop-meter.place + element_width c.args.shape =
     omega (arith, some.0, least) in
     let next = elements_goes (element_plan (type_of c.args.self.now.nodes.now c.args.element)
-    (plan (8 * (g.S.Space.view c.args.space.now).len) (type_of c.args.self.now.nodes.now c.args.element) c.args.order))
-    (8 * (g.S.Space.view c.args.space.now).len) c.args.start c.args.extent c.loop-meter.count
-    (row_levels c.args.shape i.so_far.0 c.args.start outer) c.loop-meter.place
+    (plan (8 * (g.S.Space.view c.args.space.now).len) (type_of c.args.self.now.nodes.now c.args.element)
+    c.args.start.order))
+    (8 * (g.S.Space.view c.args.space.now).len) c.args.start.bit c.args.extent c.loop-meter.count
+    (row_levels c.args.shape i.so_far.0 c.args.start.bit outer) c.loop-meter.place
     (max 1 (least_width (type_of c.args.self.now.nodes.now c.args.element))) _ i.so_far.2 i.inside due
     (e.limit ∙ i.frame.limit) e.ok e.made (element_value c.args.shape c.loop-meter.place c.in-Ok.digits)
     (c.loop-meter.place + element_width c.args.shape) (c.loop-meter.count + 1) refl
@@ -141,7 +143,8 @@ loop-meter-preserved g c =
       after = search rules;
       inside = search rules;
       level = record {
-        outer = packing-outer c.args.self.now.nodes.now c.push_packed.new.self c.args.shape _ c.args.start outer packed;
+        outer =
+            packing-outer c.args.self.now.nodes.now c.push_packed.new.self c.args.shape _ c.args.start.bit outer packed;
         depth = k.depth ∙ i.level.depth;
       };
       counted = omega (arith, i.counted, some.0, width, c.from-place.ensures);
@@ -165,7 +168,8 @@ returns-then-ends-clause-is g c =
     let due = rw c.len-bits.ensures at due in
     let stops = rw c.element_width-width.ensures at r.err in
     let h = element_stops c.args.shape (8 * (g.S.Space.view c.args.space.now).len)
-    (type_of c.args.self.now.nodes.now c.args.element) c.args.order (row_levels c.args.shape i.so_far.0 c.args.start
+    (type_of c.args.self.now.nodes.now c.args.element) c.args.start.order
+    (row_levels c.args.shape i.so_far.0 c.args.start.bit
     (outer_of (levels c.args.self.now.nodes.now c.args.self.now.store.now)))
     c.loop-meter.place c.requires.shape.is i.inside _ _ _ refl (ap (λ l. 8 * l) (sym i.frame.len)) stops r.made in
     let ends = sym c.ends.ensures ∙ c.if-ends.true in
@@ -187,7 +191,8 @@ returns-in-Err-clause-is g c =
     let due = rw c.len-bits.ensures at due in
     let stops = rw c.element_width-width.ensures at r.err in
     let h = element_stops c.args.shape (8 * (g.S.Space.view c.args.space.now).len)
-    (type_of c.args.self.now.nodes.now c.args.element) c.args.order (row_levels c.args.shape i.so_far.0 c.args.start
+    (type_of c.args.self.now.nodes.now c.args.element) c.args.start.order
+    (row_levels c.args.shape i.so_far.0 c.args.start.bit
     (outer_of (levels c.args.self.now.nodes.now c.args.self.now.store.now)))
     c.loop-meter.place c.requires.shape.is i.inside _ _ _ refl (ap (λ l. 8 * l) (sym i.frame.len)) stops r.made in
     let ends = sym c.ends.ensures ∙ c.if-ends.false in

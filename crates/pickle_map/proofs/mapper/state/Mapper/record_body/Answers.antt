@@ -35,7 +35,7 @@ pack_row-requires-clause-takes g c =
     let same = dropped_is o.room m.frame.left.room d.room o.moves o.slots m.more d.moves d.slots in
     let short = g.met.S.Space.short c.args.space.now in
     rw nodes (record {
-      among = among_stays c.args.self.now.nodes.now _ _ c.args.at _ c.args.start same c.requires.among;
+      among = among_stays c.args.self.now.nodes.now _ _ c.args.at _ c.args.start.bit same c.requires.among;
       digits = m.adds.digits;
       are = m.adds.are;
       is = c.deref.ensures.0 ∙ m.adds.bytes ∙ rw c.requires.empty refl;
@@ -68,7 +68,7 @@ returns-in_err-pack_row-clause-is g c =
     (ap state_of same) over in
     rw (p.1, p.2, e.frame.meter) (
       frame_lacks nodes o.room m.frame.left.room d.room o.moves o.within c.requires.record.packs e.frame.room
-          (length c.args.fields.now) (struct_bytes cs) filled _ _ _ c.args.start c.in_ok-end.end _ h over,
+          (length c.args.fields.now) (struct_bytes cs) filled _ _ _ c.args.start.bit c.in_ok-end.end _ h over,
       λ other. absurd (other refl),
     )
 
@@ -93,10 +93,10 @@ returns-clause-is g c =
     ∙ ap (λ (s : State). packed_state (length c.args.fields.now) (length c.deref.result.now) s) (ap state_of same)
     ∙ ap (λ n. packed_state (length c.args.fields.now) n (state_of c.args.self.now.store.now)) stride in
     let adds = rw m.frame.lent.nodes at k.adds in
-    let value = struct_is nodes c.args.at c.args.fields.now c.args.start c.in_ok-end.end m.adds.digits _ _ named
+    let value = struct_is nodes c.args.at c.args.fields.now c.args.start.bit c.in_ok-end.end m.adds.digits _ _ named
     (m.adds.more nodes [] _ (o.levels nodes)) m.adds.ends in
     let runs = frame_packs nodes o.room m.frame.left.room d.room o.moves o.within c.requires.record.packs k.frame.room
-    (length c.args.fields.now) (struct_bytes cs) filled _ _ _ c.args.start c.in_ok-end.end _ h k.state.1 is
+    (length c.args.fields.now) (struct_bytes cs) filled _ _ _ c.args.start.bit c.in_ok-end.end _ h k.state.1 is
     (n.steps ∙ ap (λ (x : Meter). x.steps) k.frame.meter) (n.made ∙ ap (λ (x : Meter). x.made + 1) k.frame.meter) in
     record {
       digits = m.adds.digits;

@@ -38,13 +38,14 @@ returns-in_err-close_array-clause-is g c =
     let r = c.requires.record.type in
     let m = c.in_ok-end.ensures in
     let e = c.in_err-close_array.ensures in
-    let none = none_mapped _ c.args.start c.in_ok-end.end m.is.rows
+    let none = none_mapped _ c.args.start.bit c.in_ok-end.end m.is.rows
     (record_some nodes c.args.element c.args.fields.now r) m.is.ends c.if-end-start.true in
     let fresh =
-    has_none nodes c.map_records.new.self.store.now c.args.element cs c.args.start outer m.is.rows m.is.has none in
+    has_none nodes c.map_records.new.self.store.now c.args.element cs c.args.start.bit outer m.is.rows m.is.has none in
     let full = rw fresh.levels at (e.full nodes) in
     let full =
-    rw (ap (λ rs. array_value c.args.start c.in_ok-end.end (structs_of nodes c.args.element cs c.args.start rs ∷ outer))
+    rw (ap (λ rs.
+    array_value c.args.start.bit c.in_ok-end.end (structs_of nodes c.args.element cs c.args.start.bit rs ∷ outer))
     (sym none)) at full in
     let lacks = none_lacks m.frame.left.room c.requires.record.packs c.close_array.new.self fresh.opened full e.lacks in
     rw (p.1, p.2) (array_no_room _ _ _ _ (in_later m.frame.left.room e.room m.is.runs) (type_of nodes c.args.element)
@@ -56,9 +57,9 @@ close_records-requires g c =
     let m = c.in_ok-end.ensures in
     let outer = outer_of (levels nodes c.args.self.now.store.now) in
     is_open nodes c.map_records.new.self.store.now c.args.element (shapes_of (type_of nodes) c.args.fields.now)
-    c.args.start outer m.is.rows
+    c.args.start.bit outer m.is.rows
     (has_some nodes c.map_records.new.self.store.now c.args.element (shapes_of (type_of nodes) c.args.fields.now)
-    c.args.start outer m.is.rows m.is.has (λ none. c.if-end-start.false (m.is.ends ∙ rw none (omega arith))))
+    c.args.start.bit outer m.is.rows m.is.has (λ none. c.if-end-start.false (m.is.ends ∙ rw none (omega arith))))
 
 pub returns-clause-is : goal.returns-clause-is
 returns-clause-is g c =
@@ -71,16 +72,16 @@ returns-clause-is g c =
     elim c.if-end-start.branch [
       | then-end-start+in_ok-close_array w ↦
           let e = w.in_ok-close_array.ensures in
-          let none = none_mapped _ c.args.start c.in_ok-end.end m.is.rows
+          let none = none_mapped _ c.args.start.bit c.in_ok-end.end m.is.rows
           (record_some nodes c.args.element c.args.fields.now r) m.is.ends w.if-end-start.true in
-          let fresh = has_none nodes c.map_records.new.self.store.now c.args.element cs c.args.start outer
+          let fresh = has_none nodes c.map_records.new.self.store.now c.args.element cs c.args.start.bit outer
           m.is.rows m.is.has none in
           let moves = none_moves m.frame.left.room c.requires.record.packs fresh.opened e.within e.moves in
           let n = rw w.self-is at n in
           rw w.self-is (record {
-            value = array_value c.args.start c.in_ok-end.end
-                (structs_of nodes c.args.element cs c.args.start m.is.rows ∷ outer);
-            kept = none_closed nodes c.map_records.new.self.store.now c.args.element cs c.args.start outer
+            value = array_value c.args.start.bit c.in_ok-end.end
+                (structs_of nodes c.args.element cs c.args.start.bit m.is.rows ∷ outer);
+            kept = none_closed nodes c.map_records.new.self.store.now c.args.element cs c.args.start.bit outer
                 w.close_array.new.self c.in_ok-end.end m.is.rows none fresh e.ok;
             ends = refl;
             follows = array_made _ _ _ _ (in_later m.frame.left.room e.room m.is.runs) (type_of nodes c.args.element)
@@ -88,16 +89,16 @@ returns-clause-is g c =
           })
       | else-end-start w ↦
           let e = w.close_records.ensures in
-          let some = has_some nodes c.map_records.new.self.store.now c.args.element cs c.args.start outer m.is.rows
+          let some = has_some nodes c.map_records.new.self.store.now c.args.element cs c.args.start.bit outer m.is.rows
           m.is.has (λ none. w.if-end-start.false (m.is.ends ∙ rw none (omega arith))) in
           let moves = some_moves m.frame.left.room c.requires.record.packs
-          (packing_nodes nodes c.map_records.new.self.store.now c.args.element cs c.args.start m.is.rows outer some)
+          (packing_nodes nodes c.map_records.new.self.store.now c.args.element cs c.args.start.bit m.is.rows outer some)
           e.within e.moves in
           let n = rw w.self-is at n in
           rw w.self-is (record {
-            value = array_value c.args.start c.in_ok-end.end
-                (structs_of nodes c.args.element cs c.args.start m.is.rows ∷ outer);
-            kept = some_closed nodes c.map_records.new.self.store.now c.args.element cs c.args.start outer
+            value = array_value c.args.start.bit c.in_ok-end.end
+                (structs_of nodes c.args.element cs c.args.start.bit m.is.rows ∷ outer);
+            kept = some_closed nodes c.map_records.new.self.store.now c.args.element cs c.args.start.bit outer
                 w.close_records.new.self c.in_ok-end.end m.is.rows some e.ok m.is.ends;
             ends = refl;
             follows = array_made _ _ _ _ (in_later m.frame.left.room e.room m.is.runs) (type_of nodes c.args.element)

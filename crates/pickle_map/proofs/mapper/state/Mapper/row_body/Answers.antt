@@ -21,7 +21,7 @@ returns-in_err-close_row-clause-is g c =
     let p = err_from_is_err_and c.from_residual-in_err-close_row.result c.from_residual-in_err-close_row.ensures.1 in
     let m = c.in_ok-end.ensures.is in
     let outer = outer_of (levels c.args.self.now.nodes.now c.args.self.now.store.now) in
-    let closed = row_closed c.args.shape m.numbers c.args.start c.in_ok-end.end outer m.ends in
+    let closed = row_closed c.args.shape m.numbers c.args.start.bit c.in_ok-end.end outer m.ends in
     let full = rw closed at (c.in_err-close_row.ensures.full c.args.self.now.nodes.now m.numbers outer m.packing) in
     let lacks = lacks_these c.in_ok-end.ensures.frame.left.room tt full c.in_err-close_row.ensures.lacks in
     let move = row_move c.args.shape (type_of c.args.self.now.nodes.now c.args.element) c.requires.shape.is in
@@ -40,7 +40,8 @@ returns-clause-is g c =
     let m = c.in_ok-end.ensures.is in
     let outer = outer_of (levels c.args.self.now.nodes.now c.args.self.now.store.now) in
     let kept = c.in_ok-close_row.ensures.ok c.args.self.now.nodes.now m.numbers outer m.packing
-    ∙ ap (λ v. pushed outer (Some v)) (row_closed c.args.shape m.numbers c.args.start c.in_ok-end.end outer m.ends) in
+    ∙ ap (λ v. pushed outer (Some v))
+    (row_closed c.args.shape m.numbers c.args.start.bit c.in_ok-end.end outer m.ends) in
     let room = c.in_ok-close_row.ensures.room in
     let moves = moves_to c.in_ok-end.ensures.frame.left.room (same_room c.close_row.new.self)
     c.in_ok-close_row.ensures.within c.in_ok-close_row.ensures.moves in
