@@ -1,6 +1,9 @@
 -- Evaluations made of evaluations, as their parts end.
 use Rattle.std.proofs.Common.{◌≡◌, ℕ, ◌+◌, ◌≤◌, List, Result, Ok, Err, refl, arith}
 use Rattle.pickle_types.specs.declared.node.Node.{Node}
+use Rattle.pickle_types.specs.declared.node.Resolved.{Resolved}
+use Rattle.pickle_types.specs.declared.node.Resolved.TheVariants as resolved
+use Rattle.pickle_types.specs.Table.{term_of}
 use Rattle.value_store.specs.declared.scalar.Scalar.{Scalar}
 use Rattle.pickle_evaluation.specs.declared.operand.Operand.{Operand as Computing}
 use Rattle.pickle_evaluation.specs.declared.operand.Operand.TheVariants as computing
@@ -8,7 +11,8 @@ use Rattle.pickle_evaluation.specs.declared.operand.Unvalued.{Unvalued}
 use Rattle.pickle_evaluation.specs.declared.operand.Unvalued.TheVariants.{Fault, Limit}
 use Rattle.pickle_meaning.specs.declared.faults.MapFaultKind.{MapFaultKind}
 use Rattle.pickle_meaning.specs.Arithmetic.{Computed}
-use Rattle.pickle_meaning.specs.Evaluation.{Operand, Evaluation, gives, with_steps, on_outcome, and_operand}
+use Rattle.pickle_meaning.specs.Evaluation.{Operand, Evaluation, evaluation, gives, with_steps, on_outcome, and_operand}
+use Rattle.pickle_meaning.specs.Values.{Levels}
 use Rattle.value_store.specs.Scalars.{scalar_label}
 use Rattle.pickle_evaluation.specs.Operands.{operand_of, Evaluated}
 
@@ -19,6 +23,27 @@ grows_by (Err e) k f = omega arith
 pub grows : (a : Evaluation) (f : Operand → Evaluation) → a.steps ≤ (and_operand a f).steps
 unfolding and_operand
 grows a f = grows_by a.outcome a.steps f
+
+-- each expression takes a step
+takes_step : (e : Resolved) (levels : Levels) → 1 ≤ (evaluation (term_of e) levels).steps
+unfolding evaluation
+takes_step (resolved.Number type value) levels = omega arith
+takes_step (resolved.Text t) levels = omega arith
+takes_step (resolved.Name level place) levels = omega arith
+takes_step (resolved.Bracket' p x) levels = omega arith
+takes_step (resolved.Prefix' op p x) levels = omega arith
+takes_step (resolved.Infix' op p x q y) levels = omega arith
+takes_step (resolved.Choice' common p x q y r w) levels = omega arith
+takes_step (resolved.Index' p x q y) levels = omega arith
+takes_step (resolved.Select' p x place) levels = omega arith
+takes_step (resolved.Attribute' attribute p x) levels = omega arith
+takes_step (resolved.ToInteger' type p x) levels = omega arith
+takes_step (resolved.ToOffset' type unit p x) levels = omega arith
+takes_step (resolved.InUnit' unit p x) levels = omega arith
+
+pub no_step : (nodes : List Node) (limit before after : ℕ) (e : Resolved) (levels : Levels) → after ≡ before →
+    after ≡ limit → Evaluated nodes limit before after (Err Limit) (evaluation (term_of e) levels)
+no_step nodes limit b z e levels same last = let s = takes_step e levels in (last, omega (arith, same, last, s))
 
 module _ (nodes : List Node) (limit : ℕ) where
   -- the first operand has no value, so the whole has none

@@ -5,3 +5,4 @@ pub mod Elements
 pub mod Evaluations
 pub mod Arms
 pub mod Comparisons
+pub mod TruthLaws

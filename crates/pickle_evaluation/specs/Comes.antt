@@ -10,8 +10,10 @@ use Rattle.pickle_evaluation.specs.declared.content.Content.{Content}
 use Rattle.pickle_evaluation.specs.Contents.{IsHeld}
 use Rattle.pickle_meaning.specs.declared.faults.MapFaultKind.{MapFaultKind}
 use Rattle.pickle_meaning.specs.Evaluation.{Operand, operand_label, Evaluation, evaluation, and_operand, unless_settled, settled, truth_of, between, literal_length, chosen, gives, as_common, element, leads_to}
+use Rattle.pickle_tree.specs.declared.tree.Prefix.{Prefix}
+use Rattle.pickle_tree.specs.declared.tree.Prefix.TheVariants.{Not}
 use Rattle.pickle_tree.specs.declared.tree.Infix.{Infix}
-use Rattle.pickle_tree.specs.declared.tree.Infix.TheVariants.{Equal, NotEqual, Less, LessEqual, Greater, GreaterEqual}
+use Rattle.pickle_tree.specs.declared.tree.Infix.TheVariants.{LogicalOr, LogicalAnd, Equal, NotEqual, Less, LessEqual, Greater, GreaterEqual}
 use Rattle.pickle_types.specs.declared.integer.IntegerType.{IntegerType}
 use Rattle.pickle_types.specs.Types.{Term, Before, Select, AttributeOf, ToInteger, ToOffset, InUnit}
 use Rattle.pickle_meaning.specs.Values.{Label, Levels}
@@ -53,6 +55,25 @@ Seen limit before after (Ok content) a =
     (x : Operand) × (a.outcome ≡ Ok x) × IsHeld content (operand_label x) × (after ≡ before + a.steps)
 Seen limit before after (Err (Fault kind)) a = (a.outcome ≡ Err kind) × (after ≡ before + a.steps)
 Seen limit before after (Err Limit) a = (after ≡ limit) × (limit < before + a.steps)
+
+-- the truth of an evaluation's value, once it has ended
+abbrev pub TruthSeen :
+    (limit before after : ℕ) → Result (Result Bool MapFaultKind) Unvalued → Evaluation → Type 0
+TruthSeen limit before after (Ok holds) a =
+    (x : Operand) × (a.outcome ≡ Ok x) × (truth_of (operand_label x) ≡ holds) × (after ≡ before + a.steps)
+TruthSeen limit before after (Err (Fault kind)) a = (a.outcome ≡ Err kind) × (after ≡ before + a.steps)
+TruthSeen limit before after (Err Limit) a = (after ≡ limit) × (limit < before + a.steps)
+
+-- the operators that join two truths
+abbrev pub is_logical : Infix → Bool
+is_logical LogicalOr = true
+is_logical LogicalAnd = true
+is_logical op = false
+
+-- the prefix that inverts a truth
+abbrev pub is_not : Prefix → Bool
+is_not Not = true
+is_not op = false
 
 -- the operators that compare
 abbrev pub is_comparison : Infix → Bool

@@ -13,7 +13,7 @@ use Rattle.pickle_evaluation.specs.declared.comparison.Typed.{Typed}
 use Rattle.pickle_evaluation.specs.declared.content.Content.{Content}
 use Rattle.pickle_evaluation.specs.declared.operand.Operand.{Operand as Computing}
 use Rattle.pickle_evaluation.specs.declared.operand.Unvalued.{Unvalued}
-use Rattle.pickle_evaluation.specs.Comes.{Comes, ComesTo, Seen, computed_operand}
+use Rattle.pickle_evaluation.specs.Comes.{Comes, ComesTo, Seen, TruthSeen, computed_operand}
 use Rattle.pickle_evaluation.specs.Contents.{IsHeld}
 use Rattle.pickle_evaluation.specs.Operands.{Evaluated, found_value, operand_of}
 use Rattle.value_store.specs.declared.scalar.Scalar.{Scalar}
@@ -40,6 +40,12 @@ EvaluatesOn meter meter' store result of =
 abbrev pub Looks : (meter meter' : Meter) → Held → Result Content Unvalued → (Levels → Evaluation) → Type 0
 Looks meter meter' store result of =
     (nodes : List Node) → Seen meter.limit meter.steps meter'.steps result (of (levels nodes store))
+
+-- the truth of the evaluation's value was computed
+abbrev pub EvaluatesTruth :
+    (meter meter' : Meter) → Held → Result (Result Bool MapFaultKind) Unvalued → (Levels → Evaluation) → Type 0
+EvaluatesTruth meter meter' store result of =
+    (nodes : List Node) → TruthSeen meter.limit meter.steps meter'.steps result (of (levels nodes store))
 
 -- an evaluated side becomes the result, converted to a type
 abbrev pub Chooses : Option IntegerType → (side result : Result Computing Unvalued) → Type 0

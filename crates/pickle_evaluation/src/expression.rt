@@ -264,7 +264,7 @@ fn between(
 }
 
 /// Takes `count` steps. Where fewer are left it takes those, and fails.
-fn take_steps(count: u64, meter: &mut Meter) -> Result<(), LimitPassed>
+pub fn take_steps(count: u64, meter: &mut Meter) -> Result<(), LimitPassed>
     ensures limit { meter.new.limit ≡ meter.old.limit }
     ensures made { meter.new.made ≡ meter.old.made }
     ensures steps { meter.old.steps ≤ meter.new.steps }
@@ -278,7 +278,7 @@ fn take_steps(count: u64, meter: &mut Meter) -> Result<(), LimitPassed>
 }
 
 /// The truth of `&&` or `||` where the left side settles it; None otherwise.
-fn settled(op: Infix, left: Result<bool, MapFaultKind>) -> Option<bool>
+pub fn settled(op: Infix, left: Result<bool, MapFaultKind>) -> Option<bool>
     ensures { result ≡ settled op left }
 {
     match (op, left) {
@@ -289,7 +289,7 @@ fn settled(op: Infix, left: Result<bool, MapFaultKind>) -> Option<bool>
 }
 
 /// The number of bytes of a text literal; 0 for other expressions.
-fn literal_length(e: &Resolved) -> u64
+pub fn literal_length(e: &Resolved) -> u64
     ensures is { result ≡ literal_length (term_of e.now) }
     ensures few { result < 2 ^ 63 }
 {

@@ -9,3 +9,4 @@ pub mod known;
 pub mod offsets;
 pub mod operand;
 pub mod paths;
+pub mod truths;

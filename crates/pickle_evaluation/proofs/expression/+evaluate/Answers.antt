@@ -1,47 +1,24 @@
-use Rattle.std.proofs.Common.{rules, ◌≡◌, ℕ, ◌+◌, ◌≤◌, Ok, Err, List, refl, sym, ap, ◌∙◌, subst, arith}
+use Rattle.std.proofs.Common.{rules, ◌≡◌, ℕ, ◌+◌, Ok, Err, refl, sym, ap, ◌∙◌, subst, arith}
 use Rattle.std.proofs.lemmas.Result.{err_from_is_err_and}
 use Rattle.std.proofs.lemmas.Int.{to_z-of_z}
 use mir.Syntax.{w128}
 use mir.Val.{SFits}
 use Rattle.pickle_types.specs.Table.{term_of}
-use Rattle.pickle_types.specs.declared.node.Node.{Node}
-use Rattle.pickle_types.specs.declared.node.Resolved.{Resolved}
-use Rattle.pickle_types.specs.declared.node.Resolved.TheVariants as resolved
 use Rattle.pickle_evaluation.specs.declared.operand.Operand.TheVariants as computing
-use Rattle.pickle_evaluation.specs.declared.operand.Unvalued.TheVariants.{Fault, Limit}
+use Rattle.pickle_evaluation.specs.declared.operand.Unvalued.TheVariants.{Fault}
 use Rattle.pickle_meaning.specs.declared.faults.MapFaultKind.TheVariants as fault
 use Rattle.pickle_meaning.specs.Arithmetic.{prefixed, to_integer, to_offset, in_unit}
-use Rattle.pickle_meaning.specs.Values.{Levels, value_at}
+use Rattle.pickle_meaning.specs.Values.{value_at}
 use Rattle.pickle_evaluation.specs.Operands.{operand_of, Evaluated}
 use Rattle.pickle_meaning.specs.Evaluation.{evaluation, operand_label, truth_of, leads_to, present, selected, settled, unless_settled, attribute_of, as_common, literal_length, between, element, and_operand, gives, chosen}
 use Rattle.pickle_evaluation.specs.Comes.{computed_operand, infix_part, choice_part, index_part}
 use Rattle.pickle_evaluation.proofs.Signed.{small_fits}
-use Rattle.pickle_evaluation.proofs.Evaluations.{first_stops, goes_on}
+use Rattle.pickle_evaluation.proofs.Evaluations.{first_stops, goes_on, no_step}
 use Rattle.pickle_evaluation.proofs.Arms.{computed_seen, stops_seen, seen_stops, seen_goes_on, seen_at, stepped_seen, seen_arm_stops, seen_arm_computes, seen_arm_faults, at_limit, is_led, is_not_led, leads, leads_not, arm_stops, arm_computes, arm_faults, arm_leads, arm_leads_not, arm_is, settles, settles_not, not_chosen, left_chosen, right_chosen}
 use Rattle.pickle_evaluation.specs.Evaluating.{truth_label}
 use Rattle.value_store.specs.Scalars.{scalar_label}
 use Rattle.value_store.specs.Slots.{levels}
 use Rattle.pickle_evaluation.proofs.expression.+evaluate.Goals as goal
-
-takes_step : (e : Resolved) (levels : Levels) → 1 ≤ (evaluation (term_of e) levels).steps
-unfolding evaluation
-takes_step (resolved.Number type value) levels = omega arith
-takes_step (resolved.Text t) levels = omega arith
-takes_step (resolved.Name level place) levels = omega arith
-takes_step (resolved.Bracket' p x) levels = omega arith
-takes_step (resolved.Prefix' op p x) levels = omega arith
-takes_step (resolved.Infix' op p x q y) levels = omega arith
-takes_step (resolved.Choice' common p x q y r w) levels = omega arith
-takes_step (resolved.Index' p x q y) levels = omega arith
-takes_step (resolved.Select' p x place) levels = omega arith
-takes_step (resolved.Attribute' attribute p x) levels = omega arith
-takes_step (resolved.ToInteger' type p x) levels = omega arith
-takes_step (resolved.ToOffset' type unit p x) levels = omega arith
-takes_step (resolved.InUnit' unit p x) levels = omega arith
-
-no_step : (nodes : List Node) (limit before after : ℕ) (e : Resolved) (levels : Levels) → after ≡ before →
-    after ≡ limit → Evaluated nodes limit before after (Err Limit) (evaluation (term_of e) levels)
-no_step nodes limit b z e levels same last = let s = takes_step e levels in (last, omega (arith, same, last, s))
 
 pub evaluate-returns-in_err-tick-clause-is : goal.evaluate-returns-in_err-tick-clause-is
 evaluate-returns-in_err-tick-clause-is t c nodes =
