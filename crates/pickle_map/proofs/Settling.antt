@@ -6,7 +6,7 @@ use Rattle.pickle_evaluation.specs.declared.content.Content.{Content}
 use Rattle.pickle_meaning.specs.declared.faults.MapFaultKind.{MapFaultKind}
 use Rattle.pickle_meaning.specs.declared.faults.MapFaultKind.TheVariants as fault
 use Rattle.pickle_meaning.specs.Arithmetic.{signed_type}
-use Rattle.pickle_evaluation.specs.Comes.{ComesTo}
+use Rattle.pickle_evaluation.specs.Comes.{ComesTo, TruthSeen}
 use Rattle.pickle_meaning.specs.Values.{Label, IntegerLabel}
 use Rattle.pickle_meaning.specs.Clauses.{FaultAt, told_at, kind_at, satisfied, not_negative}
 use Rattle.pickle_evaluation.specs.Contents.{IsHeld}
@@ -81,6 +81,11 @@ module _ (limit before after place : ℕ) where
       Settles {A = Bool} limit before after (Err stop.Limit)
       (told_at place (λ x. kind_at place (truth_of x)) a.outcome) a.steps
   known_stops l n a h e lt = rw h.3 (e, lt)
+
+  -- the truth of a value, or why there is none
+  pub seen_truth : (t : Result Bool MapFaultKind) (a : Evaluation) → TruthSeen limit before after (Ok t) a →
+      (told_at place (λ x. kind_at place (truth_of x)) a.outcome ≡ kind_at place t) × (after ≡ before + a.steps)
+  seen_truth t a h = rw h.1 (ap (kind_at place) h.2, h.3)
 
 module _ {A : Type 0} (limit before after place : ℕ) where
   pub seen_stops : (s : Stop) (a : Evaluation) (f : Label → Result A FaultAt) →

@@ -5,8 +5,7 @@ ghost use Rattle.pickle_types.specs.declared.node.Node.{Node as TableNode};
 ghost use Rattle.pickle_types.specs.Table.{term_of, optional_term, bound_of};
 ghost use Rattle.pickle_types.specs.Sound.{IsSoundTerm, IsSoundClause, IsSoundBound};
 ghost use Rattle.pickle_meaning.specs.Values.{Label};
-ghost use Rattle.pickle_meaning.specs.Evaluation.{truth_of};
-ghost use Rattle.pickle_meaning.specs.Clauses.{satisfied, kind_at, behind_start, count_of, size_of};
+ghost use Rattle.pickle_meaning.specs.Clauses.{satisfied, behind_start, count_of, size_of};
 ghost use Rattle.pickle_evaluation.specs.Contents.{IsHeld, IsSoundContent};
 ghost use Rattle.pickle_map.specs.Settles.{Ends, natural};
 ghost use Rattle.pickle_map.specs.Settled.{Checks, FindsExtent, FindsStart, ShowsValue, TellsOf, TellsThere, TellsTruth};
@@ -14,10 +13,11 @@ ghost use Rattle.pickle_map.specs.Settled.{Checks, FindsExtent, FindsStart, Show
 use crate::mapper::stop::Stop;
 use bit_space::Meter;
 use pickle_evaluation::comparison::comparison;
-use pickle_evaluation::content::{Content, truth_of};
+use pickle_evaluation::content::Content;
 use pickle_evaluation::expression::look;
 use pickle_evaluation::offsets::bits_in;
 use pickle_evaluation::operand::Unvalued;
+use pickle_evaluation::truths::evaluate_truth;
 use pickle_meaning::extent::Extent;
 use pickle_meaning::faults::MapFaultKind;
 use pickle_types::view::{Extent as Bound, Resolved};
@@ -199,20 +199,29 @@ fn find_truth(e: &Resolved, store: &Store, place: u128, meter: &mut Meter) -> Re
             meter.tick()?;
             Ok(holds)
         }
-        None => evaluate_truth(e, store, place, meter),
+        None => expression_truth(e, store, place, meter),
     }
 }
 
 /// The truth of an expression's value. Its fault is at `place`.
 #[inline(never)]
-fn evaluate_truth(e: &Resolved, store: &Store, place: u128, meter: &mut Meter) -> Result<bool, Stop>
+fn expression_truth(
+    e: &Resolved,
+    store: &Store,
+    place: u128,
+    meter: &mut Meter,
+) -> Result<bool, Stop>
     requires { IsSoundTerm (term_of e.now) }
     ensures limit { meter.new.limit ≡ meter.old.limit }
     ensures made { meter.new.made ≡ meter.old.made }
     ensures steps { meter.old.steps ≤ meter.new.steps }
     ensures is { (nodes : List TableNode) → TellsTruth nodes meter.old meter.new store.now e.now place result }
 {
-    truth_at(evaluate(e, store, place, meter)?, place)
+    match evaluate_truth(e, store, meter) {
+        Ok(Ok(holds)) => Ok(holds),
+        Ok(Err(kind)) | Err(Unvalued::Fault(kind)) => Err(Stop::Fault(kind, place)),
+        Err(Unvalued::Limit) => Err(Stop::Limit),
+    }
 }
 
 /// Fails with a Constraint fault unless the constraint holds.
@@ -223,16 +232,6 @@ fn fail_unless(holds: bool, place: u128) -> Result<(), Stop>
         Ok(())
     } else {
         Err(Stop::Fault(MapFaultKind::Constraint, place))
-    }
-}
-
-/// The truth of a value: any integer but 0 is true.
-fn truth_at(x: Content<'_>, place: u128) -> Result<bool, Stop>
-    ensures { (y : Label) → IsHeld x.entry y → Ends result (kind_at place (truth_of y)) }
-{
-    match truth_of(x) {
-        Ok(holds) => Ok(holds),
-        Err(kind) => Err(Stop::Fault(kind, place)),
     }
 }
 
