@@ -102,6 +102,31 @@ type T = struct { byte a : (-1 & 0xffUB) == 255U; };
 type T = struct { byte a : (2 && 4) == 1 && (0 || 2) == 1; };
   T 0 big 00 | 16 2 | T {a=0UB}
 
+type T = struct { byte a : !(a == 1) && ((a < 9) || a > 20); };
+  T 0 big 01 | 9 1 | fault Constraint at 0#b
+  T 0 big 05 | 15 2 | T {a=5UB}
+  T 0 big 0c | 18 1 | fault Constraint at 0#b
+  T 0 big 1e | 18 2 | T {a=30UB}
+
+type T = struct { byte a : a && !(a * 2 == 6); };
+  T 0 big 00 | 5 1 | fault Constraint at 0#b
+  T 0 big 03 | 12 1 | fault Constraint at 0#b
+  T 0 big 04 | 12 2 | T {a=4UB}
+
+type T = struct { byte a : (7 % a == 1) || a == 0; };
+  T 0 big 00 | 9 1 | fault Zero at 0#b
+  T 0 big 02 | 10 2 | T {a=2UB}
+  T 0 big 05 | 13 1 | fault Constraint at 0#b
+
+type T = struct { byte f; byte x if f == 1; byte y : !(f == 9) && x == y; };
+  T 0 big 0005 | 17 2 | fault Absent at 8#b
+  T 0 big 010505 | 19 4 | T {f=1UB,x=5UB,y=5UB}
+
+type T = struct { byte f; byte x if !f || (f > 3 && f < 5); byte y; };
+  T 0 big 000506 | 10 4 | T {f=0UB,x=5UB,y=6UB}
+  T 0 big 0205 | 14 3 | T {f=2UB,y=5UB}
+  T 0 big 040506 | 18 4 | T {f=4UB,x=5UB,y=6UB}
+
 type T = struct { byte a : (a ? -1 : 1U) == 4294967295U; };
   T 0 big 01 | 10 2 | T {a=1UB}
   T 0 big 00 | 9 1 | fault Constraint at 0#b
