@@ -5,7 +5,7 @@ use Rattle.pickle_types.specs.Sound.{IsSmall}
 use Rattle.pickle_meaning.specs.declared.faults.MapFaultKind.{MapFaultKind}
 use Rattle.value_store.specs.declared.scalar.Scalar.{Scalar}
 use Rattle.value_store.specs.declared.scalar.Scalar.TheVariants as scalar
-use Rattle.pickle_meaning.specs.Values.{Label, IntegerLabel, OffsetLabel, TextLabel, ArrayLabel, StructLabel, UnionLabel}
+use Rattle.pickle_meaning.specs.Values.{Value, label_of, Label, IntegerLabel, OffsetLabel, TextLabel, ArrayLabel, StructLabel, UnionLabel}
 use Rattle.pickle_meaning.specs.Arithmetic.{Computed}
 
 abbrev pub scalar_label : Scalar → Label
@@ -34,3 +34,8 @@ scalar_in (TextLabel bytes) = None
 scalar_in ArrayLabel = None
 scalar_in (StructLabel name fields) = None
 scalar_in (UnionLabel name index alternative) = None
+
+-- the same of a value that may be absent
+abbrev pub scalar_if : Option Value → Option Label
+scalar_if None = None
+scalar_if (Some value) = scalar_in (label_of value)

@@ -361,6 +361,7 @@ impl<'a> StoredValue<'a> {
 
     /// The part at a place, as [`StoredValue::child`] returns it. The caller has found the links and packed numbers
     /// already.
+    #[inline(always)]
     pub(crate) fn linked(&self, links: &[Link], packed: usize, i: usize) -> Option<StoredValue<'a>>
         requires links { links.now ≡ place_links self.now.store.now.slots self.now.place }
         requires packed { packed ≡ place_packed self.now.store.now.slots self.now.place }

@@ -105,6 +105,7 @@ impl<'a> ValueRef<'a> {
     }
 
     /// The members, to walk over them: [`Members::get`] returns what [`ValueRef::child`] does.
+    #[inline(always)]
     pub fn members(&self) -> Members<'a>
         ensures { owner_of result ≡ self.now }
     {

@@ -14,9 +14,44 @@ use crate::store::row::bytes_for;
 use crate::store::slots::Shape;
 use pickle_types::integer::IntegerType;
 
-// The number that bytes are, the lowest byte first.
-#[inline(never)]
+// The number that bytes are, the lowest byte first. There is no loop at run time over 1, 2, 4 or 8 bytes.
+#[inline(always)]
 pub(super) fn bytes_number(bytes: &[u8]) -> u64
+    requires { length bytes.now ≤ 8 }
+    ensures { result ≡ bytes_number bytes.now }
+{
+    match bytes.len() {
+        1 => chunk_number::<1>(bytes),
+        2 => chunk_number::<2>(bytes),
+        4 => chunk_number::<4>(bytes),
+        8 => chunk_number::<8>(bytes),
+        _ => other_number(bytes),
+    }
+}
+
+// The number that N bytes are. The loop over them is unrolled.
+#[inline(always)]
+fn chunk_number<const N: usize>(bytes: &[u8]) -> u64
+    requires count { length bytes.now ≡ N }
+    requires most { N ≤ 8 }
+    ensures { result ≡ bytes_number bytes.now }
+{
+    match bytes.first_chunk::<N>() {
+        Some(chunk) => join_bytes(chunk),
+        None => unreachable!(),
+    }
+}
+
+#[inline(never)]
+fn other_number(bytes: &[u8]) -> u64
+    requires { length bytes.now ≤ 8 }
+    ensures { result ≡ bytes_number bytes.now }
+{
+    join_bytes(bytes)
+}
+
+#[inline(always)]
+fn join_bytes(bytes: &[u8]) -> u64
     requires { length bytes.now ≤ 8 }
     ensures { result ≡ bytes_number bytes.now }
 {

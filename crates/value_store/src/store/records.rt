@@ -44,7 +44,7 @@ impl Store {
     }
 
     /// The number of a part of a packed struct, or its magnitude where it is an offset; 0 for other parts.
-    #[inline(never)]
+    #[inline(always)]
     pub(crate) fn part_number(&self, array: usize, index: usize, node: usize) -> i128
         requires { IsPlace self.now.slots (Part array index node) }
         ensures is { (names : Names) →

@@ -1,6 +1,6 @@
 use Rattle.std.proofs.Common.{arith}
 use Rattle.value_store.proofs.Lent.{last_bytes-below}
-use Rattle.value_store.proofs.store.element.bytes_number.Goals as goal
+use Rattle.value_store.proofs.store.element.join_bytes.Goals as goal
 
 pub overflow_mul-number : goal.overflow_mul-number
 overflow_mul-number c = omega (
