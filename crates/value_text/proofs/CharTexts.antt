@@ -8,6 +8,7 @@ use Rattle.pickle_types.specs.declared.integer.IntegerType.{IntegerType}
 use Rattle.pickle_types.specs.declared.node.Node.{Node}
 use Rattle.pickle_meaning.specs.Values.{Label, IntegerLabel, OffsetLabel, TextLabel, ArrayLabel, StructLabel, UnionLabel, Value, Mapped, Members, NoMembers, MemberThen, AbsentThen, label_of, start_of, end_of, members_of, member_at, member_count}
 use Rattle.value_store.specs.Integers.{IsIntegerOf, AreIntegersOf, AreBytesOf, byte_members}
+use Rattle.value_store.specs.Scalars.{scalar_in, scalar_if}
 use Rattle.pickle_meaning.specs.Arithmetic.{with_sign}
 use Rattle.value_text.specs.PartTypes.{part_node}
 use Rattle.value_text.specs.CharTexts.{is_node, has_chars, char_if, chars_in, kept_before, trimmed, with_texts, parts_with_texts}
@@ -42,6 +43,12 @@ module _ (nodes : List Node) (chars : Option ℕ) where
       → with_texts nodes chars of value ≡ Mapped (label_of value) (start_of value) (end_of value)
       (parts_with_texts nodes chars of (label_of value) 0 (members_of value))
   seen_other of (Mapped label start end all) h = rw h refl
+
+  -- an array is no number, and neither is a text
+  pub seen_scalar : (of : Option ℕ) (part : Option Value) →
+      scalar_if (option_map (with_texts nodes chars of) part) ≡ scalar_if part
+  seen_scalar of None = refl
+  seen_scalar of (Some value) = seen_label scalar_in (λ bytes. refl) of value
 
   pub seen_start : (of : Option ℕ) (value : Value) → start_of (with_texts nodes chars of value) ≡ start_of value
   seen_start of value = elim (cases_Bool (has_chars chars (part_node nodes of (label_of value) 0) (label_of value))) [

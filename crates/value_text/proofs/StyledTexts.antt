@@ -4,6 +4,9 @@ use Rattle.std.proofs.lemmas.List.{append_assoc}
 use Rattle.text_output.specs.declared.style.Style.{Style}
 use Rattle.value_store.specs.declared.value.Kind.TheVariants as kind
 use Rattle.pickle_meaning.specs.Values.{Value, Mapped, Label, IntegerLabel, OffsetLabel, TextLabel, ArrayLabel, StructLabel, UnionLabel, Members, label_of, member_count, member_at}
+use Rattle.value_store.specs.declared.scalar.Scalar.{Scalar}
+use Rattle.value_store.specs.declared.scalar.Scalar.TheVariants as scalar
+use Rattle.value_store.specs.Scalars.{scalar_label, scalar_if}
 use Rattle.value_store.specs.Labels.{kind_of, number_of, unit_of, bytes_of, member_name}
 use Rattle.value_text.specs.declared.print.escape.Escapes.TheVariants.{Poke}
 use Rattle.value_text.specs.ValueText.{name_text, comma}
@@ -11,7 +14,7 @@ use Rattle.value_text.specs.Escaped.{quoted_by}
 use Rattle.value_text.specs.StyledNumbers.{integer_in, offset_in}
 use Rattle.value_text.specs.StyledValue.{styled_value, styled_members}
 use Rattle.value_text.specs.CutArrays.{is_past, kept_count, left_text, more_member}
-use Rattle.value_text.specs.PartText.{type_of, array_text, titled_text, member_text}
+use Rattle.value_text.specs.PartText.{type_of, scalar_text, numbered_text, array_text, titled_text, member_text}
 use Rattle.value_text.proofs.MemberTexts.{members_from, with_member, from_at, from_end}
 use Rattle.value_text.proofs.Cuts.{left_is}
 
@@ -59,6 +62,40 @@ text_absent style limit label all i first lt before is =
     (from_at all i lt ∙ ap (λ o. with_member o (members_from (i + 1) all)) (sym is))
     ∙ absent_before style limit label i first (members_from (i + 1) all) before
     ∙ ap (λ n. styled_members style limit label n first (members_from (i + 1) all)) (sym (add-one i))
+
+-- a member that is an integer or an offset
+record IsScalarOf (style : Style) (member : Option Value) (number : Scalar) : Type 0 where
+  value : Value
+  there : Some value ≡ member
+  text : styled_value style value ≡ scalar_text style.numbers number
+
+found_scalar : (style : Style) (member : Option Value) (number : Scalar) →
+    Some (scalar_label number) ≡ scalar_if member → IsScalarOf style member number
+found_scalar style None number e = cc
+found_scalar style (Some (Mapped (IntegerLabel n t) start end all)) (scalar.Integer number type) e =
+    let same : integer_in style.numbers t n ≡ integer_in style.numbers type number = cc in
+    record { value = Mapped (IntegerLabel n t) start end all; there = refl; text = same }
+found_scalar style (Some (Mapped (OffsetLabel m t u) start end all)) (scalar.Integer number type) e = cc
+found_scalar style (Some (Mapped (IntegerLabel n t) start end all)) (scalar.Offset magnitude type unit) e = cc
+found_scalar style (Some (Mapped (OffsetLabel m t u) start end all)) (scalar.Offset magnitude type unit) e =
+    let same : offset_in style.numbers t u m ≡ offset_in style.numbers type unit magnitude = cc in
+    record { value = Mapped (OffsetLabel m t u) start end all; there = refl; text = same }
+found_scalar style (Some (Mapped (TextLabel bytes) start end all)) number e = cc
+found_scalar style (Some (Mapped ArrayLabel start end all)) number e = cc
+found_scalar style (Some (Mapped (StructLabel name fields) start end all)) number e = cc
+found_scalar style (Some (Mapped (UnionLabel name index alternative) start end all)) number e = cc
+
+pub text_numbered : (style : Style) (limit : Option ℕ) (label : Label) (all : Members) (i : ℕ) (first : Bool)
+    (number : Scalar) → i < member_count all → is_past limit i ≡ false
+    → Some (scalar_label number) ≡ scalar_if (member_at all i)
+    → styled_members style limit label i first (members_from i all)
+    ≡ numbered_text style.numbers first (member_name label i) number
+    ++ styled_members style limit label (i + 1) false (members_from (i + 1) all)
+text_numbered style limit label all i first number lt before is =
+    let found = found_scalar style (member_at all i) number is in
+    text_present style limit label all i first found.value lt before found.there
+    ∙ ap (λ s. ((comma first ++ name_text (member_name label i)) ++ s)
+    ++ styled_members style limit label (i + 1) false (members_from (i + 1) all)) found.text
 
 -- the end of those that are printed
 pub text_left : (style : Style) (limit : Option ℕ) (label : Label) (all : Members) (i : ℕ) (first : Bool)

@@ -1,6 +1,6 @@
 -- The parts of a value beside its type.
 use denote.Bor.{Bor}
-use Rattle.std.proofs.Common.{◌≡◌, ℕ, ◌+◌, ◌<◌, List, Option, Some, None, false, inl, inr, ◌∙◌, ap, arith}
+use Rattle.std.proofs.Common.{◌≡◌, ℕ, ◌+◌, ◌<◌, List, Option, Some, None, false, inl, inr, sym, ◌∙◌, ap, arith}
 use Rattle.std.specs.Prelude.{IfSome}
 use Rattle.std.specs.Option.{option_map}
 use Rattle.std.proofs.lemmas.Bool.{cases_Bool}
@@ -9,10 +9,11 @@ use Rattle.pickle_meaning.specs.Values.{label_of, members_of, member_at, member_
 use Rattle.value_store.specs.declared.value.ValueRef.{ValueRef}
 use Rattle.value_store.specs.Integers.{AreIntegersOf, AreBytesOf}
 use Rattle.value_store.specs.Refs.{value_shown}
+use Rattle.value_store.specs.Scalars.{scalar_if}
 use Rattle.value_text.specs.declared.typed.Typed.{Typed}
 use Rattle.value_text.specs.CharTexts.{with_texts}
 use Rattle.value_text.specs.TypedValue.{nodes_in, char_node_in, value_in, types_in, node_in, mapped_in, part_node_in, is_of_chars, typed_shown}
-use Rattle.value_text.proofs.CharTexts.{seen_text, seen_other, parts_count, parts_at, bytes_seen, integers_seen}
+use Rattle.value_text.proofs.CharTexts.{seen_scalar, seen_text, seen_other, parts_count, parts_at, bytes_seen, integers_seen}
 
 -- a part is shown by its own type
 pub part_shown : (t b : Typed) (part : ValueRef) (place : ℕ) → value_in b ≡ part → types_in b ≡ types_in t
@@ -56,6 +57,13 @@ module _ (t : Typed) where
       (members_of (mapped_in t)) place
       ∙ ap (λ n. option_map (with_texts (nodes_in (types_in t)) (char_node_in (types_in t)) (part_node_in t n))
       (member_at (members_of (mapped_in t)) place)) here
+
+  pub whole_scalar : (place : ℕ) → place < member_count (members_of (typed_shown t)) →
+      scalar_if (member_at (members_of (mapped_in t)) place) ≡ scalar_if (member_at (members_of (typed_shown t)) place)
+  whole_scalar place lt =
+      sym (ap scalar_if (whole_at place lt)
+      ∙ seen_scalar (nodes_in (types_in t)) (char_node_in (types_in t)) (part_node_in t place)
+      (member_at (members_of (mapped_in t)) place))
 
   pub whole_bytes : (row : Option (IntegerType × Bor (List ℕ))) → is_of_chars t ≡ false
       → IfSome row (λ r. AreBytesOf r.0 r.1.now (mapped_in t))

@@ -7,7 +7,9 @@ use Rattle.pickle_meaning.specs.Values.{Naming, label_of}
 use Rattle.value_text.specs.declared.typed.Typed.{Typed}
 use Rattle.value_text.specs.TypedValue.{typed_shown}
 use Rattle.value_text.specs.LineText.{start_text, part_text}
-use Rattle.value_text.specs.PartText.{member_text}
+use Rattle.text_output.specs.declared.style.Numbers.{Numbers}
+use Rattle.value_store.specs.declared.scalar.Scalar.{Scalar}
+use Rattle.value_text.specs.PartText.{numbered_text, member_text}
 use Rattle.value_text.specs.TreeText.{prefix_text}
 
 abbrev pub lent_name : Option (Bor (List ℕ)) → Naming
@@ -16,6 +18,10 @@ lent_name name = option_map (λ letters. letters.now) name
 -- a member with what is before it
 abbrev pub lent_member : Style → (first : Bool) → Option (Bor (List ℕ)) → Typed → List ℕ
 lent_member style first name member = member_text style first (lent_name name) (typed_shown member)
+
+-- a member that is an integer or an offset
+abbrev pub numbered_member : Numbers → (first : Bool) → Option (Bor (List ℕ)) → Scalar → List ℕ
+numbered_member numbers first name number = numbered_text numbers first (lent_name name) number
 
 -- what is before the part at a place of a value
 abbrev pub lent_prefix : Typed → (place : ℕ) → List ℕ

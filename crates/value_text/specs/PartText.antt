@@ -7,12 +7,23 @@ use Rattle.pickle_meaning.specs.Arithmetic.{with_sign}
 use Rattle.pickle_meaning.specs.Values.{Naming, Label, ArrayLabel, Value, label_of, members_of}
 use Rattle.value_store.specs.Labels.{name_of, width_of, signed_of}
 use Rattle.value_text.specs.ValueText.{title_text, name_text, comma}
-use Rattle.value_text.specs.StyledNumbers.{integer_in}
+use Rattle.value_store.specs.declared.scalar.Scalar.{Scalar}
+use Rattle.value_store.specs.declared.scalar.Scalar.TheVariants as scalar
+use Rattle.value_text.specs.StyledNumbers.{integer_in, offset_in}
 use Rattle.value_text.specs.StyledValue.{styled_value, styled_members}
 
 -- the type of an integer, or of an offset's magnitude
 abbrev pub type_of : Label → IntegerType
 type_of label = record { width = width_of label; signed = signed_of label }
+
+-- an integer or an offset
+abbrev pub scalar_text : Numbers → Scalar → List ℕ
+scalar_text numbers (scalar.Integer number type) = integer_in numbers type number
+scalar_text numbers (scalar.Offset magnitude type unit) = offset_in numbers type unit magnitude
+
+-- a member that is one, with what is before it
+abbrev pub numbered_text : Numbers → (first : Bool) → Naming → Scalar → List ℕ
+numbered_text numbers first name number = (comma first ++ name_text name) ++ scalar_text numbers number
 
 -- integers of a type whose bits are these bytes
 abbrev pub byte_row_text : Numbers → IntegerType → (first : Bool) → List ℕ → List ℕ

@@ -9,8 +9,8 @@ ghost use Rattle.value_text.specs.ValueText.{comma};
 ghost use Rattle.value_text.specs.StyledNumbers.{integer_in};
 ghost use Rattle.value_text.specs.StyledValue.{styled_flat, styled_value};
 ghost use Rattle.value_text.specs.CutArrays.{is_cut, left_text, more_text, more_member};
-ghost use Rattle.value_text.specs.PartText.{array_text, elements_text, byte_row_text, titled_text, all_members_text};
-ghost use Rattle.value_text.specs.Lent.{lent_member};
+ghost use Rattle.value_text.specs.PartText.{scalar_text, array_text, elements_text, byte_row_text, titled_text, all_members_text};
+ghost use Rattle.value_text.specs.Lent.{lent_member, numbered_member};
 
 use super::cut::{is_cut, kept_count};
 use super::escape::Escapes;
@@ -22,6 +22,7 @@ use pickle_types::integer::IntegerType;
 use std::io::Write;
 use value_store::Kind;
 use value_store::ranges::with_sign;
+use value_store::scalar::Scalar;
 
 impl<W: Write> Printer<'_, W> {
     /// Writes a value and a line feed.
@@ -195,10 +196,33 @@ impl<W: Write> Printer<'_, W> {
             if self.failed {
                 return;
             }
-            if let Some(member) = members.get(place) {
+            if let Some(number) = members.scalar(place) {
+                self.put_numbered(style, first, names.get(place), number);
+                first = false;
+            } else if let Some(member) = members.get(place) {
                 self.put_member(style, first, names.get(place), &member);
                 first = false;
             }
+        }
+    }
+
+    // Writes a member that is an integer or an offset.
+    #[tactic(auto, using(crate::proofs::Puts::puts))]
+    #[inline(always)]
+    fn put_numbered(&mut self, style: &Style, first: bool, name: Option<&[u8]>, number: Scalar)
+        ensures { Puts W.contents self.old self.new (numbered_member style.now.numbers first name.entry number) }
+    {
+        self.put_start(first, name);
+        self.put_scalar(style.numbers, number);
+    }
+
+    #[inline(always)]
+    fn put_scalar(&mut self, numbers: Numbers, number: Scalar)
+        ensures { Puts W.contents self.old self.new (scalar_text numbers number) }
+    {
+        match number {
+            Scalar::Integer(number, ty) => self.put_integer(numbers, ty, number),
+            Scalar::Offset(magnitude, ty, unit) => self.put_offset(numbers, ty, unit, magnitude),
         }
     }
 

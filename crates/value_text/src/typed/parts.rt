@@ -5,10 +5,12 @@ ghost use Rattle.std.specs.Option.{option_map};
 ghost use Rattle.pickle_meaning.specs.Values.{members_of, member_count, member_at};
 ghost use Rattle.value_store.specs.Integers.{AreIntegersOf, AreBytesOf};
 ghost use Rattle.value_store.specs.Refs.{rank_of};
+ghost use Rattle.value_store.specs.Scalars.{scalar_label, scalar_if};
 ghost use Rattle.value_text.specs.TypedValue.{value_in, part_node_in, typed_shown};
 
 use super::{Typed, Types};
 use pickle_types::integer::IntegerType;
+use value_store::scalar::Scalar;
 use value_store::value::Members;
 
 /// The elements of an array, the declared fields of a struct, or the alternative of a union that matched. An array of
@@ -58,6 +60,17 @@ impl<'a> Parts<'a> {
         } else {
             self.members.len()
         }
+    }
+
+    /// The number of the part at a place, with its type; None for an absent field, and where the part is no integer and no
+    /// offset.
+    #[inline(always)]
+    pub fn scalar(&self, place: usize) -> Option<Scalar>
+        requires { place < member_count (members_of (typed_shown (whole_of self.now))) }
+        ensures { option_map scalar_label result
+            ≡ scalar_if (member_at (members_of (typed_shown (whole_of self.now))) place) }
+    {
+        self.members.scalar(place)
     }
 
     /// The part at a place; None for an absent field.

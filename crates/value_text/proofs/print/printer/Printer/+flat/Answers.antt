@@ -1,14 +1,15 @@
 use Rattle.std.proofs.Common.{◌≡◌, ◌∙◌, ◌<◌, ap, sym, arith, subst, Some, None, false, refl}
 use Rattle.pickle_meaning.specs.Values.{ArrayLabel, label_of, members_of, member_at, member_count}
 use Rattle.value_store.specs.Integers.{AreBytesOf}
+use Rattle.value_store.specs.Scalars.{scalar_label, scalar_if}
 use Rattle.value_text.specs.Puts.{Puts}
 use Rattle.value_text.specs.TypedValue.{typed_shown}
 use Rattle.value_text.specs.CutArrays.{is_past, is_cut, kept_count}
 use Rattle.value_text.proofs.Cuts.{kept_before, kept_within}
 use Rattle.value_text.proofs.Puts.{told_none, told_next, told_same, told_last, told_all, told_failed}
-use Rattle.value_text.proofs.StyledTexts.{text_present, text_absent, text_left, text_end}
+use Rattle.value_text.proofs.StyledTexts.{text_numbered, text_present, text_absent, text_left, text_end}
 use Rattle.value_text.proofs.RowTexts.{byte_row}
-use Rattle.value_text.proofs.print.printer.Printer.+flat.Goals.{put_members-in-Some, put_members-in_default, put_each-in-Some, put_each-in_default}
+use Rattle.value_text.proofs.print.printer.Printer.+flat.Goals.{put_members-in-Some, put_members-in_default+in-Some-get, put_members-in_default+in_default-get, put_each-in-Some, put_each-in_default}
 use Rattle.value_text.proofs.print.printer.Printer.+flat.Goals as goal
 
 pub put_each-loop-place-preserved : goal.put_each-loop-place-preserved
@@ -63,17 +64,23 @@ put_members-loop-place-preserved g t c =
     c.len-place-end.ensures ∙ ap (λ v. member_count (members_of (typed_shown v))) c.new-members.ensures in
     let i = c.loop-place.place in
     let lt : i < member_count all = omega (arith, len, c.loop-place-test.true) in
-    elim c.match-get.branch [
+    elim c.match-scalar.branch [
       | put_members-in-Some w ↦
-          (let is : Some (typed_shown w.in-Some.member) ≡ member_at all i =
-          w.in-Some.ensures.member ∙ ap (λ v. member_at (members_of (typed_shown v)) i) c.new-members.ensures in
+          (let is : Some (scalar_label w.in-Some.number) ≡ scalar_if (member_at all i) =
+          w.in-Some.ensures ∙ ap (λ v. scalar_if (member_at (members_of (typed_shown v)) i)) c.new-members.ensures in
+          rw (w.self-is, w.first-is) (told_next
+          (text_numbered c.args.style.now None label all i c.loop-place.first _ lt refl is) c.loop-place.invariant
+          (rw (w.get.ensures ∙ c.member_names-names.ensures i) at w.put_numbered.ensures)))
+      | put_members-in_default+in-Some-get w ↦
+          (let is : Some (typed_shown w.in-Some-get.member) ≡ member_at all i =
+          w.in-Some-get.ensures.member ∙ ap (λ v. member_at (members_of (typed_shown v)) i) c.new-members.ensures in
           rw (w.self-is, w.first-is) (told_next
           (text_present c.args.style.now None label all i c.loop-place.first _ lt refl is) c.loop-place.invariant
-          (rw (w.get-in-Some.ensures ∙ c.member_names-names.ensures i) at w.put_member.ensures)))
-      | put_members-in_default w ↦
+          (rw (w.get-in-Some-get.ensures ∙ c.member_names-names.ensures i) at w.put_member.ensures)))
+      | put_members-in_default+in_default-get w ↦
           rw (w.self-is, w.first-is)
           (told_same (text_absent c.args.style.now None label all i c.loop-place.first lt refl
-          (w.in_default.ensures.member ∙ ap (λ v. member_at (members_of (typed_shown v)) i) c.new-members.ensures))
+          (w.in_default-get.ensures.member ∙ ap (λ v. member_at (members_of (typed_shown v)) i) c.new-members.ensures))
           c.loop-place.invariant)
     ]
 
