@@ -9,7 +9,7 @@ ghost use Rattle.fault_location.specs.Sites.{FindsAlternative, LeavesLevels, May
 ghost use Rattle.fault_location.specs.Ways.{OnBits, EntersAlternative, GoesOn, GoesOnAs, IfFound, fault_of};
 
 use crate::checker::Checker;
-use crate::part::{Entered, UnionStart, alternative_part};
+use crate::part::{Entered, Target, UnionStart, alternative_part};
 use crate::site::{Attempt, Ended, Site, Tried, stop_of};
 use bit_space::Space;
 use pickle_meaning::faults::MapFault;
@@ -21,8 +21,7 @@ impl Checker<'_> {
         &mut self,
         whole: UnionStart,
         alternatives: &'f [Alternative],
-        place: usize,
-        fault: MapFault,
+        target: Target,
         space: &mut S,
     ) -> Entered<'f>
         requires alternatives { All (IsPartIn self.old) alternatives.now }
@@ -30,11 +29,11 @@ impl Checker<'_> {
         ensures frame { Frame (S.view space.old) (S.view space.new) self.old self.new }
         ensures goes_on { GoesOn self.old.nodes.now (level_count self.new.store.now) result }
         ensures is { OnBits (S.view space.old)
-            (EntersUnion self.old self.new whole alternatives.now place fault result) }
+            (EntersUnion self.old self.new whole alternatives.now target.place target.fault result) }
     {
         for (index, alternative) in alternatives.iter().enumerate() {
-            if index == place {
-                return enter_alternative(whole, alternative, fault);
+            if index == target.place {
+                return enter_alternative(whole, alternative, target.fault);
             }
             let Ok(Attempt::Misses) = self.try_alternative(whole, alternative, space) else {
                 return Entered::Nowhere;

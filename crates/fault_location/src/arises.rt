@@ -10,7 +10,7 @@ ghost use Rattle.fault_location.specs.Ways.{OnBits, Leaves, GoesOn, constraint_o
 
 use crate::checker::Checker;
 use crate::mapped::{check_part, is_fault};
-use crate::part::{Entered, Part, array_at, bare_part, struct_at, union_at};
+use crate::part::{Entered, Part, Target, array_at, bare_part, struct_at, union_at};
 use crate::site::{Inner, stop_of};
 use bit_space::{Meter, Order, Space};
 use pickle_map::mapper::watch::{Unwatched, Watch};
@@ -117,7 +117,11 @@ impl<'a> Checker<'a> {
                 return self.is_in_digits(part.inner, fault, &path[step..], space);
             }
             watch.open(part.inner.node);
-            match self.enter(part.inner, *place, fault, space, watch) {
+            let target = Target {
+                place: *place,
+                fault,
+            };
+            match self.enter(part.inner, target, space, watch) {
                 Entered::Part(next) => part = next,
                 Entered::There => return step + 1 == path.len(),
                 Entered::Nowhere => return false,
@@ -130,15 +134,14 @@ impl<'a> Checker<'a> {
     fn enter<S: Space, W: Watch>(
         &mut self,
         inner: Inner,
-        place: usize,
-        fault: MapFault,
+        target: Target,
         space: &mut S,
         watch: &mut W,
     ) -> Entered<'a>
         requires part { MayMap self.old inner.node }
         ensures frame { Frame (S.view space.old) (S.view space.new) self.old self.new }
         ensures goes_on { GoesOn self.old.nodes.now (level_count self.new.store.now) result }
-        ensures is { OnBits (S.view space.old) (EntersType self.old self.new inner place fault result) }
+        ensures is { OnBits (S.view space.old) (EntersType self.old self.new inner target.place target.fault result) }
     {
         if u128::from(8 * space.len()) < inner.start {
             return Entered::Nowhere;
@@ -148,14 +151,14 @@ impl<'a> Checker<'a> {
             Shape::Struct { pinned, fields, .. } => {
                 self.store.open_level();
                 let whole = struct_at(inner, *pinned);
-                self.enter_fields(whole, fields, place, fault, space, watch)
+                self.enter_fields(whole, fields, target, space, watch)
             }
             Shape::Union { alternatives, .. } => {
                 self.store.open_level();
-                self.enter_alternatives(union_at(inner), alternatives, place, fault, space)
+                self.enter_alternatives(union_at(inner), alternatives, target, space)
             }
             Shape::Array(element, bound) => {
-                self.enter_array(array_at(inner, *element, bound), place, fault, space, watch)
+                self.enter_array(array_at(inner, *element, bound), target, space, watch)
             }
             Shape::Integer(_) | Shape::Offset(..) | Shape::Integral { .. } | Shape::String => {
                 Entered::Nowhere

@@ -14,7 +14,7 @@ ghost use Rattle.fault_location.specs.Ways.{OnBits, GoesOn, IfFound};
 
 use crate::checker::Checker;
 use crate::mapped::is_fault;
-use crate::part::{Array, Elements, Entered, bare_part, element_at, elements_of};
+use crate::part::{Array, Elements, Entered, Target, bare_part, element_at, elements_of};
 use crate::site::{Ended, Inner, Site, fault_in, stop_of};
 use bit_space::Space;
 use pickle_map::mapper::clauses::find_extent;
@@ -29,43 +29,44 @@ impl Checker<'_> {
     pub fn enter_array<'f, S: Space, W: Watch>(
         &mut self,
         array: Array<'_>,
-        place: usize,
-        fault: MapFault,
+        target: Target,
         space: &mut S,
         watch: &mut W,
     ) -> Entered<'f>
         requires element { MayOpen self.old array.element }
         requires sound { IsSoundBound (bound_of array.bound.now) }
         ensures frame { Frame (S.view space.old) (S.view space.new) self.old self.new }
-        ensures is { OnBits (S.view space.old) (EntersArray self.old self.new array.entry place fault result) }
+        ensures is { OnBits (S.view space.old)
+            (EntersArray self.old self.new array.entry target.place target.fault result) }
         ensures goes_on { GoesOn self.old.nodes.now (level_count self.new.store.now) result }
     {
         if u128::from(8 * space.len()) < array.start {
             return Entered::Nowhere;
         }
-        let stop = Stop::Fault(fault.kind, array.start);
+        let stop = Stop::Fault(target.fault.kind, array.start);
         blame_bound(self.nodes, array.bound, self.store, stop, watch);
         let Ok(extent) = find_extent(array.bound, self.store, array.start, self.meter) else {
             return Entered::Nowhere;
         };
         self.store.open_level();
-        self.enter_elements(elements_of(array, extent), place, fault, space)
+        self.enter_elements(elements_of(array, extent), target, space)
     }
 
     /// Enters an element of an array whose frame is open, after those before it.
     fn enter_elements<'f, S: Space>(
         &mut self,
         elements: Elements,
-        place: usize,
-        fault: MapFault,
+        target: Target,
         space: &mut S,
     ) -> Entered<'f>
         requires element { MayMap self.old elements.element }
         requires inside { elements.start ≤ 8 * (S.view space.old).len }
         ensures frame { Frame (S.view space.old) (S.view space.new) self.old self.new }
-        ensures is { OnBits (S.view space.old) (EntersElements self.old self.new elements place fault result) }
+        ensures is { OnBits (S.view space.old)
+            (EntersElements self.old self.new elements target.place target.fault result) }
         ensures goes_on { GoesOn self.old.nodes.now (level_count self.new.store.now) result }
     {
+        let Target { place, fault } = target;
         let Some(behind) = self.store_elements(elements, place, space) else {
             return Entered::Nowhere;
         };

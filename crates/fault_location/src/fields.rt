@@ -12,7 +12,7 @@ ghost use Rattle.fault_location.specs.Ways.{OnBits, GoesOn, IfFound};
 
 use crate::checker::Checker;
 use crate::mapped::{find_start, is_there, there_if};
-use crate::part::{Entered, StructStart, field_part};
+use crate::part::{Entered, StructStart, Target, field_part};
 use crate::site::{Ended, Site, Tried, fault_in};
 use bit_space::Space;
 use pickle_map::mapper::stop::Stop;
@@ -27,20 +27,20 @@ impl Checker<'_> {
         &mut self,
         whole: StructStart,
         fields: &'f [Field],
-        place: usize,
-        fault: MapFault,
+        target: Target,
         space: &mut S,
         watch: &mut W,
     ) -> Entered<'f>
         requires fields { All (IsFieldIn self.old) fields.now }
         ensures frame { Frame (S.view space.old) (S.view space.new) self.old self.new }
         ensures goes_on { GoesOn self.old.nodes.now (level_count self.new.store.now) result }
-        ensures is { OnBits (S.view space.old) (EntersStruct self.old self.new whole fields.now place fault result) }
+        ensures is { OnBits (S.view space.old)
+            (EntersStruct self.old self.new whole fields.now target.place target.fault result) }
     {
         let mut behind = whole.start;
         for (index, field) in fields.iter().enumerate() {
-            if index == place {
-                return self.enter_field(whole, field, behind, fault, watch);
+            if index == target.place {
+                return self.enter_field(whole, field, behind, target.fault, watch);
             }
             match self.try_field(whole, field, behind, space) {
                 Ok(Tried::Passed(end)) => behind = end,

@@ -8,6 +8,7 @@ use crate::site::Inner;
 use bit_space::Order;
 use pickle_map::mapper::walk::ordered;
 use pickle_meaning::extent::Extent;
+use pickle_meaning::faults::MapFault;
 use pickle_types::view::{Extent as Bound, Field, Part as Alternative, Resolved};
 
 /// A type, and its constraint, if any.
@@ -48,6 +49,13 @@ pub struct Elements {
     pub extent: Extent,
     pub order: Order,
     pub start: u64,
+}
+
+/// The next part of a path: its place among the parts of a type, and the fault that is to arise in it.
+#[derive(Clone, Copy)]
+pub struct Target {
+    pub place: usize,
+    pub fault: MapFault,
 }
 
 /// The result of one step of a path.

@@ -60,11 +60,12 @@ returns-in-Struct-clause-is g c =
     let opens = c.open_level.ensures.levels c.args.self.now.nodes.now in
     let entered = rw (c.struct_at-whole.ensures, opens, c.deref.ensures.value) at (c.enter_fields.ensures.is bytes e) in
     enters_as (bits_of bytes) c.args.self.now.nodes.now c.args.inner.order c.args.inner.start
-    (frames_of c.args.self.now) (frames_after c.args.self.now c.enter_fields.new.self) c.args.place
-    (fault_of c.args.fault) (type_of c.args.self.now.nodes.now c.args.inner.node) _ n.type_is c.enter_fields.result
+    (frames_of c.args.self.now) (frames_after c.args.self.now c.enter_fields.new.self) c.args.target.place
+    (fault_of c.args.target.fault) (type_of c.args.self.now.nodes.now c.args.inner.node) _ n.type_is
+    c.enter_fields.result
     (enters_struct (bits_of bytes) c.args.self.now.nodes.now c.args.inner.order c.args.inner.start
-    (frames_of c.args.self.now) (frames_after c.args.self.now c.enter_fields.new.self) c.args.place
-    (fault_of c.args.fault) here
+    (frames_of c.args.self.now) (frames_after c.args.self.now c.enter_fields.new.self) c.args.target.place
+    (fault_of c.args.target.fault) here
     (title_at c.args.self.now.nodes.now c.args.inner.node) c.in-Struct.pinned
     (open_fields (type_of c.args.self.now.nodes.now) c.in-Struct.fields.items) c.enter_fields.result entered)
 
@@ -80,12 +81,12 @@ returns-in-Union-clause-is g c =
     let entered =
     rw (c.union_at.ensures, opens, c.deref-in-Union.ensures.value) at (c.enter_alternatives.ensures.is bytes e) in
     enters_as (bits_of bytes) c.args.self.now.nodes.now c.args.inner.order c.args.inner.start
-    (frames_of c.args.self.now) (frames_after c.args.self.now c.enter_alternatives.new.self) c.args.place
-    (fault_of c.args.fault) (type_of c.args.self.now.nodes.now c.args.inner.node) _ n.type_is
+    (frames_of c.args.self.now) (frames_after c.args.self.now c.enter_alternatives.new.self) c.args.target.place
+    (fault_of c.args.target.fault) (type_of c.args.self.now.nodes.now c.args.inner.node) _ n.type_is
     c.enter_alternatives.result
     (enters_union (bits_of bytes) c.args.self.now.nodes.now c.args.inner.order c.args.inner.start
-    (frames_of c.args.self.now) (frames_after c.args.self.now c.enter_alternatives.new.self) c.args.place
-    (fault_of c.args.fault) here
+    (frames_of c.args.self.now) (frames_after c.args.self.now c.enter_alternatives.new.self) c.args.target.place
+    (fault_of c.args.target.fault) here
     (title_at c.args.self.now.nodes.now c.args.inner.node)
     (open_parts (type_of c.args.self.now.nodes.now) c.in-Union.alternatives.items) c.enter_alternatives.result entered)
 
@@ -95,8 +96,9 @@ returns-in-Array-clause-is g c =
     let n = array_node c.args.self.now.nodes.now c.args.self.now.table c.args.inner.node c.requires.part.inside
     (level_count c.args.self.now.store.now) c.requires.part.deep c.index-nodes-inner.result _ _ c.in-Array.is in
     enters_as (bits_of bytes) c.args.self.now.nodes.now c.args.inner.order c.args.inner.start
-    (frames_of c.args.self.now) (frames_after c.args.self.now c.enter_array.new.self) c.args.place
-    (fault_of c.args.fault) (type_of c.args.self.now.nodes.now c.args.inner.node) _ n.type_is c.enter_array.result
+    (frames_of c.args.self.now) (frames_after c.args.self.now c.enter_array.new.self) c.args.target.place
+    (fault_of c.args.target.fault) (type_of c.args.self.now.nodes.now c.args.inner.node) _ n.type_is
+    c.enter_array.result
     (rw (
       c.array_at.ensures.element_is,
       c.array_at.ensures.bound_is,

@@ -13,8 +13,8 @@ loop-index-init g c = record {
   so_far = λ bytes known. no_miss_before;
 }
 
-pub returns-then-index-place-clause-goes_on : goal.returns-then-index-place-clause-goes_on
-returns-then-index-place-clause-goes_on g c =
+pub returns-then-index-target-clause-goes_on : goal.returns-then-index-target-clause-goes_on
+returns-then-index-target-clause-goes_on g c =
     let part = of_one (IsPartOf c.args.self.now.nodes.now (level_count c.args.self.now.store.now))
     c.args.alternatives.now c.loop-index.index c.index-alternatives-index.result c.requires.alternatives (omega arith)
     c.index-alternatives-index.is in

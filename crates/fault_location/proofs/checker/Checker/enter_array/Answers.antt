@@ -18,5 +18,5 @@ returns-clause-is g c =
     enters_array (bits_of bytes) c.args.self.now.nodes.now (type_of c.args.self.now.nodes.now c.args.array.element)
     (bound_of c.args.array.bound.now) c.args.array.order c.args.array.start c.in-Ok.extent (frames_of c.args.self.now)
     (frames_after c.args.self.now c.enter_elements.new.self)
-    c.args.place (fault_of c.args.fault) inside (c.in-Ok.ensures.is c.args.self.now.nodes.now).0
+    c.args.target.place (fault_of c.args.target.fault) inside (c.in-Ok.ensures.is c.args.self.now.nodes.now).0
     c.enter_elements.result entered
