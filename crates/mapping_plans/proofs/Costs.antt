@@ -16,7 +16,7 @@ use Rattle.pickle_meaning.specs.Means.{Opened, Taken, number_type, width_in, fir
 use Rattle.mapping_plans.specs.Plan.{Plan, Tick, and_then, after, on_value, then_ok, leave_frame, framed, AtMost, ended, ticked, noted, given}
 use Rattle.mapping_plans.specs.Mapping.{from_inside, constrained, number_plan, digits_plan, read_plan, after_byte, text_plan, after_element, element_plan, elements_plan, after_attempt, plan, fields_plan, alternatives_plan}
 use Rattle.mapping_plans.specs.Rows.{row_of}
-use Rattle.mapping_plans.proofs.InRow.{row_at_most}
+use Rattle.mapping_plans.proofs.InRow.{element_at_most}
 
 -- ---- evaluations
 
@@ -299,7 +299,8 @@ mutual
       (at_most_after _ _ (bound_weight bound) (bound_within bound levels)) (λ extent.
       framed_at_most levels (both _ (count_of m (least_width element) * (1 + cost element m)) 0 (omega arith)
       (elements_at_most (element_plan element (plan m element order)) (cost element m) m s extent
-      (λ l p. row_at_most (row_of element) (plan_at_most m element order l p)) (count_of m (least_width element)) 0
+      (λ l p. element_at_most (row_of element) l (plan_at_most m element order l p))
+      (count_of m (least_width element)) 0
       (opened levels) s) (λ r. noted ended)))))
   plan_at_most m (StructOf name pinned fields) order levels s =
       inside_at_most m s (ticked (fields_cost fields m) (omega arith)

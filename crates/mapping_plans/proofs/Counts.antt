@@ -16,7 +16,7 @@ use Rattle.mapping_plans.specs.Mapping.{from_inside, makes, closes, constrained,
 use Rattle.pickle_meaning.specs.Laws.{value_size}
 use Rattle.mapping_plans.proofs.Fitting.{longer}
 use Rattle.mapping_plans.specs.Rows.{row_of}
-use Rattle.mapping_plans.proofs.InRow.{row_counts}
+use Rattle.mapping_plans.proofs.InRow.{element_counts}
 
 -- for a value, with what was made before it
 abbrev SizeOn : {A F : Type 0} → (A → ℕ) → ℕ → Result A F → ℕ
@@ -224,7 +224,7 @@ mutual
       inside_counts of_value m s c c (omega arith) (count_tick (counts_after of_value c _ _ _ c (omega arith) (λ extent.
       counts_framed of_value c levels
       (counts_ok of_opened of_value c c _ (omega arith) (elements_counts (element_plan element (plan m element order)) m
-      s extent c (λ l p d. row_counts (row_of element) (plan_counts m element order l p d))
+      s extent c (λ l p d. element_counts (row_of element) l (plan_counts m element order l p d))
       (count_of m (least_width element)) 0 (opened levels) s c (omega arith))
       (λ r d le. closes_counts ArrayLabel s r.1 r.0 c d refl le)))))
   plan_counts m (StructOf name pinned fields) order levels s c =

@@ -26,7 +26,7 @@ use Rattle.mapping_plans.proofs.Basics.{clash}
 use Rattle.mapping_plans.proofs.Widths.{EndsFrom, starts_from, next_start, later_unlabelled, present_least, absent_width, least_first}
 use Rattle.mapping_plans.proofs.Always.{OfValue, weaker, then_always, ok_always, framed_always, told_always, inside_always}
 use Rattle.mapping_plans.specs.Rows.{row_of}
-use Rattle.mapping_plans.proofs.InRow.{row_always}
+use Rattle.mapping_plans.proofs.InRow.{element_always}
 
 -- ---- a value that fits ends in the file, and is as wide as its type is at least
 
@@ -407,7 +407,7 @@ mutual
       {Q = Fits m (ArrayOf element bound) levels s} _
       (λ r h. after_made tt (result (extent, is, r.0, r.1, h.0, h.1, h.2, h.3, refl)))
       (elements_fit m s extent (Fits m element) (element_plan element (plan m element order))
-      (λ l p. row_always (row_of element) (plan_fits m element order l p))
+      (λ l p. element_always (row_of element) l (λ v fit. tt) (plan_fits m element order l p))
       (λ l a v fit. (let w = fits_wide m element l a v fit in omega arith, fits_inside m element l a v fit))
       (count_of m (least_width element)) 0 (opened levels) s le (none_counted extent))))))
   plan_fits m (StructOf name pinned fields) order levels s =

@@ -17,3 +17,13 @@ pub mod Counts
 pub mod Rows
 pub mod Refused
 pub mod StructRows
+pub mod LayoutRows
+pub mod Layouts
+pub mod Stored
+pub mod Adding
+pub mod Converted
+pub mod LaidValues
+pub mod Avoiding
+pub mod Alike
+pub mod Unseen
+pub mod TableWidths

@@ -13,7 +13,7 @@ use Rattle.value_store.specs.Moves.{Move}
 use Rattle.mapping_plans.specs.Plan.{Plan, Ended, Made, and_then, after, on_value, then_ok, leave_frame, framed, MadeWithin, made_ended, made_tick, made_more, made_read}
 use Rattle.mapping_plans.specs.Mapping.{from_inside, constrained, number_plan, digits_plan, read_plan, after_byte, text_plan, after_element, element_plan, elements_plan, after_attempt, plan, fields_plan, alternatives_plan}
 use Rattle.mapping_plans.specs.Rows.{row_of}
-use Rattle.mapping_plans.proofs.InRow.{row_within}
+use Rattle.mapping_plans.proofs.InRow.{element_within}
 
 -- with more steps taken before, and fewer required at the end
 pub within_more : {A : Type 0} {p : Plan A} {a b : ℕ} (c d : ℕ) → a ≤ c → d ≤ b → MadeWithin p a b → MadeWithin p c d
@@ -156,7 +156,7 @@ mutual
       (within_ok _ (a + 1) (omega arith) (within_after _ _ (a + 1)) (λ extent.
       within_framed levels
       (within_ok _ (a + 1) (omega arith) (elements_within (element_plan element (plan m element order)) m s extent
-      (a + 1) (λ l p. row_within (row_of element) (plan_within m element order l p (a + 1)))
+      (a + 1) (λ l p. element_within (row_of element) l (plan_within m element order l p (a + 1)))
       (count_of m (least_width element)) 0 (opened levels) s) (λ r. one_made a)))))
   plan_within m (StructOf name pinned fields) order levels s a =
       inside_within m s a (made_tick (within_framed levels (within_ok _ (a + 1) (omega arith)

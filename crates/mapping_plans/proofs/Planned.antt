@@ -19,7 +19,7 @@ use Rattle.mapping_plans.proofs.Basics.{clash, same_type, fewer, enough}
 use Rattle.mapping_plans.proofs.Comes.{Comes, comes_ended, comes_tick, comes_made, comes_read, comes_as, comes_after, comes_then, comes_ok, comes_err, comes_on, comes_framed, comes_inside, comes_past}
 use Rattle.mapping_plans.proofs.Widths.{means_inside, elements_inside, means_wide}
 use Rattle.mapping_plans.specs.Rows.{row_of}
-use Rattle.mapping_plans.proofs.InRow.{row_comes}
+use Rattle.mapping_plans.proofs.InRow.{element_comes}
 
 any_past : (bits : List ℕ) (ty : PokeType) (order : Order) (levels : Levels) (s : ℕ) → length bits < s →
     Comes bits (plan (length bits) ty order levels s) (Err (fault.End, s)) 0 0
@@ -135,7 +135,7 @@ due_comes {bits} {ty} {order} {s} {extent} {i} {levels} {p} {a} {r} {k} {j} {k'}
         (1 + k + k') (j + j')
     tries zero le = absurd (omega arith)
     tries (suc d) le =
-        rw due (comes_as (omega arith) refl (comes_tick (comes_then _ _ (row_comes (row_of ty) h) (g d le))))
+        rw due (comes_as (omega arith) refl (comes_tick (comes_then _ _ (element_comes (row_of ty) levels h) (g d le))))
 
 done_comes : {bits : List ℕ} {ty : PokeType} {order : Order} {s : ℕ} {extent : Extent} {i : ℕ} {levels : Levels}
     {p : ℕ} → is_due extent (length bits) s i p ≡ false → is_met extent s p ≡ true → p ≤ length bits →

@@ -16,7 +16,7 @@ use Rattle.mapping_plans.specs.Mapping.{makes, closes, constrained, number_plan,
 use Rattle.mapping_plans.proofs.Always.{OfValue, weaker, then_always, ok_always, framed_always, told_always, inside_always}
 use Rattle.mapping_plans.proofs.Fitting.{longer}
 use Rattle.mapping_plans.specs.Rows.{row_of}
-use Rattle.mapping_plans.proofs.InRow.{row_always}
+use Rattle.mapping_plans.proofs.InRow.{element_always}
 
 -- the link that a member takes once its frame is closed
 abbrev charge : Slot → ℕ
@@ -325,7 +325,8 @@ mutual
       (λ r grown. closes_room kind b (count_of m (least_width element) * (1 + room element m)) ArrayLabel s r.1
       levels r.0 refl grown le)
       (elements_room kind b (room element m) m s extent (element_plan element (plan m element order))
-      (λ l p up. row_always (row_of element) (plan_room kind b m element order l p up))
+      (λ l p up. element_always (row_of element) l
+      (λ v light. let more = push_slots kind l (Some v) in omega arith) (plan_room kind b m element order l p up))
       (count_of m (least_width element)) 0 (opened levels) s (omega arith))))))
   plan_room kind b m (StructOf name pinned fields) order levels s le =
       inside_always m s (λ inside. after_tick (framed_always levels (omega arith) (omega arith) (ok_always

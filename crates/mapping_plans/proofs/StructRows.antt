@@ -1,11 +1,11 @@
 -- The structs that an array packs: all their fields are numbers, one after the other.
-use Rattle.std.proofs.Common.{◌≡◌, ℕ, ◌≤◌, Bool, true, false, List, [], ◌∷◌, Option, Some, None, refl, sym, ap, ◌∙◌}
-use Rattle.std.specs.Prelude.{if◌then◌else◌, nat_eq, nat_le}
+use Rattle.std.proofs.Common.{◌≡◌, ℕ, ◌≤◌, Bool, true, false, List, ◌∷◌, Option, Some, None, refl, sym, ap, ◌∙◌}
+use Rattle.std.specs.Prelude.{if◌then◌else◌, nat_le}
 use Rattle.std.proofs.lemmas.Bool.{false≢true, eq-eqb, leb-true}
 use Rattle.pickle_types.specs.Types.{Term, PokeType, IntegerOf, OffsetOf, StringOf, ArrayOf, StructOf, IntegralOf, UnionOf, Fields, NoFields, FieldThen, Number, Text, Name, Bracket, Before, Between, Choice, Index, Select, AttributeOf, ToInteger, ToOffset, InUnit}
 use Rattle.pickle_meaning.specs.Values.{Naming}
 use Rattle.mapping_plans.specs.Avoids.{Avoids, ClauseAvoids, IsScalar, AreColumns}
-use Rattle.mapping_plans.specs.Rows.{Row, Apart, Numbers, Records, avoids, clause_avoids, scalar_width, column_width, column_then, column_widths, stride_of, records_of, struct_row, row_of}
+use Rattle.mapping_plans.specs.Rows.{Row, Apart, Numbers, Records, Values, Layout, avoids, clause_avoids, scalar_width, column_width, column_then, column_widths, stride_of, records_of, struct_row, layout_of, or_values, row_of}
 
 both : (p q : Bool) → (if p then q else false) ≡ true → (p ≡ true) × (q ≡ true)
 both true q e = (refl, e)
@@ -32,9 +32,9 @@ avoids_are level (ToInteger type e) h = avoids_are level e h
 avoids_are level (ToOffset type unit e) h = avoids_are level e h
 avoids_are level (InUnit unit e) h = avoids_are level e h
 
-clause_are : (c : Option Term) → clause_avoids 1 c ≡ true → ClauseAvoids 1 c
-clause_are None h = tt
-clause_are (Some e) h = avoids_are 1 e h
+pub clause_are : (level : ℕ) (c : Option Term) → clause_avoids level c ≡ true → ClauseAvoids level c
+clause_are level None h = tt
+clause_are level (Some e) h = avoids_are level e h
 
 scalar_is : (type : PokeType) (w : ℕ) → scalar_width type ≡ Some w → IsScalar type
 scalar_is (IntegerOf type) w h = tt
@@ -63,7 +63,13 @@ column_is type c (Some label) when w h = absurd cc
 column_is type c None (Some when) w h = absurd cc
 column_is type c None None w h =
     let g = where_true (clause_avoids 1 c) (scalar_width type) w h in
-    record { scalar = scalar_is type w g.1; avoids = clause_are c g.0; unlabelled = refl; present = refl; width = g.1 }
+    record {
+      scalar = scalar_is type w g.1;
+      avoids = clause_are 1 c g.0;
+      unlabelled = refl;
+      present = refl;
+      width = g.1;
+    }
 
 -- the widths of a field and of those after it
 pub record AreBoth (o : Option ℕ) (os : Option (List ℕ)) (widths : List ℕ) : Type 0 where
@@ -125,12 +131,26 @@ struct_is name false fields widths h =
     let r = records_are (column_widths fields) widths h in
     record { name = name; fields = fields; is = refl; wide = r.are; some = r.some; few = r.few }
 
+apart_records : (own : Option Layout) (widths : List ℕ) → or_values Apart own ≡ Records widths → ⊥
+apart_records None widths h = cc
+apart_records (Some own) widths h = cc
+
+records_first : (row : Row) (own : Option Layout) (widths : List ℕ) → or_values row own ≡ Records widths →
+    row ≡ Records widths
+records_first Apart own widths h = absurd (apart_records own widths h)
+records_first (Numbers width) own widths h = h
+records_first (Records given) own widths h = h
+records_first (Values stride) own widths h = h
+
 -- only such structs are packed side by side
 pub packed_struct_is : (type : PokeType) (widths : List ℕ) → row_of type ≡ Records widths → IsPackedStruct type widths
 packed_struct_is (IntegerOf type) widths h = absurd cc
 packed_struct_is (OffsetOf type unit) widths h = absurd cc
 packed_struct_is StringOf widths h = absurd cc
 packed_struct_is (ArrayOf element bound) widths h = absurd cc
-packed_struct_is (StructOf name pinned fields) widths h = struct_is name pinned fields widths h
-packed_struct_is (IntegralOf name type _) widths h = absurd cc
+packed_struct_is (StructOf name pinned fields) widths h =
+    let own = layout_of 0 (StructOf name pinned fields) in
+    struct_is name pinned fields widths (records_first (struct_row pinned fields) own widths h)
+packed_struct_is (IntegralOf name type fields) widths h =
+    absurd (apart_records (layout_of 0 (IntegralOf name type fields)) widths h)
 packed_struct_is (UnionOf name alternatives) widths h = absurd cc

@@ -4,3 +4,4 @@ pub mod Mapping
 pub mod PlanLaws
 pub mod Kept
 pub mod Avoids
+pub mod Widths

@@ -11,8 +11,9 @@ use Rattle.pickle_meaning.specs.Values.{Naming, Value, end_of, text_value, text_
 use Rattle.pickle_meaning.specs.Clauses.{FaultAt, constraint, clause_steps, condition, field_start, label_steps, extent_of, bound_steps, is_due, is_met, ends_before, misses}
 use Rattle.pickle_meaning.specs.Means.{ordered, number_type, width_in, first_digits, field_names, part_names, integer_value, offset_value, array_value, struct_value, Taken, union_value, Opened}
 use Rattle.value_store.specs.Moves.{Move, Clears, Places, Leaves, Closes, Writes, Ends, ClosesRow}
+use Rattle.value_store.specs.Layouts.{packs_value}
 use Rattle.mapping_plans.specs.Plan.{Plan, Ended, Tick, Made, Read, and_then, after, then_ok, framed, in_row}
-use Rattle.mapping_plans.specs.Rows.{Row, Apart, Numbers, Records, row_of}
+use Rattle.mapping_plans.specs.Rows.{Row, Apart, Numbers, Records, Values, row_of}
 
 -- a mapping that starts past the last bit is an End fault, in no steps
 unfoldable pub from_inside : {A : Type 0} → (m s : ℕ) → Plan (Result A FaultAt) → Plan (Result A FaultAt)
@@ -79,11 +80,23 @@ abbrev pub array_move : Row → Move
 array_move Apart = Closes
 array_move (Numbers width) = ClosesRow
 array_move (Records widths) = ClosesRow
+array_move (Values stride) = ClosesRow
+
+-- a value that was added to the innermost of these frames is packed into the array there
+abbrev pub packs_last : Levels → Value → Plan (Result Value FaultAt)
+packs_last levels v = Made 0 (packs_value v) (pushed levels (Some v)) (Ended (Ok v))
+
+-- an element is packed after it was mapped, where it is kept as a value of fixed layout
+abbrev pub then_packed : Row → Levels → Plan (Result Value FaultAt) → Plan (Result Value FaultAt)
+then_packed Apart levels p = p
+then_packed (Numbers width) levels p = p
+then_packed (Records widths) levels p = p
+then_packed (Values stride) levels p = then_ok p (packs_last levels)
 
 -- the plan of a type, as that of an array's element
 abbrev pub element_plan : PokeType → (Levels → ℕ → Plan (Result Value FaultAt)) → Levels → ℕ →
     Plan (Result Value FaultAt)
-element_plan ty p levels place = in_row (row_of ty) (p levels place)
+element_plan ty p levels place = then_packed (row_of ty) levels (in_row (row_of ty) (p levels place))
 
 -- what comes after an element: the array continues after it, or ends before it
 unfoldable pub after_element : Extent → (Levels → ℕ → Plan (Result Opened FaultAt)) → Levels → (place : ℕ) →

@@ -3,8 +3,8 @@ use Rattle.std.specs.Prelude.{ℕ, zero, suc, ◌+◌, ◌<◌, ◌≤◌, ◌^�
 use Rattle.bit_space.specs.declared.order.Order.{Order}
 use Rattle.pickle_meaning.specs.Numbers.{number_at}
 use Rattle.pickle_meaning.specs.Values.{Levels, opened}
-use Rattle.mapping_plans.specs.Rows.{Row, Apart, Numbers, Records, stride_of}
-use Rattle.value_store.specs.Moves.{Move, Opens, Drops, Clears, Places, Leaves, Closes, Writes, Ends, Packs, ClosesRow, OpensRecords, PacksRecord, ClosesRecords, PacksStruct}
+use Rattle.mapping_plans.specs.Rows.{Row, Apart, Numbers, Records, Values, stride_of}
+use Rattle.value_store.specs.Moves.{Move, Opens, Drops, Clears, Places, Leaves, Closes, Writes, Ends, Packs, ClosesRow, OpensRecords, PacksRecord, ClosesRecords, PacksStruct, PacksValue}
 
 pub data Plan (A : Type 0) : Type 0 where
   Ended : (result : A) → Plan A
@@ -59,6 +59,7 @@ as_number width OpensRecords = OpensRecords
 as_number width (PacksRecord count) = PacksRecord count
 as_number width ClosesRecords = ClosesRecords
 as_number width (PacksStruct stride) = PacksStruct stride
+as_number width (PacksValue size stride) = PacksValue size stride
 
 -- a struct of numbers, of so many bytes in all, is packed
 abbrev pub as_struct : (stride : ℕ) → Move → Move
@@ -76,12 +77,14 @@ as_struct stride OpensRecords = OpensRecords
 as_struct stride (PacksRecord count) = PacksRecord count
 as_struct stride ClosesRecords = ClosesRecords
 as_struct stride (PacksStruct other) = PacksStruct other
+as_struct stride (PacksValue size other) = PacksValue size other
 
 -- what is done for an element of an array that is kept in such a way
 abbrev pub packed : Row → Move → Move
 packed Apart move = move
 packed (Numbers width) move = as_number width move
 packed (Records widths) move = as_struct (stride_of widths) move
+packed (Values stride) move = move
 
 -- the same plan, with those moves
 abbrev pub as_row : {A : Type 0} → Row → Plan A → Plan A
@@ -95,6 +98,7 @@ abbrev pub in_row : {A : Type 0} → Row → Plan A → Plan A
 in_row Apart p = p
 in_row (Numbers width) p = as_row (Numbers width) p
 in_row (Records widths) p = as_row (Records widths) p
+in_row (Values stride) p = p
 
 -- on a file's bits: the result, the steps and the values made
 abbrev pub result_of : {A : Type 0} → List ℕ → Plan A → A

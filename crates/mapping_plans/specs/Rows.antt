@@ -1,6 +1,7 @@
 -- How a store may pack the elements of an array of a type.
 use Rattle.std.specs.Prelude.{ℕ, ◌+◌, List, [], ◌∷◌, Option, Some, None, Bool, true, false, nat_eq, nat_le, if◌then◌else◌}
-use Rattle.pickle_types.specs.Types.{PokeType, IntegerOf, OffsetOf, StringOf, ArrayOf, StructOf, IntegralOf, UnionOf, Fields, NoFields, FieldThen, Term, Number, Text, Name, Bracket, Before, Between, Choice, Index, Select, AttributeOf, ToInteger, ToOffset, InUnit}
+use Rattle.pickle_types.specs.declared.integer.IntegerType.{IntegerType}
+use Rattle.pickle_types.specs.Types.{PokeType, IntegerOf, OffsetOf, StringOf, ArrayOf, StructOf, IntegralOf, UnionOf, Fields, NoFields, FieldThen, Parts, NoParts, PartThen, Term, Number, Text, Name, Bracket, Before, Between, Choice, Index, Select, AttributeOf, ToInteger, ToOffset, InUnit}
 use Rattle.value_store.specs.Packed.{bytes_for}
 use Rattle.value_store.specs.declared.store.slots.Shape.{Shape}
 use Rattle.value_store.specs.declared.store.slots.Shape.TheVariants as value
@@ -27,12 +28,13 @@ abbrev pub clause_avoids : (level : ℕ) → Option Term → Bool
 clause_avoids level None = true
 clause_avoids level (Some e) = avoids level e
 
--- how elements are kept, where arrays are packed: as other values, as numbers of so many bits side by side, or as
--- structs of numbers of such widths side by side
+-- how elements are kept, where arrays are packed: as other values, as numbers of so many bits side by side, as structs
+-- of numbers of such widths side by side, or as values of fixed layout whose numbers take so many bytes
 pub data Row : Type 0 where
   Apart : Row
   Numbers : (width : ℕ) → Row
   Records : (widths : List ℕ) → Row
+  Values : (stride : ℕ) → Row
 
 -- the width of an integer or an offset
 abbrev pub scalar_width : PokeType → Option ℕ
@@ -77,14 +79,90 @@ abbrev pub struct_row : (pinned : Bool) → Fields → Row
 struct_row true _ = Apart
 struct_row false fields = records_of (column_widths fields)
 
+-- how many bits each value of a type takes, and how many bytes its numbers take side by side
+pub record Layout : Type 0 where
+  pub bits : ℕ
+  pub bytes : ℕ
+
+abbrev pub number_layout : IntegerType → Layout
+number_layout type = record { bits = type.width; bytes = bytes_for type.width }
+
+abbrev pub no_layout : Layout
+no_layout = record { bits = 0; bytes = 0 }
+
+abbrev pub sum_of : Layout → Layout → Layout
+sum_of one others = record { bits = one.bits + others.bits; bytes = one.bytes + others.bytes }
+
+-- at most 512 bytes
+abbrev pub few_bytes : Layout → Option Layout
+few_bytes own = if nat_le own.bytes 512 then Some own else None
+
+-- a field and the fields after it
+abbrev pub layout_then : Option Layout → Option Layout → Option Layout
+layout_then (Some one) (Some others) = few_bytes (sum_of one others)
+layout_then None others = None
+layout_then (Some one) None = None
+
+-- a field that is always there, right after the one before it, and whose constraint names nothing of a frame
+abbrev pub field_layout : (avoids : Bool) → (label condition : Option Term) → Option Layout → Option Layout
+field_layout true None None own = own
+field_layout false None None own = None
+field_layout avoids (Some label) condition own = None
+field_layout avoids None (Some condition) own = None
+
+-- A struct has at least one byte. So it has at most 512 numbers, whatever structs are in it.
+abbrev pub some_bytes : Option Layout → Option Layout
+some_bytes None = None
+some_bytes (Some own) = if nat_le 1 own.bytes then Some own else None
+
+-- the bits of an integral struct's fields are those of the struct
+abbrev pub whole_number : (width : ℕ) → Option Layout → Option Layout
+whole_number width None = None
+whole_number width (Some own) = if nat_eq own.bits width then Some own else None
+
+abbrev mutual
+  -- The layout of a type whose values are all alike but for their numbers: integers, offsets, and structs and integral
+  -- structs of such fields, one after the other. No constraint names anything of the frame at that level of the frames
+  -- around a value.
+  pub layout_of : (level : ℕ) → PokeType → Option Layout
+  layout_of level (IntegerOf type) = Some (number_layout type)
+  layout_of level (OffsetOf type unit) = Some (number_layout type)
+  layout_of level StringOf = None
+  layout_of level (ArrayOf element bound) = None
+  layout_of level (StructOf name true _) = None
+  layout_of level (StructOf name false fields) = some_bytes (fields_layout (level + 1) fields)
+  layout_of level (IntegralOf name type fields) =
+      whole_number type.width (some_bytes (parts_layout (level + 1) fields))
+  layout_of level (UnionOf name alternatives) = None
+
+  pub fields_layout : (level : ℕ) → Fields → Option Layout
+  fields_layout level NoFields = Some no_layout
+  fields_layout level (FieldThen name order type constraint label condition rest) =
+      layout_then (field_layout (clause_avoids level constraint) label condition (layout_of level type))
+      (fields_layout level rest)
+
+  pub parts_layout : (level : ℕ) → Parts → Option Layout
+  parts_layout level NoParts = Some no_layout
+  parts_layout level (PartThen name order type constraint rest) =
+      layout_then (field_layout (clause_avoids level constraint) None None (layout_of level type))
+      (parts_layout level rest)
+
+-- elements of fixed layout that aren't kept in another way
+abbrev pub or_values : Row → Option Layout → Row
+or_values Apart None = Apart
+or_values Apart (Some own) = Values own.bytes
+or_values (Numbers width) own = Numbers width
+or_values (Records widths) own = Records widths
+or_values (Values stride) own = Values stride
+
 -- how the elements of a type are kept
 abbrev pub row_of : PokeType → Row
 row_of (IntegerOf type) = Numbers type.width
 row_of (OffsetOf type unit) = Numbers type.width
 row_of StringOf = Apart
 row_of (ArrayOf element bound) = Apart
-row_of (StructOf name pinned fields) = struct_row pinned fields
-row_of (IntegralOf name type _) = Apart
+row_of (StructOf name pinned fields) = or_values (struct_row pinned fields) (layout_of 0 (StructOf name pinned fields))
+row_of (IntegralOf name type fields) = or_values Apart (layout_of 0 (IntegralOf name type fields))
 row_of (UnionOf name alternatives) = Apart
 
 -- the shape of the node of an integer or an offset

@@ -1,34 +1,17 @@
 -- Plans that are alike but for the frames that are stored beside what they do.
 use Rattle.std.proofs.Common.{◌≡◌, ℕ, zero, suc, Bool, true, false, List, Result, Ok, Err, ap}
 use Rattle.std.specs.Prelude.{if◌then◌else◌}
-use Rattle.bit_space.specs.declared.order.Order.{Order}
 use Rattle.pickle_meaning.specs.Values.{Levels}
 use Rattle.pickle_meaning.specs.Clauses.{FaultAt}
 use Rattle.mapping_plans.specs.Plan.{Plan, Ended, Tick, Made, Read, and_then, after, on_value, then_ok, leave_frame, framed, as_row}
 use Rattle.mapping_plans.specs.Rows.{Row, Records}
+use Rattle.mapping_plans.proofs.Alike.{Alike, ended_alike, tick_alike, made_alike, read_alike, Both, Same}
 use Rattle.value_store.specs.Exceeding.{Exceeds}
 use Rattle.value_store.specs.Moves.{Move, Opens, Drops, State}
 use Rattle.pickle_map.specs.Follows.{World, TakesMore, Walk, arrived, stepped, kept, read, Done, NoSteps, Broken, NoRoom, NeedsStep, NeedsRead, NeedsRoom, Follows}
 use Rattle.pickle_map.specs.declared.mapper.stop.Stop.{Stop}
 use Rattle.pickle_map.specs.declared.mapper.stop.Stop.TheVariants.{Fault, Limit, Device, Memory}
 use Rattle.pickle_map.specs.Stops.{stop_finish}
-
--- the same steps, moves and reads; each pair of frames at a move is one of these, and each pair of results one of those
-pub data Alike {A : Type 0} (Pair : Move → Levels → Levels → Type 0) (Ends : A → A → Type 0) : Plan A →
-    Plan A → Type 0 where
-  ended_alike : {a b : A} → Ends a b → Alike Pair Ends (Ended a) (Ended b)
-  tick_alike : {p q : Plan A} → Alike Pair Ends p q → Alike Pair Ends (Tick p) (Tick q)
-  made_alike : {count : ℕ} {move : Move} {levels levels' : Levels} {p q : Plan A} → Pair move levels levels' →
-      Alike Pair Ends p q → Alike Pair Ends (Made count move levels p) (Made count move levels' q)
-  read_alike : {place width : ℕ} {order : Order} {ps qs : ℕ → Plan A} → ((n : ℕ) → Alike Pair Ends (ps n) (qs n)) →
-      Alike Pair Ends (Read place width order ps) (Read place width order qs)
-
--- values that make such a pair, or the same fault
-abbrev pub Both : {A F : Type 0} → (Ends : A → A → Type 0) → Result A F → Result A F → Type 0
-Both Ends (Ok a) (Ok b) = Ends a b
-Both Ends (Ok a) (Err f) = ⊥
-Both Ends (Err e) (Ok b) = ⊥
-Both Ends (Err e) (Err f) = e ≡ f
 
 -- the second is the plan of an array's element
 module _ (widths : List ℕ) where
@@ -159,10 +142,6 @@ module _ {world : World} {A : Type 0} {Ends : A → A → Type 0} where
   no_room_too s h =
       let r = walk_too h.walk s in
       record { rest = r.other; at = h.at; walk = r.walk; ends = room_too world h.at h.rest r.other r.alike h.ends }
-
--- the same result
-abbrev pub Same : {A : Type 0} → A → A → Type 0
-Same a b = a ≡ b
 
 ended_too : (world : World) {A : Type 0} (p q : Plan A) (a : A) → Alike (FitsToo world) Same p q →
     p ≡ Ended a → q ≡ Ended a

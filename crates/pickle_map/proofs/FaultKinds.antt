@@ -23,7 +23,7 @@ use Rattle.pickle_meaning.specs.Clauses.{FaultAt, told_at, kind_at, satisfied, c
 use Rattle.pickle_map.specs.FaultKinds.{IsMeant, OfFault}
 use Rattle.value_store.specs.Moves.{State}
 use Rattle.pickle_map.specs.Follows.{World, Done, Follows}
-use Rattle.mapping_plans.proofs.InRow.{row_always}
+use Rattle.mapping_plans.proofs.InRow.{element_always}
 use Rattle.mapping_plans.specs.Rows.{row_of}
 use Rattle.mapping_plans.specs.Mapping.{from_inside, constrained, number_plan, digits_plan, read_plan, after_byte, text_plan, after_element, element_plan, elements_plan, after_attempt, plan, fields_plan, alternatives_plan}
 use Rattle.pickle_meaning.specs.Means.{Opened, Taken, number_type, width_in, first_digits, ordered}
@@ -424,7 +424,7 @@ mutual
       inside_fault m s _ (after_tick (after_fault _ (extent_of bound levels s) _ (extent_fault bound levels s)
       (λ extent. frame_fault levels _ (then_fault _ _
       (elements_fault (element_plan element (plan m element order)) m s extent
-      (λ inside at. row_always (row_of element) (plan_faults m element order inside at))
+      (λ inside at. element_always (row_of element) inside (λ v meant. tt) (plan_faults m element order inside at))
       (bounds.count_of m (least_width element)) 0 (opened levels) s)
       (λ r. after_made tt (result tt))))))
   plan_faults m (StructOf name pinned fields) order levels s =

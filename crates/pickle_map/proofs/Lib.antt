@@ -1,7 +1,7 @@
 pub mod Walks
 pub mod Worlds
-pub mod Avoiding
 pub mod Alike
+pub mod Added
 pub mod Records
 pub mod Keeping
 pub mod Left
@@ -10,11 +10,15 @@ pub mod Settling
 pub mod Shapes
 pub mod Clauses
 pub mod RecordTypes
+pub mod Sizes
 pub mod RecordRows
 pub mod Columns
 pub mod RecordFrames
 pub mod RecordElements
 pub mod RecordArrays
+pub mod PackedValues
+pub mod ValueElements
+pub mod ValueArrays
 pub mod Placing
 pub mod Texts
 pub mod Mapping

@@ -11,13 +11,13 @@ use Rattle.value_store.specs.Closed.{closed}
 use Rattle.value_store.specs.Exceeding.{Exceeds}
 use Rattle.value_store.specs.Keeping.{IsClosed}
 use Rattle.value_store.specs.Moves.{Closes, ClosesRecords, ClosesRow, Moves, CannotMove, State, moved, state_of}
-use Rattle.value_store.specs.PackedStructs.{ClosesStructs, IsPackingStructs, IsStructsOf, struct_bits, structs_of}
+use Rattle.value_store.specs.PackedStructs.{ClosesStructs, IsPackingStructs, struct_bits, structs_of}
 use Rattle.value_store.specs.Slots.{Held, HasNoNode, HoldsInRoom, KeepsRoom, innermost, levels, packs}
 use Rattle.value_store.specs.Takes.{of_vector}
 use Rattle.pickle_map.specs.Follows.{MovesTo, LacksRoom}
 use Rattle.pickle_map.specs.Framed.{world_between}
 use Rattle.pickle_map.specs.Records.{IsOpened, HasStructs, no_structs, some_structs}
-use Rattle.pickle_map.proofs.Worlds.{has_room, lacks_these, same_room}
+use Rattle.pickle_map.proofs.Worlds.{comes_by, lacks_these, same_room}
 
 -- ---- its structs
 
@@ -42,10 +42,6 @@ module _ (nodes : List Node) (h : Held) (at : ℕ) (cs : List Shape) (start : �
       IsPackingStructs nodes h at cs start rows outer
   has_some _ (no_structs is opened) other = absurd (other refl)
   has_some rows (some_structs some w) other = w
-
-  pub is_open : (rows : List (List ℕ)) → IsPackingStructs nodes h at cs start rows outer → IsStructsOf h
-  is_open rows w =
-      record { names = nodes; type = at; shapes = cs; start = start; rows = rows; outer = outer; packing = w }
 
   module _ (n : Held) (end : ℕ) (rows : List (List ℕ)) where
     pub none_closed : rows ≡ [] → HasNone → IsClosed h n (λ names. ArrayLabel) start end →
@@ -77,17 +73,13 @@ module _ {first h : Held} (k : KeepsRoom first h) (packing : packs first.room �
 
   pub none_moves : {known : Option (List ℕ)} {n : Held} → IsOpened h → HoldsInRoom n → Moves h n Closes →
       MovesTo (world_between known first n) ClosesRow (state_of h) (state_of n)
-  none_moves {n} opened holds moves = record {
-    is = moves ∙ none_moved h opened ∙ ap (λ b. moved b ClosesRow (state_of h)) (sym packing);
-    has = has_room holds (same_room n);
-  }
+  none_moves {n} opened holds moves = comes_by first {move = ClosesRow} (same_room n) holds
+      (moves ∙ none_moved h opened ∙ ap (λ b. moved b ClosesRow (state_of h)) (sym packing)) tt
 
   pub some_moves : {known : Option (List ℕ)} {n : Held} → (HasNoNode h → ⊥) → HoldsInRoom n → Moves h n ClosesRecords →
       MovesTo (world_between known first n) ClosesRow (state_of h) (state_of n)
-  some_moves {n} other holds moves = record {
-    is = moves ∙ some_moved h other ∙ ap (λ b. moved b ClosesRow (state_of h)) (sym packing);
-    has = has_room holds (same_room n);
-  }
+  some_moves {n} other holds moves = comes_by first {move = ClosesRow} (same_room n) holds
+      (moves ∙ some_moved h other ∙ ap (λ b. moved b ClosesRow (state_of h)) (sym packing)) tt
 
   pub none_lacks : {known : Option (List ℕ)} (n : Held) {these : Levels} → IsOpened h → Exceeds h.room these →
       CannotMove h Closes → LacksRoom (world_between known first n) (state_of h) ClosesRow these

@@ -29,7 +29,8 @@ use Rattle.pickle_map.specs.Follows.{World, Done, Follows}
 use Rattle.pickle_map.specs.Records.{HasStructs, no_structs, some_structs, as_record}
 use Rattle.pickle_map.specs.Row.{IsRecordType}
 use Rattle.pickle_map.specs.Stops.{stop_finish, stop_ends}
-use Rattle.pickle_map.proofs.Alike.{Alike, Same, FitsToo, done_too, stop_too, same_alike}
+use Rattle.mapping_plans.proofs.Alike.{Alike, Same}
+use Rattle.pickle_map.proofs.Alike.{FitsToo, done_too, stop_too, same_alike}
 use Rattle.pickle_map.proofs.Records.{record_rowed}
 
 -- ---- widths

@@ -26,11 +26,11 @@ use Rattle.pickle_map.specs.Stops.{stop_finish}
 use Rattle.pickle_map.proofs.Columns.{cut_numbers}
 use Rattle.pickle_map.proofs.RecordRows.{less_passes}
 use Rattle.pickle_map.proofs.Walks.{ends_made, ends_no_room, follow_stop, framed_ok, framed_no_room, framed_stop}
-use Rattle.pickle_map.proofs.Worlds.{has_room, in_store, moves_to, room_then, same_room}
+use Rattle.pickle_map.proofs.Worlds.{comes_by, has_room, in_store, moves_to, room_then, same_room}
 
 -- ---- a store with other capacities
 
-regrown_by : (h n : Held) → n.slots ≡ h.slots → n.frames ≡ h.frames → n.room ≡ h.room → Regrown h n
+pub regrown_by : (h n : Held) → n.slots ≡ h.slots → n.frames ≡ h.frames → n.room ≡ h.room → Regrown h n
 regrown_by h n slots frames room = rw (← slots, ← frames, ← room) refl
 
 structs_with : (nodes : List Node) (h : Held) (capacity : Marks) (at : ℕ) (cs : List Shape) (first : ℕ) (outer : Levels)
@@ -111,8 +111,9 @@ module _ (nodes : List Node) {first begun done dropped : Held} (opening : KeepsR
       Follows (world_between known first dropped) limit (framed (levels nodes first) (then_ok p f)) k j (state_of first)
       k' j' (state_of dropped) (stop_finish stop)
   frame_stops p f drops within stop h =
-      framed_stop (levels nodes first) (then_ok p f) (moves_to (same_room first) (room_then call dropping) holds opens)
-      (moves_to (room_then opening call) (same_room dropped) within drops) stop
+      framed_stop (levels nodes first) (then_ok p f)
+      (moves_to (same_room first) (room_then call dropping) holds opens tt)
+      (moves_to (room_then opening call) (same_room dropped) within drops tt) stop
       (follow_stop p f stop (in_store opening call dropping h))
 
   -- the struct is packed after that, or doesn't fit
@@ -125,7 +126,7 @@ module _ (nodes : List Node) {first begun done dropped : Held} (opening : KeepsR
     world = world_between known first last
 
     opened_frame : MovesTo world Opens (state_of first) (state_of begun)
-    opened_frame = moves_to (same_room first) (room_then call (room_then dropping leaving)) holds opens
+    opened_frame = moves_to (same_room first) (room_then call (room_then dropping leaving)) holds opens tt
 
     filled_frame : Follows world limit p k j (state_of begun) k1 j1 (state_of done) (Done (Ok (inside, end)))
     filled_frame = in_store opening call (room_then dropping leaving) h
@@ -142,7 +143,8 @@ module _ (nodes : List Node) {first begun done dropped : Held} (opening : KeepsR
         framed_ok (levels nodes first) (then_ok p (struct_packs stride name names s)) opened_frame
         (ends_made p (struct_packs stride name names s) (inside, end) (PacksStruct stride) (outer_of inside)
         (struct_value name names s end inside) refl filled_frame {limit1 = limit}
-        (record { is = is ∙ sym packs_as; has = has_room within (same_room last) }) refl ek ej)
+        (comes_by first {move = PacksStruct stride} (same_room last) within (is ∙ sym packs_as) tt)
+        refl ek ej)
 
     pub frame_lacks : {state' : State} → PassesRoom dropped (packed_state count stride (state_of first)) →
         Follows world limit (framed (levels nodes first) (then_ok p (struct_packs stride name names s))) k j

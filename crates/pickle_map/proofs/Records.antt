@@ -17,8 +17,9 @@ use Rattle.value_store.proofs.Fits.{packs_no_more}
 use Rattle.value_store.proofs.Taken.{pushed-some}
 use Rattle.mapping_plans.specs.Avoids.{ClauseAvoids, IsScalar, AreColumns}
 use Rattle.pickle_map.specs.Follows.{World}
-use Rattle.pickle_map.proofs.Alike.{Alike, ended_alike, tick_alike, made_alike, read_alike, Both, Same, FitsToo, rowed_ok, rowed_after, rowed_either, rowed_framed}
-use Rattle.pickle_map.proofs.Avoiding.{Agree, constrained_alike, steps_alike}
+use Rattle.mapping_plans.proofs.Alike.{Alike, ended_alike, tick_alike, made_alike, read_alike, Both, Same}
+use Rattle.mapping_plans.proofs.Avoiding.{Agree, constrained_alike, steps_alike}
+use Rattle.pickle_map.proofs.Alike.{FitsToo, rowed_ok, rowed_after, rowed_either, rowed_framed}
 
 -- the frame of a struct inside that of an array, with other elements in the latter
 module _ (world : World) (packing : packs world.room ≡ true) (widths : List ℕ) (before before' : List (Option Value))

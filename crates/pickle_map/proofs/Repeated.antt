@@ -10,7 +10,7 @@ use Rattle.mapping_plans.specs.Plan.{Plan, Ended, Tick, Made, Read}
 use Rattle.mapping_plans.specs.Mapping.{plan}
 use Rattle.mapping_plans.specs.Kept.{KeepsBy}
 use Rattle.mapping_plans.proofs.Kept.{keeps_less}
-use Rattle.pickle_map.specs.Follows.{World, HasRoom, after_move, Walk, arrived, stepped, kept, read, Done, NoSteps, NoRoom, NeedsStep, NeedsRoom, Follows}
+use Rattle.pickle_map.specs.Follows.{World, HasRoom, during_move, Walk, arrived, stepped, kept, read, Done, NoSteps, NoRoom, NeedsStep, NeedsRoom, Follows}
 use Rattle.pickle_map.specs.Mapped.{HasRoomFor, UnlessBreaks, UnlessBroken}
 use Rattle.pickle_map.specs.Repeated.{WantsNoMore}
 use Rattle.value_store.specs.Slots.{packs}
@@ -46,7 +46,7 @@ no_room_left : {A : Type 0} (world : World) (bits : List ℕ) (q : Plan A) (n : 
 no_room_left world bits (Ended a) n state h g = absurd h
 no_room_left world bits (Tick p) n state h g = absurd h
 no_room_left world bits (Made count move these p) n state h g =
-    not_within (after_move world move state) world.before h.before g.0
+    not_within (during_move world move state) world.before h.before g.0
 no_room_left world bits (Read place width order rest) n state h g = absurd h
 
 module _ {world : World} (bits : List ℕ) (limit : ℕ) (known : world.known ≡ Some bits) {A : Type 0} where

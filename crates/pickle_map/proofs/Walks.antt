@@ -10,7 +10,7 @@ use Rattle.pickle_meaning.specs.Values.{Value, Levels, pushed, outer_of}
 use Rattle.pickle_meaning.specs.Clauses.{FaultAt}
 use Rattle.value_store.specs.Moves.{Move, Opens, Drops, Closes, State}
 use Rattle.mapping_plans.specs.Plan.{Plan, Ended, Tick, Made, Read, and_then, after, on_value, then_ok, leave_frame, framed}
-use Rattle.pickle_map.specs.Follows.{World, HasRoom, after_move, MovesTo, LacksRoom, Walk, arrived, stepped, kept, read, Finish, Done, NoSteps, Broken, NoRoom, Partly, NeedsStep, NeedsRead, NeedsRoom, Follows}
+use Rattle.pickle_map.specs.Follows.{World, after_move, MovesTo, LacksRoom, Walk, arrived, stepped, kept, read, Finish, Done, NoSteps, Broken, NoRoom, Partly, NeedsStep, NeedsRead, NeedsRoom, Follows}
 use Rattle.mapping_plans.specs.Mapping.{from_inside, makes, closes}
 use Rattle.pickle_map.specs.Stops.{stop_finish}
 
@@ -89,8 +89,7 @@ follow_made {world} {limit} {count} {move} {p} {k} {j} {k'} {j'} {state} {state1
     let e = moves.is in
     let g : Follows world limit p k (j + count) (after_move world move state) k' j' state' finish =
     rw (← el, ← ek, ← ej, ← e) h in
-    let has : HasRoom world (after_move world move state) = rw (← e) moves.has in
-    record { rest = g.rest; at = g.at; walk = kept has g.walk; ends = g.ends }
+    record { rest = g.rest; at = g.at; walk = kept moves.has g.walk; ends = g.ends }
 
 -- a number read
 pub follow_read : {world : World} {limit : ℕ} {A : Type 0} {place width : ℕ} {order : Order} {ps : ℕ → Plan A}

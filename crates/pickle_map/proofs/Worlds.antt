@@ -1,16 +1,16 @@
 -- Worlds of nested calls: the capacity of vectors never gets less.
-use Rattle.std.proofs.Common.{◌≡◌, ℕ, ◌<◌, ◌≤◌, Option, List, option_map, refl, ap, subst, ◌∙◌, arith}
+use Rattle.std.proofs.Common.{◌≡◌, ℕ, ◌<◌, ◌≤◌, Bool, Option, List, option_map, refl, sym, ap, subst, ◌∙◌, arith}
 use Rattle.bit_space.specs.Bits.{bits_of}
 use Rattle.bit_space.specs.SpaceView.{SpaceView}
 use Rattle.value_store.specs.declared.store.room.Room.{Room}
 use Rattle.value_store.specs.declared.store.slots.Marks.{Marks}
 use Rattle.pickle_meaning.specs.Values.{Levels}
 use Rattle.value_store.specs.Exceeding.{Exceeds}
-use Rattle.value_store.specs.Moves.{Move, State, Moves, CannotMove, IsWithin, moved, state_of}
+use Rattle.value_store.specs.Moves.{Move, Opens, Drops, Clears, Places, Leaves, Closes, Writes, Ends, Packs, ClosesRow, OpensRecords, PacksRecord, ClosesRecords, PacksStruct, PacksValue, State, Moves, CannotMove, IsWithin, moved, needed, state_of}
 use Rattle.value_store.specs.Slots.{Held, packs, HoldsInRoom, KeepsRoom}
 use Rattle.value_store.specs.Takes.{Vector, NodesOf, FamiliesOf, LinksOf, PendingOf, TextsOf, BytesOf, of_vector}
 use Rattle.mapping_plans.specs.Plan.{Plan, Ended, Tick, Made, Read}
-use Rattle.pickle_map.specs.Follows.{World, MovesTo, TakesMore, LacksRoom, Walk, arrived, stepped, kept, read, Finish, Done, NoSteps, Broken, NoRoom, Partly, NeedsRoom, EndsAs, Follows}
+use Rattle.pickle_map.specs.Follows.{World, HasRoom, MovesTo, TakesMore, LacksRoom, Walk, arrived, stepped, kept, read, Finish, Done, NoSteps, Broken, NoRoom, Partly, NeedsRoom, EndsAs, Follows}
 use Rattle.pickle_map.specs.Framed.{world_between, world_of}
 
 -- ---- capacities
@@ -84,7 +84,7 @@ module _ (known : Option (List ℕ)) (room : Room) (before before' filled filled
   walk_wider arrived = arrived
   walk_wider (stepped w) = stepped (walk_wider w)
   walk_wider (kept {move} {state} has w) =
-      kept (within_more (moved (packs room) move state) filled filled' more has) (walk_wider w)
+      kept (within_more (needed (packs room) move state) filled filled' more has) (walk_wider w)
   walk_wider (read n m w) = read n m (walk_wider w)
 
   lacks_wider : {A : Type 0} (state : State) (p : Plan A) → NeedsRoom inner state p → NeedsRoom around state p
@@ -93,7 +93,7 @@ module _ (known : Option (List ℕ)) (room : Room) (before before' filled filled
   lacks_wider state (Made count move these p) h = record {
     takes = h.takes;
     least = h.least;
-    before = passes_less (moved (packs room) move state) before before' less h.before;
+    before = passes_less (needed (packs room) move state) before before' less h.before;
   }
   lacks_wider state (Read place width order rest) h = absurd h
 
@@ -161,14 +161,46 @@ has_room h k PendingOf = omega (arith, h.pending, k.pending)
 has_room h k TextsOf = omega (arith, h.texts, k.texts)
 has_room h k BytesOf = omega (arith, h.bytes, k.bytes)
 
--- a call of the store made a move
-pub moves_to : {known : Option (List ℕ)} {first before after last : Held} {move : Move} → KeepsRoom first before →
-    KeepsRoom after last → HoldsInRoom after → Moves before after move →
-    MovesTo (world_between known first last) move (state_of before) (state_of after)
-moves_to {before} {move} earlier later holds moves = record {
-  is = moves ∙ ap (λ (r : Room). moved (packs r) move (state_of before)) earlier.room;
-  has = has_room holds later;
+-- a move that needs no more on its way than what it leaves
+abbrev pub IsDirect : Move → Type 0
+IsDirect (PacksValue size stride) = ⊥
+IsDirect move = Unit {0}
+
+direct_needs : (packing : Bool) (move : Move) (state : State) → IsDirect move →
+    needed packing move state ≡ moved packing move state
+direct_needs packing Opens state h = refl
+direct_needs packing Drops state h = refl
+direct_needs packing Clears state h = refl
+direct_needs packing Places state h = refl
+direct_needs packing Leaves state h = refl
+direct_needs packing Closes state h = refl
+direct_needs packing Writes state h = refl
+direct_needs packing Ends state h = refl
+direct_needs packing (Packs width) state h = refl
+direct_needs packing ClosesRow state h = refl
+direct_needs packing OpensRecords state h = refl
+direct_needs packing (PacksRecord count) state h = refl
+direct_needs packing ClosesRecords state h = refl
+direct_needs packing (PacksStruct stride) state h = refl
+direct_needs packing (PacksValue size stride) state h = absurd h
+
+-- a call brought a store to what comes of it by such a move
+pub comes_by : {known : Option (List ℕ)} (first : Held) {after last : Held} {move : Move} {state : State} →
+    KeepsRoom after last → HoldsInRoom after → state_of after ≡ moved (packs first.room) move state → IsDirect move →
+    MovesTo (world_between known first last) move state (state_of after)
+comes_by {known} first {last} {move} {state} later holds is direct = record {
+  is = is;
+  has = subst (HasRoom (world_between known first last))
+      (is ∙ sym (direct_needs (packs first.room) move state direct)) (has_room holds later);
 }
+
+-- a call of the store made such a move
+pub moves_to : {known : Option (List ℕ)} {first before after last : Held} {move : Move} → KeepsRoom first before →
+    KeepsRoom after last → HoldsInRoom after → Moves before after move → IsDirect move →
+    MovesTo (world_between known first last) move (state_of before) (state_of after)
+moves_to {known} {first} {before} {after} {last} {move} earlier later holds moves direct =
+    comes_by first {last = last} {move = move} {state = state_of before} later holds
+    (moves ∙ ap (λ (r : Room). moved (packs r) move (state_of before)) earlier.room) direct
 
 -- a move didn't fit
 pub lacks_these : {known : Option (List ℕ)} {first before : Held} {filled : Marks} {move : Move} {these : Levels} →
@@ -176,11 +208,11 @@ pub lacks_these : {known : Option (List ℕ)} {first before : Held} {filled : Ma
     LacksRoom (record { known = known; room = first.room; before = first.capacity; filled = filled })
     (state_of before) move these
 lacks_these {first} {before} {move} {these} k takes least cannot =
-    let over : Passes (moved (packs first.room) move (state_of before)) before.capacity =
-    subst (λ (r : Room). Passes (moved (packs r) move (state_of before)) before.capacity) k.room cannot in
+    let over : Passes (needed (packs first.room) move (state_of before)) before.capacity =
+    subst (λ (r : Room). Passes (needed (packs r) move (state_of before)) before.capacity) k.room cannot in
     record {
       takes = takes;
       least = subst (λ (r : Room). Exceeds r these) k.room least;
-      before = passes_less (moved (packs first.room) move (state_of before)) before.capacity first.capacity
+      before = passes_less (needed (packs first.room) move (state_of before)) before.capacity first.capacity
           (reaches first before k) over;
     }

@@ -1,5 +1,5 @@
 -- What the calls of a mapper did between two of its states: frames and plans, by its meter and its store.
-use Rattle.std.specs.Prelude.{◌≡◌, ℕ, ◌*◌, ◌<◌, length, true, List, Some, Result}
+use Rattle.std.specs.Prelude.{◌≡◌, ℕ, ◌*◌, ◌<◌, length, Bool, true, List, Some, Result}
 use Rattle.bit_space.specs.SpaceView.{SpaceView}
 use Rattle.bit_space.specs.declared.order.Order.{Order}
 use Rattle.pickle_types.specs.declared.integer.IntegerType.{IntegerType}
@@ -18,6 +18,7 @@ use Rattle.pickle_map.specs.Columns.{shapes_of}
 use Rattle.pickle_map.specs.Columns as columns
 use Rattle.pickle_map.specs.Framed as framed
 use Rattle.pickle_map.specs.Records as records
+use Rattle.pickle_map.specs.LaidArrays as laid
 use Rattle.pickle_map.specs.Row.{IsRecordType}
 use Rattle.value_store.specs.declared.store.slots.Shape.{Shape}
 use Rattle.value_store.specs.Keeping.{IsPushed}
@@ -163,4 +164,23 @@ module _ {W : Type 0} where
       records.PacksAllOrStops old.nodes.now space old.meter.now new.meter.now old.store.now new.store.now
       at (columns_of old fields) start
       (outer_of (levels old.nodes.now old.store.now))
+      (planned old.nodes.now (8 * space.len) (levels old.nodes.now old.store.now)) result
+
+  -- ---- packed values
+
+  abbrev pub IsAmongValues : (old : Mapper W) → (at : ℕ) → (first : Bool) → (place : ℕ) → Type 0
+  IsAmongValues old at first place = laid.IsAmong old.nodes.now old.store.now (type_of old.nodes.now at) first place
+
+  abbrev pub PacksOneValue : SpaceView → (old new : Mapper W) → (at place : ℕ) → Planned Value →
+      Result ℕ Stop → Type 0
+  PacksOneValue space old new at place planned result =
+      laid.PacksOrStops old.nodes.now space old.meter.now new.meter.now old.store.now new.store.now
+      (type_of old.nodes.now at) place
+      (planned old.nodes.now (8 * space.len) (levels old.nodes.now old.store.now)) result
+
+  abbrev pub PacksAllValues : SpaceView → (old new : Mapper W) → (at start : ℕ) → Planned Opened →
+      Result ℕ Stop → Type 0
+  PacksAllValues space old new at start planned result =
+      laid.PacksAllOrStops old.nodes.now space old.meter.now new.meter.now old.store.now new.store.now
+      (type_of old.nodes.now at) start (outer_of (levels old.nodes.now old.store.now))
       (planned old.nodes.now (8 * space.len) (levels old.nodes.now old.store.now)) result

@@ -6,7 +6,7 @@ use Rattle.value_store.specs.declared.store.room.Room.{Room}
 use Rattle.pickle_meaning.specs.Values.{Levels}
 use Rattle.value_store.specs.declared.store.slots.Marks.{Marks}
 use Rattle.value_store.specs.Exceeding.{Exceeds}
-use Rattle.value_store.specs.Moves.{Move, Opens, Drops, Clears, Places, Leaves, Closes, Writes, Ends, Packs, ClosesRow, OpensRecords, PacksRecord, ClosesRecords, PacksStruct, State, IsWithin, moved}
+use Rattle.value_store.specs.Moves.{Move, Opens, Drops, Clears, Places, Leaves, Closes, Writes, Ends, Packs, ClosesRow, OpensRecords, PacksRecord, ClosesRecords, PacksStruct, PacksValue, State, IsWithin, moved, needed}
 use Rattle.value_store.specs.Slots.{packs}
 use Rattle.value_store.specs.Takes.{Vector, of_vector}
 use Rattle.mapping_plans.specs.Plan.{Plan, Ended, Tick, Made, Read}
@@ -27,10 +27,14 @@ HasRoom world state = IsWithin state world.filled
 abbrev pub after_move : World → Move → State → State
 after_move world move state = moved (packs world.room) move state
 
--- the move was made, and what is stored then has capacity
+-- the most that it needs on its way
+abbrev pub during_move : World → Move → State → State
+during_move world move state = needed (packs world.room) move state
+
+-- the move was made, and what is stored on its way has capacity
 pub record MovesTo (world : World) (move : Move) (state state' : State) : Type 0 where
   pub is : state' ≡ after_move world move state
-  pub has : HasRoom world state'
+  pub has : HasRoom world (during_move world move state)
 
 -- a move that takes something of a vector, and so may not fit
 abbrev pub TakesMore : Move → Type 0
@@ -48,13 +52,14 @@ TakesMore OpensRecords = Unit {0}
 TakesMore (PacksRecord count) = Unit {0}
 TakesMore ClosesRecords = ⊥
 TakesMore (PacksStruct stride) = Unit {0}
+TakesMore (PacksValue size stride) = Unit {0}
 
 -- A move to such frames didn't fit: neither in the slots that the store was made with, nor in the capacity of its
 -- vectors.
 pub record LacksRoom (world : World) (state : State) (move : Move) (levels : Levels) : Type 0 where
   pub takes : TakesMore move
   pub least : Exceeds world.room levels
-  pub before : (vector : Vector) × (of_vector vector world.before < of_vector vector (after_move world move state).now)
+  pub before : (vector : Vector) × (of_vector vector world.before < of_vector vector (during_move world move state).now)
 
 -- a walk along a plan, after k steps with j values made in a store of that state, to its rest, after k' steps with j'
 -- values made in a store of the state `last`; all that was stored fitted
@@ -64,7 +69,7 @@ pub data Walk (world : World) {A : Type 0} (rest : Plan A) (k' j' : ℕ) (last :
   stepped : {p : Plan A} {k j : ℕ} {state : State} → Walk world rest k' j' last p (k + 1) j state →
       Walk world rest k' j' last (Tick p) k j state
   kept : {count : ℕ} {move : Move} {levels : Levels} {p : Plan A} {k j : ℕ} {state : State} →
-      HasRoom world (after_move world move state) →
+      HasRoom world (during_move world move state) →
       Walk world rest k' j' last p k (j + count) (after_move world move state) →
       Walk world rest k' j' last (Made count move levels p) k j state
   read : {place width : ℕ} {order : Order} {ps : ℕ → Plan A} {k j : ℕ} {state : State} (n : ℕ) →

@@ -1,5 +1,5 @@
 -- What each call of a mapping leaves as it was, what may only rise, and what it means to have followed a plan.
-use Rattle.std.specs.Prelude.{◌≡◌, ◌≢◌, ℕ, ◌+◌, ◌*◌, ◌<◌, ◌≤◌, List, Option, Some, Result, Ok, Err, IfErr, OnErr}
+use Rattle.std.specs.Prelude.{◌≡◌, ◌≢◌, ℕ, ◌+◌, ◌*◌, ◌<◌, ◌≤◌, List, Option, Some, Result, Ok, Err, IfErr, OnErr, OnOk}
 use Rattle.bit_space.specs.declared.meter.Meter.{Meter}
 use Rattle.bit_space.specs.declared.number.BitFault.{BitFault}
 use Rattle.bit_space.specs.declared.number.BitFault.TheVariants as refused
@@ -14,8 +14,9 @@ use Rattle.pickle_meaning.specs.Clauses.{FaultAt}
 use Rattle.mapping_plans.specs.Plan.{Plan}
 use Rattle.pickle_map.specs.Follows.{World, Finish, Done, Follows}
 use Rattle.pickle_map.specs.Stops.{stop_finish}
+use Rattle.value_store.specs.Below.{Extends}
 use Rattle.value_store.specs.Moves.{State, Moves, Drops, state_of}
-use Rattle.value_store.specs.Slots.{Held, HoldsInRoom, KeepsRoom, levels, level_count, cut_to, innermost}
+use Rattle.value_store.specs.Slots.{Held, HoldsInRoom, KeepsRoom, levels, level_count, around, cut_to, innermost, marks_of}
 
 -- What every call leaves, whatever its result: the meter's limit, the store's capacity, which may only rise, and the
 -- bytes of the space. A count of failures never falls. A call makes no more values than it takes steps, counting the
@@ -46,19 +47,37 @@ under_way = Ok tt
 abbrev pub IsEnd : (start : ℕ) → SpaceView → (end : ℕ) → Type 0
 IsEnd start space end = (start ≤ end) × (end ≤ 8 * space.len)
 
--- a call adds to the innermost frame, or stops and leaves the frames as they were
+-- what was stored when the innermost frame was opened is still there after a call
+abbrev pub KeepsOpened : (store store' : Held) → Type 0
+KeepsOpened store store' =
+    (opened : Held) → innermost store.frames ≡ marks_of opened.slots → Extends opened store → Extends opened store'
+
+-- a call adds to the innermost frame, behind all that was stored, or stops and leaves the frames and slots as they were
 pub record AddsToLevel {A : Type 0} (nodes : List Node) (store store' : Held) (result : Result A Stop) : Type 0 where
   pub same : OnErr result (levels nodes store' ≡ levels nodes store)
   pub depth : level_count store' ≡ level_count store
+  pub frames : store'.frames ≡ store.frames
+  pub extends : Extends store store'
+  pub back : OnErr result (store'.slots ≡ store.slots)
+  pub within : OnOk result (HoldsInRoom store')
 
--- a call leaves the number of frames, and those around the innermost one, as they were
+-- a call leaves the frames around the innermost one as they were
 pub record LevelStays (nodes : List Node) (store store' : Held) : Type 0 where
   pub outer : outer_of (levels nodes store') ≡ outer_of (levels nodes store)
   pub depth : level_count store' ≡ level_count store
+  pub frames : store'.frames ≡ store.frames
+  pub opened : KeepsOpened store store'
+
+-- a call closes the innermost frame
+pub record ClosesLevel (store store' : Held) : Type 0 where
+  pub depth : level_count store' + 1 ≡ level_count store
+  pub frames : store'.frames ≡ around store.frames
+  pub opened : KeepsOpened store store'
+  pub within : HoldsInRoom store'
 
 -- a call closes the innermost frame, or stops in it
 abbrev pub LeavesLevel : {A : Type 0} → List Node → (store store' : Held) → Result A Stop → Type 0
-LeavesLevel nodes store store' (Ok x) = level_count store' + 1 ≡ level_count store
+LeavesLevel nodes store store' (Ok x) = ClosesLevel store store'
 LeavesLevel nodes store store' (Err stop) = LevelStays nodes store store'
 
 -- a frame was rolled back

@@ -6,7 +6,9 @@ pub mod Stops
 pub mod Calls
 pub mod AtWork
 pub mod Columns
+pub mod Layouts
 pub mod Records
+pub mod LaidArrays
 pub mod Settles
 pub mod Settled
 pub mod Mappable

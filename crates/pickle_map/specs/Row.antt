@@ -1,5 +1,5 @@
 -- Arrays of numbers that a store packs, while they are mapped.
-use Rattle.std.specs.Prelude.{◌≡◌, ℕ, ◌+◌, ◌*◌, ◌≤◌, length, map, All, List, ◌∷◌, Result, Ok, true, false}
+use Rattle.std.specs.Prelude.{◌≡◌, ℕ, ◌+◌, ◌*◌, ◌≤◌, length, map, All, List, ◌∷◌, Option, Some, None, Result, Ok, true, false}
 use Rattle.pickle_types.specs.Types.{PokeType, IntegerOf, OffsetOf, StructOf}
 use Rattle.pickle_types.specs.declared.node.Node.{Node}
 use Rattle.bit_space.specs.declared.meter.Meter.{Meter}
@@ -13,7 +13,7 @@ use Rattle.pickle_map.specs.Follows.{Done}
 use Rattle.pickle_meaning.specs.Means.{Opened}
 use Rattle.mapping_plans.specs.Plan.{Plan}
 use Rattle.mapping_plans.specs.Avoids.{AreColumns}
-use Rattle.mapping_plans.specs.Rows.{Apart, Records, row_of, stride_of}
+use Rattle.mapping_plans.specs.Rows.{Apart, Records, Values, Layout, row_of, stride_of}
 use Rattle.value_store.specs.Names.{title_at, names_at, field_name}
 use Rattle.value_store.specs.PackedStructs.{struct_bytes}
 use Rattle.pickle_types.specs.declared.node.Field.{Field}
@@ -42,7 +42,7 @@ pub record PacksAs (shape : Shape) (ty : PokeType) (room : Room) : Type 0 where
   pub is : IsArrayOf shape ty
   pub packs : packs room ≡ true
 
--- elements of that type aren't packed: the store packs none, or they are neither numbers nor structs of numbers
+-- elements of that type aren't packed: the store packs none, or they are of no fixed layout
 abbrev pub StandApart : PokeType → Room → Type 0
 StandApart ty room = packs room ≡ true → row_of ty ≡ Apart
 
@@ -59,11 +59,25 @@ pub record IsRecordType (nodes : List Node) (at : ℕ) (fields : List Field) : T
   pub some : 1 ≤ stride_of widths
   pub few : stride_of widths ≤ 512
 
+-- A store keeps the elements of an array of that type as values of fixed layout, whose numbers take so many bytes.
+pub record PacksValues (ty : PokeType) (room : Room) : Type 0 where
+  pub stride : ℕ
+  pub row : row_of ty ≡ Values stride
+  pub packs : packs room ≡ true
+
+-- elements that have a layout are kept as values, others apart
+abbrev pub PacksLaid : Packing → Option Layout → Type 0
+PacksLaid packing.Apart own = own ≡ None
+PacksLaid (packing.Numbers shape) own = ⊥
+PacksLaid (packing.Records fields) own = ⊥
+PacksLaid packing.Values own = (l : Layout) × (own ≡ Some l)
+
 -- how a store keeps the elements of an array of the type at a place of the table
 abbrev pub PacksOrNot : List Node → (element : ℕ) → Packing → Room → Type 0
 PacksOrNot nodes element packing.Apart room = StandApart (type_of nodes element) room
 PacksOrNot nodes element (packing.Numbers shape) room = PacksAs shape (type_of nodes element) room
 PacksOrNot nodes element (packing.Records fields) room = IsRecordType nodes element fields.now × (packs room ≡ true)
+PacksOrNot nodes element packing.Values room = PacksValues (type_of nodes element) room
 
 -- the frames that hold these elements, from the bit `start` on, inside others
 abbrev pub row_levels : Shape → List ℕ → (start : ℕ) → Levels → Levels

@@ -8,11 +8,13 @@ ghost use Rattle.pickle_map.specs.Mapped.{MeansValue, MeansFault, FitsType, Coun
 ghost use Rattle.value_store.specs.Slots.{emptied, HoldsInRoom, KeepsRoom};
 
 pub mod clauses;
+pub(crate) mod layouts;
 pub(crate) mod level;
 pub mod number;
 pub(crate) mod packed_fields;
 pub(crate) mod packed_numbers;
 pub(crate) mod packed_structs;
+pub(crate) mod packed_values;
 pub mod read;
 pub(crate) mod start;
 pub mod state;

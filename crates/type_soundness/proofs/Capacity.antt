@@ -21,7 +21,7 @@ use Rattle.mapping_plans.proofs.Fitting.{longer}
 use Rattle.value_store.specs.Moves.{Move, Closes}
 use Rattle.value_store.specs.Takes.{Vector, member_takes, levels_take}
 use Rattle.type_soundness.specs.Capacity.{string_bound, family_bound, link_bound, capacity_bound, fields_bound, parts_bound, greatest_bound}
-use Rattle.type_soundness.proofs.Yields.{Yields, yields, on_tick, on_made, on_read, weaker, row_yields, then_yields, ok_yields, told_yields, either, inside_yields, framed_yields}
+use Rattle.type_soundness.proofs.Yields.{Yields, yields, on_tick, on_made, on_read, weaker, element_yields, then_yields, ok_yields, told_yields, either, inside_yields, framed_yields}
 use Rattle.type_soundness.proofs.Taking.{laden, push_laden, outer_push, top_takes, IsFamily, array_family, struct_family, closed_takes, integer_takes, offset_takes, text_takes, union_takes, absent_takes}
 
 -- a fact about a plan's value, whatever it reads
@@ -179,7 +179,7 @@ module _ (vector : Vector) where
         (λ r grown. closes_taken (tries element * (link + most element)) ArrayLabel s r.1 levels r.0
         (array_move (row_of element)) array_family grown)
         (elements_taken (most element) s extent (element_plan element (plan m element order))
-        (λ l p. row_yields (row_of element) (g l p)) (tries element) 0 (opened levels) s)
+        (λ l p. element_yields (row_of element) l (g l p)) (tries element) 0 (opened levels) s)
 
     -- ---- unions
 

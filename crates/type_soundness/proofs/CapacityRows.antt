@@ -1,6 +1,6 @@
 -- Rows of capacity bounds, computed by their definition.
 use Rattle.std.proofs.Common.{◌≡◌, Bool, true, false, ℕ, Some, None, refl}
-use Rattle.pickle_types.specs.Types.{Name, PokeType, IntegerOf, StringOf, ArrayOf, StructOf, UnionOf, Unbounded, NoFields, FieldThen, NoParts, PartThen}
+use Rattle.pickle_types.specs.Types.{Name, PokeType, IntegerOf, StringOf, ArrayOf, StructOf, IntegralOf, UnionOf, Unbounded, NoFields, FieldThen, NoParts, PartThen}
 use Rattle.pickle_types.specs.Bounds.{least_width, room}
 use Rattle.pickle_types.specs.Operators.{whole}
 use Rattle.value_store.specs.Takes.{NodesOf, FamiliesOf, LinksOf, PendingOf, TextsOf, BytesOf}
@@ -37,6 +37,18 @@ pairs = ArrayOf (StructOf None false (FieldThen None None (IntegerOf (whole 8 fa
 constrained : (level : ℕ) → PokeType
 constrained level = ArrayOf (StructOf None false
     (FieldThen None None (IntegerOf (whole 8 false)) (Some (Name level 0)) None None NoFields)) Unbounded
+
+-- struct { struct { uint<8> x; uint<16> y; } p; uint<8> n; }[]
+nested : PokeType
+nested = ArrayOf (StructOf None false (FieldThen None None
+    (StructOf None false (FieldThen None None (IntegerOf (whole 8 false)) None None None
+    (FieldThen None None (IntegerOf (whole 16 false)) None None None NoFields))) None None None
+    (FieldThen None None (IntegerOf (whole 8 false)) None None None NoFields))) Unbounded
+
+-- struct uint<8> { uint<4> hi; uint<4> lo; }[]
+digits : PokeType
+digits = ArrayOf (IntegralOf None (whole 8 false) (PartThen None None (IntegerOf (whole 4 false)) None
+    (PartThen None None (IntegerOf (whole 4 false)) None NoParts))) Unbounded
 
 -- ten bytes: at most five numbers of 16 bits, and one more is tried
 packed_numbers : AreBounds true numbers 80 1 1 0 1 1 12
@@ -94,4 +106,31 @@ next_constrained =
 outer_constrained : AreBounds true (constrained 2) 80 4 1 1 2 1 11
 unfolding capacity_bound least_width constrained
 outer_constrained =
+    record { of_nodes = refl; of_families = refl; of_links = refl; of_pending = refl; of_texts = refl; of_bytes = refl }
+
+-- at most two structs of four bytes, and one more is tried: each has five nodes, two families and four links
+packed_nested : AreBounds true nested 80 16 7 12 6 1 12
+unfolding capacity_bound least_width nested
+packed_nested =
+    record { of_nodes = refl; of_families = refl; of_links = refl; of_pending = refl; of_texts = refl; of_bytes = refl }
+
+-- on one byte there is none, but one is tried
+one_nested : AreBounds true nested 8 11 5 8 6 1 4
+unfolding capacity_bound least_width nested
+one_nested =
+    record { of_nodes = refl; of_families = refl; of_links = refl; of_pending = refl; of_texts = refl; of_bytes = refl }
+
+single_nested : AreBounds false nested 80 16 7 15 16 0 0
+unfolding capacity_bound least_width nested
+single_nested =
+    record { of_nodes = refl; of_families = refl; of_links = refl; of_pending = refl; of_texts = refl; of_bytes = refl }
+
+nested_room : room nested 8 ≡ 11
+unfolding room least_width nested
+nested_room = refl
+
+-- at most three integral structs of a byte, with two bytes of numbers each, and one more is tried
+packed_digits : AreBounds true digits 24 10 4 6 4 1 8
+unfolding capacity_bound least_width digits
+packed_digits =
     record { of_nodes = refl; of_families = refl; of_links = refl; of_pending = refl; of_texts = refl; of_bytes = refl }

@@ -5,13 +5,15 @@ use Rattle.pickle_types.specs.Types.{PokeType}
 use Rattle.pickle_types.specs.TypeTable.{type_named}
 use Rattle.pickle_meaning.specs.Values.{Value, Levels, no_values}
 use Rattle.mapping_plans.specs.Mapping.{plan}
+use Rattle.mapping_plans.specs.Rows.{Apart}
+use Rattle.mapping_plans.proofs.Stored.{Stores, Leaves, past_end}
 use Rattle.pickle_map.specs.Follows.{World, Done, Follows}
-use Rattle.value_store.specs.Moves.{State, moved}
+use Rattle.pickle_map.proofs.Added.{walk_stores}
+use Rattle.value_store.specs.Moves.{State}
 use Rattle.value_store.specs.Slots.{packs}
 use Rattle.value_store.specs.Takes.{Vector, of_vector}
 use Rattle.type_soundness.specs.Capacity.{capacity_bound}
 use Rattle.type_soundness.specs.CapacityLaws.{StoresTakeBound}
-use Rattle.type_soundness.proofs.Stored.{Stores, Leaves, walk_stores, past_end}
 use Rattle.type_soundness.proofs.Moving.{Added, moves_within}
 use Rattle.type_soundness.proofs.Lacking.{nothing}
 
@@ -23,7 +25,7 @@ module _ {world : World} {limit : ℕ} (m : ℕ) (ty : PokeType) (order : Order)
       let most = capacity_bound (packs world.room) vector ty m in
       let at_end = walk_stores h.walk (moves_within (packs world.room) vector m ty order levels s state) in
       let a = past_end (subst (λ p.
-      Stores (moved (packs world.room)) (λ now. of_vector vector now.now ≤ of_vector vector state.now + most)
+      Stores (packs world.room) Apart (λ now. of_vector vector now.now ≤ of_vector vector state.now + most)
       (Leaves (λ v. Added (packs world.room) vector most state) (λ last. last ≡ state)) p h.at) h.ends.0 at_end) in
       let few = a.few in
       subst (λ now. of_vector vector now.now ≤ of_vector vector state.now + most) h.ends.1 few

@@ -1,41 +1,20 @@
 -- The capacity bound of a type is at most what `room` slots take.
-use Rattle.std.proofs.Common.{◌≡◌, ℕ, zero, suc, ◌+◌, ◌*◌, ◌/◌, ◌≤◌, max, length, Bool, true, false, List, [], ◌∷◌, Option, Some, None, refl, sym, ap, subst, ◌∙◌, arith}
-use Rattle.std.specs.Prelude.{slice_get}
+use Rattle.std.proofs.Common.{◌≡◌, ℕ, zero, suc, ◌+◌, ◌*◌, ◌/◌, ◌≤◌, min, max, length, Bool, true, false, List, [], Some, refl, sym, ap, subst, ◌∙◌, arith}
 use Rattle.std.proofs.Math.Nat.{mul-le-mul_left, mul-le-mul_right}
-use Rattle.pickle_types.specs.declared.node.Field.{Field}
-use Rattle.pickle_types.specs.declared.node.Part.{Part}
-use Rattle.pickle_types.specs.declared.node.Shape.{Shape}
-use Rattle.pickle_types.specs.declared.node.Shape.TheVariants as shape
-use Rattle.pickle_types.specs.declared.node.Node.{Node}
 use Rattle.pickle_types.specs.Types.{PokeType, IntegerOf, OffsetOf, StringOf, ArrayOf, StructOf, IntegralOf, UnionOf, Fields, NoFields, FieldThen, Parts, NoParts, PartThen}
 use Rattle.pickle_types.specs.Bounds.{least_width, count_of, room, fields_room, parts_room, greatest_room}
-use Rattle.pickle_types.specs.Table.{open_fields, open_parts, open_shape, open_found, type_at, type_of, NamesBelow}
+use Rattle.pickle_types.specs.Table.{type_of}
 use Rattle.value_store.specs.Packed.{bytes_for}
 use Rattle.value_store.specs.Takes.{Vector, NodesOf, FamiliesOf, LinksOf, PendingOf, TextsOf, BytesOf}
-use Rattle.mapping_plans.specs.Rows.{Row, Apart, Numbers, Records, scalar_width, column_width, column_widths, stride_of, row_of}
+use Rattle.mapping_plans.specs.Rows.{Row, Apart, Numbers, Records, Values, scalar_width, column_width, column_widths, stride_of, row_of}
+use Rattle.mapping_plans.specs.Widths.{HasWidths, HaveWidths, PartsHaveWidths}
+use Rattle.mapping_plans.proofs.Layouts.{element_laid}
+use Rattle.mapping_plans.proofs.TableWidths.{table_widths}
 use Rattle.mapping_plans.proofs.StructRows.{both_are, column_is, packed_struct_is}
-use Rattle.type_soundness.specs.Capacity.{number_bound, string_bound, family_bound, link_bound, row_bound, records_bound, array_bound, where_rows, capacity_bound, fields_bound, parts_bound, greatest_bound, slot_takes}
+use Rattle.type_soundness.specs.Capacity.{number_bound, string_bound, family_bound, link_bound, row_bound, records_bound, values_bound, array_bound, where_rows, capacity_bound, fields_bound, parts_bound, greatest_bound, slot_takes}
 use Rattle.type_soundness.specs.CapacityLaws.{BoundsAreSlots}
+use Rattle.type_soundness.proofs.LaidSlots.{FitSlots, laid_slots}
 use Rattle.type_soundness.proofs.Packing.{packed_number_is, is_packed}
-
-unfoldable mutual
-  -- numbers of at most 64 bits
-  pub IsNarrow : PokeType → Type 0
-  IsNarrow (IntegerOf type) = type.width ≤ 64
-  IsNarrow (OffsetOf type unit) = type.width ≤ 64
-  IsNarrow StringOf = Unit {0}
-  IsNarrow (ArrayOf element bound) = IsNarrow element
-  IsNarrow (StructOf name pinned fields) = AreNarrowFields fields
-  IsNarrow (IntegralOf name type fields) = AreNarrowParts fields
-  IsNarrow (UnionOf name alternatives) = AreNarrowParts alternatives
-
-  AreNarrowFields : Fields → Type 0
-  AreNarrowFields NoFields = Unit {0}
-  AreNarrowFields (FieldThen name order type constraint label condition rest) = IsNarrow type × AreNarrowFields rest
-
-  AreNarrowParts : Parts → Type 0
-  AreNarrowParts NoParts = Unit {0}
-  AreNarrowParts (PartThen name order type constraint rest) = IsNarrow type × AreNarrowParts rest
 
 -- ---- in slots that take k each
 
@@ -47,6 +26,8 @@ pub record IsSlot (packs : Bool) (vector : Vector) (k m : ℕ) : Type 0 where
   pub row : packs ≡ true → (width count : ℕ) → width ≤ 64 → row_bound vector width count ≤ k * (1 + count * (1 + 1))
   pub records : packs ≡ true → (widths : List ℕ) (count : ℕ) → 1 ≤ count → stride_of widths ≤ 8 * length widths →
       records_bound vector widths count ≤ k * (1 + count * (2 + 2 * length widths))
+  pub values : packs ≡ true → (each : Vector → ℕ) (stride count r : ℕ) → 1 ≤ count → FitSlots each stride r →
+      values_bound vector stride count (each vector) ≤ k * (1 + count * (1 + r))
 
 members_few : (k count family link each r : ℕ) → family ≤ k → link ≤ k → each ≤ k * r →
     family + count * (link + each) ≤ k * (1 + count * (1 + r))
@@ -64,11 +45,13 @@ greatest_few k a b c d le ge =
     omega arith
 
 -- a packed number
-scalar_narrow : (m : ℕ) (type : PokeType) (width : ℕ) → scalar_width type ≡ Some width → IsNarrow type →
+scalar_narrow : (m : ℕ) (type : PokeType) (width : ℕ) → scalar_width type ≡ Some width → HasWidths type →
     (width ≤ 64) × (room type m ≡ 1)
-unfolding IsNarrow room
-scalar_narrow m (IntegerOf type) width e h = (let same : type.width ≡ width = cc in omega arith, refl)
-scalar_narrow m (OffsetOf type unit) width e h = (let same : type.width ≡ width = cc in omega arith, refl)
+unfolding HasWidths room
+scalar_narrow m (IntegerOf type) width e h =
+    let same : type.width ≡ width = cc in let few = h.most in (omega (arith, same, few), refl)
+scalar_narrow m (OffsetOf type unit) width e h =
+    let same : type.width ≡ width = cc in let few = h.0.most in (omega (arith, same, few), refl)
 scalar_narrow m StringOf width e h = absurd cc
 scalar_narrow m (ArrayOf element bound) width e h = absurd cc
 scalar_narrow m (StructOf name pinned _) width e h = absurd cc
@@ -77,8 +60,8 @@ scalar_narrow m (UnionOf name alternatives) width e h = absurd cc
 
 -- the fields of a packed struct
 columns_narrow : (m : ℕ) (fields : Fields) (widths : List ℕ) → column_widths fields ≡ Some widths →
-    AreNarrowFields fields → (stride_of widths ≤ 8 * length widths) × (fields_room fields m ≡ 2 * length widths)
-unfolding IsNarrow room
+    HaveWidths fields → (stride_of widths ≤ 8 * length widths) × (fields_room fields m ≡ 2 * length widths)
+unfolding HasWidths room
 columns_narrow m NoFields widths e h =
     let is : [] ≡ widths = cc in
     subst (λ (ws : List ℕ). (stride_of ws ≤ 8 * length ws) × (0 ≡ 2 * length ws)) is (omega arith, omega arith)
@@ -94,16 +77,16 @@ columns_narrow m (FieldThen name order type constraint label condition rest) wid
     subst (λ (ws : List ℕ). (stride_of ws ≤ 8 * length ws) × ((1 + room type m) + fields_room rest m ≡ 2 * length ws))
     (sym both.are) (omega (arith, few, low), omega (arith, here, others))
 
-struct_narrow : (m : ℕ) (type : PokeType) (widths : List ℕ) → row_of type ≡ Records widths → IsNarrow type →
+struct_narrow : (m : ℕ) (type : PokeType) (widths : List ℕ) → row_of type ≡ Records widths → HasWidths type →
     (stride_of widths ≤ 8 * length widths) × (room type m ≡ 1 + 2 * length widths)
-unfolding IsNarrow room
+unfolding HasWidths room
 struct_narrow m type widths e h =
     let r = packed_struct_is type widths e in
-    let fields = columns_narrow m r.fields widths r.wide (subst IsNarrow r.is h) in
+    let fields = columns_narrow m r.fields widths r.wide (subst HasWidths r.is h) in
     (fields.0, ap (λ (t : PokeType). room t m) r.is ∙ ap (λ n. 1 + n) fields.1)
 
 module _ (packs : Bool) (vector : Vector) (k m : ℕ) (slot : IsSlot packs vector k m) where
-  array_slots : (element : PokeType) → (packs ≡ true → IsNarrow element) → (row : Row) →
+  array_slots : (element : PokeType) → (packs ≡ true → HasWidths element) → (row : Row) →
       where_rows packs (row_of element) ≡ row → capacity_bound packs vector element m ≤ k * room element m →
       array_bound row vector (count_of m (least_width element)) (capacity_bound packs vector element m)
       ≤ k * (1 + count_of m (least_width element) * (1 + room element m))
@@ -122,21 +105,29 @@ module _ (packs : Bool) (vector : Vector) (k m : ℕ) (slot : IsSlot packs vecto
       let all : 1 + (1 + 2 * length widths) ≡ 2 + 2 * length widths = omega arith in
       subst (λ r. records_bound vector widths count ≤ k * (1 + count * (1 + r))) (sym h.1)
       (rw all (slot.records is.0 widths count (omega arith) h.0))
+  array_slots element narrow (Values stride) e le =
+      let is = is_packed packs (row_of element) (Values stride) e (λ same. cc) in
+      let l = element_laid element stride is.1 in
+      slot.values is.0 (λ kind. capacity_bound packs kind element m) stride (count_of m (least_width element))
+      (room element m) (omega arith)
+      (subst (λ bytes. FitSlots (λ kind. capacity_bound packs kind element m) bytes (room element m)) l.bytes
+      (laid_slots packs m 0 element l.layout l.laid (narrow is.0)))
 
   mutual
-    unfolding capacity_bound room IsNarrow
+    unfolding capacity_bound room HasWidths
 
-    pub in_slots : (ty : PokeType) → (packs ≡ true → IsNarrow ty) → capacity_bound packs vector ty m ≤ k * room ty m
+    pub in_slots : (ty : PokeType) → (packs ≡ true → HasWidths ty) → capacity_bound packs vector ty m ≤ k * room ty m
     in_slots (IntegerOf type) h = let f = slot.number in omega arith
     in_slots (OffsetOf type unit) h = let f = slot.number in omega arith
     in_slots StringOf h = slot.string
     in_slots (ArrayOf element bound) h =
         array_slots element h (where_rows packs (row_of element)) refl (in_slots element h)
     in_slots (StructOf name pinned fields) h = let f = slot.family in let i = fields_slots fields h in omega arith
-    in_slots (IntegralOf name type fields) h = let f = slot.family in let i = parts_slots fields h in omega arith
+    in_slots (IntegralOf name type fields) h =
+        let f = slot.family in let i = parts_slots fields (λ e. (h e).1) in omega arith
     in_slots (UnionOf name alternatives) h = let f = slot.family in let i = greatest_slots alternatives h in omega arith
 
-    fields_slots : (fields : Fields) → (packs ≡ true → AreNarrowFields fields) →
+    fields_slots : (fields : Fields) → (packs ≡ true → HaveWidths fields) →
         fields_bound packs vector fields m ≤ k * fields_room fields m
     fields_slots NoFields h = omega arith
     fields_slots (FieldThen name order type constraint label condition rest) h =
@@ -145,7 +136,7 @@ module _ (packs : Bool) (vector : Vector) (k m : ℕ) (slot : IsSlot packs vecto
         let j = fields_slots rest (λ e. (h e).1) in
         omega arith
 
-    parts_slots : (parts : Parts) → (packs ≡ true → AreNarrowParts parts) →
+    parts_slots : (parts : Parts) → (packs ≡ true → PartsHaveWidths parts) →
         parts_bound packs vector parts m ≤ k * parts_room parts m
     parts_slots NoParts h = omega arith
     parts_slots (PartThen name order type constraint rest) h =
@@ -154,7 +145,7 @@ module _ (packs : Bool) (vector : Vector) (k m : ℕ) (slot : IsSlot packs vecto
         let j = parts_slots rest (λ e. (h e).1) in
         omega arith
 
-    greatest_slots : (parts : Parts) → (packs ≡ true → AreNarrowParts parts) →
+    greatest_slots : (parts : Parts) → (packs ≡ true → PartsHaveWidths parts) →
         greatest_bound packs vector parts m ≤ k * greatest_room parts m
     greatest_slots NoParts h = omega arith
     greatest_slots (PartThen name order type constraint rest) h =
@@ -182,6 +173,38 @@ records_slots : (vector : Vector) (widths : List ℕ) (count : ℕ) → 1 ≤ co
 records_slots BytesOf widths count some le = let all = mul-le-mul_right count le in omega arith
 records_slots vector widths count some le = let all = mul-le-mul_left (2 + 2 * length widths) some in omega arith
 
+-- values that are there as others are: two at most for one try, and three for more
+few_values : (count e r : ℕ) → 1 ≤ count → 2 * e ≤ r + 1 → min 3 (count + 1) * e ≤ count * (1 + r)
+few_values zero e r some le = absurd (omega (arith, some))
+few_values (suc zero) e r some le =
+    let two : min 3 (suc zero + 1) ≤ 2 = omega arith in
+    let all = mul-le-mul_right e two in
+    omega (arith, all, le)
+few_values (suc (suc n)) e r some le =
+    let three : min 3 (suc (suc n) + 1) ≤ 3 = omega arith in
+    let all = mul-le-mul_right e three in
+    let tries : 2 ≤ suc (suc n) = omega arith in
+    let more = mul-le-mul_right (1 + r) tries in
+    omega (arith, all, more, le)
+
+values_slots : (vector : Vector) (each : Vector → ℕ) (stride count r : ℕ) → 1 ≤ count → FitSlots each stride r →
+    values_bound vector stride count (each vector) ≤ slot_takes vector * (1 + count * (1 + r))
+values_slots NodesOf each stride count r some f =
+    let few = few_values count (each NodesOf) r some f.nodes in omega (arith, few)
+values_slots FamiliesOf each stride count r some f =
+    let few = few_values count (each FamiliesOf) r some f.families in omega (arith, few)
+values_slots LinksOf each stride count r some f =
+    let links = f.links in
+    let few = few_values count (each LinksOf) r some (omega (arith, links)) in
+    omega (arith, few)
+values_slots PendingOf each stride count r some f =
+    let pending = f.pending in
+    let all = mul-le-mul_right (1 + r) some in
+    omega (arith, pending, all)
+values_slots TextsOf each stride count r some f = omega arith
+values_slots BytesOf each stride count r some f =
+    let all = mul-le-mul_right count f.bytes in omega (arith, all)
+
 vector_slot : (packs : Bool) (vector : Vector) (m : ℕ) → IsSlot packs vector (slot_takes vector) m
 vector_slot packs NodesOf m = record {
   number = omega arith;
@@ -190,6 +213,7 @@ vector_slot packs NodesOf m = record {
   link = omega arith;
   row = λ e. row_slots NodesOf;
   records = λ e. records_slots NodesOf;
+  values = λ e. values_slots NodesOf;
 }
 vector_slot packs FamiliesOf m = record {
   number = omega arith;
@@ -198,6 +222,7 @@ vector_slot packs FamiliesOf m = record {
   link = omega arith;
   row = λ e. row_slots FamiliesOf;
   records = λ e. records_slots FamiliesOf;
+  values = λ e. values_slots FamiliesOf;
 }
 vector_slot packs LinksOf m = record {
   number = omega arith;
@@ -206,6 +231,7 @@ vector_slot packs LinksOf m = record {
   link = omega arith;
   row = λ e. row_slots LinksOf;
   records = λ e. records_slots LinksOf;
+  values = λ e. values_slots LinksOf;
 }
 vector_slot packs PendingOf m = record {
   number = omega arith;
@@ -214,6 +240,7 @@ vector_slot packs PendingOf m = record {
   link = omega arith;
   row = λ e. row_slots PendingOf;
   records = λ e. records_slots PendingOf;
+  values = λ e. values_slots PendingOf;
 }
 vector_slot packs TextsOf m = record {
   number = omega arith;
@@ -222,6 +249,7 @@ vector_slot packs TextsOf m = record {
   link = omega arith;
   row = λ e. row_slots TextsOf;
   records = λ e. records_slots TextsOf;
+  values = λ e. values_slots TextsOf;
 }
 vector_slot packs BytesOf m = record {
   number = omega arith;
@@ -230,6 +258,7 @@ vector_slot packs BytesOf m = record {
   link = omega arith;
   row = λ e. row_slots BytesOf;
   records = λ e. records_slots BytesOf;
+  values = λ e. values_slots BytesOf;
 }
 
 -- where nothing is packed, a slot of any kind takes one entry
@@ -241,6 +270,7 @@ one_slot NodesOf m = record {
   link = omega arith;
   row = λ e width count le. absurd cc;
   records = λ e widths count some le. absurd cc;
+  values = λ e each stride count r some fit. absurd cc;
 }
 one_slot FamiliesOf m = record {
   number = omega arith;
@@ -249,6 +279,7 @@ one_slot FamiliesOf m = record {
   link = omega arith;
   row = λ e width count le. absurd cc;
   records = λ e widths count some le. absurd cc;
+  values = λ e each stride count r some fit. absurd cc;
 }
 one_slot LinksOf m = record {
   number = omega arith;
@@ -257,6 +288,7 @@ one_slot LinksOf m = record {
   link = omega arith;
   row = λ e width count le. absurd cc;
   records = λ e widths count some le. absurd cc;
+  values = λ e each stride count r some fit. absurd cc;
 }
 one_slot PendingOf m = record {
   number = omega arith;
@@ -265,6 +297,7 @@ one_slot PendingOf m = record {
   link = omega arith;
   row = λ e width count le. absurd cc;
   records = λ e widths count some le. absurd cc;
+  values = λ e each stride count r some fit. absurd cc;
 }
 one_slot TextsOf m = record {
   number = omega arith;
@@ -273,6 +306,7 @@ one_slot TextsOf m = record {
   link = omega arith;
   row = λ e width count le. absurd cc;
   records = λ e widths count some le. absurd cc;
+  values = λ e each stride count r some fit. absurd cc;
 }
 one_slot BytesOf m = record {
   number = omega arith;
@@ -281,52 +315,13 @@ one_slot BytesOf m = record {
   link = omega arith;
   row = λ e width count le. absurd cc;
   records = λ e widths count some le. absurd cc;
+  values = λ e each stride count r some fit. absurd cc;
 }
 
 pub unpacked_slots : (vector : Vector) (ty : PokeType) (m : ℕ) → capacity_bound false vector ty m ≤ room ty m
 unpacked_slots vector ty m = let h = in_slots false vector 1 m (one_slot vector m) ty (λ e. absurd cc) in omega arith
 
--- ---- the types of a table
-
-module _ (at : ℕ → PokeType) (narrow : (i : ℕ) → IsNarrow (at i)) where
-  narrow_fields : (fields : List Field) → AreNarrowFields (open_fields at fields)
-  unfolding IsNarrow
-  narrow_fields [] = tt
-  narrow_fields (f ∷ rest) = (narrow f.node, narrow_fields rest)
-
-  narrow_parts : (parts : List Part) → AreNarrowParts (open_parts at parts)
-  unfolding IsNarrow
-  narrow_parts [] = tt
-  narrow_parts (p ∷ rest) = (narrow p.node, narrow_parts rest)
-
-  narrow_shape : (i : ℕ) (s : Shape) → NamesBelow i s → IsNarrow (open_shape at s)
-  unfolding IsNarrow
-  narrow_shape i (shape.Integer type) h = h.most
-  narrow_shape i (shape.Offset type unit) h = h.0.most
-  narrow_shape i shape.String h = tt
-  narrow_shape i (shape.Array element bound) h = narrow element
-  narrow_shape i (shape.Struct name pinned fields) h = narrow_fields fields.items
-  narrow_shape i (shape.Integral name number fields) h = narrow_parts fields.items
-  narrow_shape i (shape.Union name alternatives) h = narrow_parts alternatives.items
-
-  narrow_found : (i : ℕ) (o : Option Node) → ((node : Node) → o ≡ Some node → NamesBelow i node.shape) →
-      IsNarrow (open_found at o)
-  unfolding IsNarrow
-  narrow_found i None h = tt
-  narrow_found i (Some node) h = narrow_shape i node.shape (h node refl)
-
-narrow_at : (nodes : List Node) → ((i : ℕ) (node : Node) → slice_get nodes i ≡ Some node → NamesBelow i node.shape) →
-    (d i : ℕ) → IsNarrow (type_at nodes d i)
-unfolding type_at IsNarrow
-narrow_at nodes h zero i = tt
-narrow_at nodes h (suc d) i = narrow_found (type_at nodes d) (narrow_at nodes h d) i (slice_get nodes i) (h i)
-
-narrow_type : (nodes : List Node) → ((i : ℕ) (node : Node) → slice_get nodes i ≡ Some node → NamesBelow i node.shape) →
-    (i : ℕ) → IsNarrow (type_of nodes i)
-unfolding type_of
-narrow_type nodes h i = narrow_at nodes h (suc i) i
-
 pub bounds_in_slots : BoundsAreSlots
 bounds_in_slots table id packs vector m =
     in_slots packs vector (slot_takes vector) m (vector_slot packs vector m) (type_of table.nodes.items id.node)
-    (λ e. narrow_type table.nodes.items table.sound.below id.node)
+    (λ e. table_widths table.nodes.items table.sound.below id.node)

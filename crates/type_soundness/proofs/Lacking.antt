@@ -6,14 +6,16 @@ use Rattle.pickle_types.specs.TypeTable.{type_named}
 use Rattle.pickle_meaning.specs.Values.{Levels, no_values}
 use Rattle.mapping_plans.specs.Plan.{Plan, Ended, Tick, Made, Read}
 use Rattle.mapping_plans.specs.Mapping.{plan}
+use Rattle.mapping_plans.specs.Rows.{Apart}
+use Rattle.mapping_plans.proofs.Stored.{Stores, Leaves, now_made}
 use Rattle.pickle_map.specs.Follows.{World, NoRoom, NeedsRoom, Follows}
 use Rattle.pickle_map.specs.Mapped.{fault_finish, RunsTo}
-use Rattle.value_store.specs.Moves.{State, moved}
+use Rattle.pickle_map.proofs.Added.{walk_stores}
+use Rattle.value_store.specs.Moves.{State}
 use Rattle.value_store.specs.Slots.{packs, root_marks}
 use Rattle.value_store.specs.Takes.{Vector, NodesOf, FamiliesOf, LinksOf, PendingOf, TextsOf, BytesOf, of_vector}
 use Rattle.type_soundness.specs.Capacity.{capacity_bound}
 use Rattle.type_soundness.specs.CapacityLaws.{MemoryLacksCapacity}
-use Rattle.type_soundness.proofs.Stored.{Stores, Leaves, walk_stores, now_made}
 use Rattle.type_soundness.proofs.Moving.{Added, moves_within}
 
 -- some vector has less capacity than so much
@@ -24,7 +26,7 @@ Lacks world most = (vector : Vector) × (of_vector vector world.before < most ve
 lacking : {A : Type 0} {Q : Vector → A → State → Type 0} (world : World) (most : Vector → ℕ) (q : Plan A)
     (state : State) → NeedsRoom world state q →
     ((vector : Vector) →
-    Stores (moved (packs world.room)) (λ now. of_vector vector now.now ≤ most vector) (Q vector) q state) →
+    Stores (packs world.room) Apart (λ now. of_vector vector now.now ≤ most vector) (Q vector) q state) →
     Lacks world most
 lacking world most (Ended a) state h l = absurd h
 lacking world most (Tick p) state h l = absurd h

@@ -13,16 +13,18 @@ use Rattle.pickle_meaning.specs.Values.{Naming, Value, end_of, Levels, pushed, o
 use Rattle.pickle_meaning.specs.Clauses.{FaultAt, condition, field_start, extent_of, is_due, is_met, ends_before, misses}
 use Rattle.pickle_meaning.specs.Means.{Opened, Taken, number_type, width_in, first_digits, ordered, field_names, part_names, struct_value}
 use Rattle.mapping_plans.specs.Plan.{Plan, Ended, Read, in_row, then_ok}
-use Rattle.mapping_plans.specs.Mapping.{makes, closes, constrained, number_plan, digits_plan, read_plan, after_byte, text_plan, after_element, array_move, element_plan, elements_plan, after_attempt, array_closes, plan, fields_plan, alternatives_plan}
-use Rattle.mapping_plans.specs.Rows.{Row, Apart, Numbers, Records, row_of}
+use Rattle.mapping_plans.specs.Mapping.{makes, closes, constrained, number_plan, digits_plan, read_plan, after_byte, text_plan, then_packed, after_element, array_move, element_plan, elements_plan, after_attempt, array_closes, plan, fields_plan, alternatives_plan}
+use Rattle.mapping_plans.specs.Rows.{Row, Apart, Numbers, Records, Values, row_of}
 use Rattle.mapping_plans.proofs.Fitting.{longer}
 use Rattle.value_store.specs.declared.store.slots.Marks.{Marks}
-use Rattle.value_store.specs.Moves.{Opens, Clears, Places, Leaves as LeavesOut, Closes, Writes, Ends, ClosesRow, State, moved, with_number, with_text, with_links}
+use Rattle.value_store.specs.Moves.{Opens, Clears, Places, Leaves as LeavesOut, Closes, Writes, Ends, ClosesRow, State, moved, needed, with_number, with_text, with_links}
 use Rattle.value_store.specs.Slots.{innermost, around}
 use Rattle.value_store.specs.Takes.{Vector, NodesOf, FamiliesOf, LinksOf, PendingOf, TextsOf, BytesOf, of_vector}
-use Rattle.type_soundness.specs.Capacity.{number_bound, string_bound, family_bound, link_bound, array_bound, where_rows, capacity_bound, fields_bound, parts_bound, greatest_bound}
-use Rattle.type_soundness.proofs.Stored.{Stores, at_end, at_tick, at_made, at_read, Leaves, weaker_stores, then_stores, ok_stores, told_stores, one_stores, inside_stores, checked_stores, framed_stores, row_stores, apart_stores}
-use Rattle.type_soundness.proofs.Packing.{is_packed, closed_row, row_pending, IsPacked, none_packed, packed_elements}
+use Rattle.type_soundness.specs.Capacity.{number_bound, string_bound, family_bound, link_bound, array_bound, values_bound, where_rows, capacity_bound, fields_bound, parts_bound, greatest_bound}
+use Rattle.mapping_plans.proofs.Stored.{Stores, at_end, at_tick, at_made, at_read, Leaves, weaker_stores, then_stores, ok_stores, told_stores, one_stores, inside_stores, checked_stores, framed_stores, row_stores, apart_stores}
+use Rattle.type_soundness.proofs.Places.{place_bound}
+use Rattle.type_soundness.proofs.Packing.{PacksNumbers, is_packed, closed_row, row_pending, IsPacked, none_packed, packed_elements}
+use Rattle.type_soundness.proofs.ValueArrays.{IsMember, value_array}
 
 -- ---- lengths
 
@@ -62,23 +64,6 @@ number_size PendingOf n = omega arith
 number_size TextsOf n = omega arith
 number_size BytesOf n = omega arith
 
-array_place : (row : Row) (count each : ℕ) → 1 ≤ array_bound row PendingOf count each
-array_place Apart count each = omega arith
-array_place (Numbers width) count each = omega arith
-array_place (Records widths) count each = omega arith
-
--- a value has a place in its frame
-pub place_bound : (packing : Bool) (ty : PokeType) (m : ℕ) → 1 ≤ capacity_bound packing PendingOf ty m
-unfolding capacity_bound
-place_bound packing (IntegerOf type) m = omega arith
-place_bound packing (OffsetOf type unit) m = omega arith
-place_bound packing StringOf m = omega arith
-place_bound packing (ArrayOf element bound) m = array_place (where_rows packing (row_of element))
-    (count_of m (least_width element)) (capacity_bound packing PendingOf element m)
-place_bound packing (StructOf name pinned _) m = omega arith
-place_bound packing (IntegralOf name type _) m = omega arith
-place_bound packing (UnionOf name alternatives) m = omega arith
-
 -- an absent member takes at most what one of the type does
 absent_size : (packing : Bool) (vector : Vector) (ty : PokeType) (m : ℕ) (n : Marks) →
     of_vector vector (record n { pending = n.pending + 1 }) ≤ of_vector vector n + capacity_bound packing vector ty m
@@ -113,13 +98,20 @@ text_size BytesOf k bytes m le = omega (arith, le)
 -- ---- elements
 
 -- one that isn't packed
-apart_row : (packing : Bool) (row : Row) → where_rows packing row ≡ Apart →
-    {A : Type 0} {M : State → Type 0} {Q : A → State → Type 0} {p : Plan A} {state : State} →
-    Stores (moved packing) M Q p state → Stores (moved packing) M Q (in_row row p) state
-apart_row false row e h = row_stores false row (apart_stores row h)
-apart_row true Apart e h = h
-apart_row true (Numbers width) e h = absurd cc
-apart_row true (Records widths) e h = absurd cc
+apart_row : (packing : Bool) (row : Row) → where_rows packing row ≡ Apart → (levels : Levels) {M : State → Type 0}
+    {Q : Value → State → Type 0} {E : State → Type 0} → ((v : Value) (last : State) → Q v last → M last) →
+    {p : Plan (Result Value FaultAt)} {state : State} → Stores packing Apart M (Leaves Q E) p state →
+    Stores packing Apart M (Leaves Q E) (then_packed row levels (in_row row p)) state
+apart_row false Apart e levels within h = h
+apart_row false (Numbers width) e levels within h = row_stores false (Numbers width) (apart_stores (Numbers width) h)
+apart_row false (Records widths) e levels within h =
+    row_stores false (Records widths) (apart_stores (Records widths) h)
+apart_row false (Values stride) e levels {Q} {E} within h =
+    ok_stores {P = Q} {Q = Q} {E = E} _ (λ v last q. at_made (within v last q) (at_end q)) h
+apart_row true Apart e levels within h = h
+apart_row true (Numbers width) e levels within h = absurd cc
+apart_row true (Records widths) e levels within h = absurd cc
+apart_row true (Values stride) e levels within h = absurd cc
 
 -- the array of them is closed as a frame is
 apart_closes : (packing : Bool) (row : Row) → where_rows packing row ≡ Apart → (state : State) →
@@ -127,15 +119,45 @@ apart_closes : (packing : Bool) (row : Row) → where_rows packing row ≡ Apart
 apart_closes false Apart e state = refl
 apart_closes false (Numbers width) e state = refl
 apart_closes false (Records widths) e state = refl
+apart_closes false (Values stride) e state = refl
 apart_closes true Apart e state = refl
 apart_closes true (Numbers width) e state = absurd cc
 apart_closes true (Records widths) e state = absurd cc
+apart_closes true (Values stride) e state = absurd cc
 
 -- and one of packed elements in its own way
-packed_closes : (row : Row) → (row ≡ Apart → ⊥) → array_move row ≡ ClosesRow
-packed_closes Apart other = absurd (other refl)
+packed_closes : (row : Row) → PacksNumbers row → array_move row ≡ ClosesRow
+packed_closes Apart other = absurd other
 packed_closes (Numbers width) other = refl
 packed_closes (Records widths) other = refl
+packed_closes (Values stride) other = refl
+
+-- what closes an array needs as much on its way as there is then
+closes_needs : (packing : Bool) (row : Row) (state : State) →
+    needed packing (array_move row) state ≡ moved packing (array_move row) state
+closes_needs packing Apart state = refl
+closes_needs packing (Numbers width) state = refl
+closes_needs packing (Records widths) state = refl
+closes_needs packing (Values stride) state = refl
+
+-- an array whose elements are packed as values of fixed layout
+values_stores : (packing : Bool) (vector : Vector) (b m : ℕ) (element : PokeType) (order : Order) (stride : ℕ) →
+    packing ≡ true → row_of element ≡ Values stride →
+    ((l : Levels) (at : ℕ) (now : State) → of_vector vector now.now + capacity_bound packing vector element m ≤ b →
+    Stores packing Apart (λ now. of_vector vector now.now ≤ b) (Leaves
+    (λ v last. of_vector vector last.now ≤ of_vector vector now.now + capacity_bound packing vector element m)
+    (λ last. last ≡ now)) (plan m element order l at) now) → (state : State) →
+    of_vector vector state.now
+    + values_bound vector stride (count_of m (least_width element)) (capacity_bound packing vector element m) ≤ b →
+    (extent : Extent) (levels : Levels) (s : ℕ) →
+    Stores packing Apart (λ now. of_vector vector now.now ≤ b) (Leaves (λ v. IsMember vector
+    (values_bound vector stride (count_of m (least_width element)) (capacity_bound packing vector element m)) state)
+    (λ last. last.frames ≡ state.now ∷ state.frames)) (then_ok
+    (elements_plan (element_plan element (plan m element order)) m s extent (count_of m (least_width element)) 0
+    (opened levels) s) (array_closes element s)) (moved packing Opens state)
+values_stores true vector b m element order stride e row maps state room extent levels s =
+    value_array vector b m element order stride row maps state room extent levels s
+values_stores false vector b m element order stride e row maps state room extent levels s = absurd cc
 
 module _ (packing : Bool) (vector : Vector) where
   abbrev size : State → ℕ
@@ -207,7 +229,7 @@ module _ (packing : Bool) (vector : Vector) where
 
     abbrev Keeps : {A : Type 0} → (Q : A → State → Type 0) → (E : State → Type 0) →
         Plan (Result A FaultAt) → State → Type 0
-    Keeps Q E p state = Stores (moved packing) Within (Leaves Q E) p state
+    Keeps Q E p state = Stores packing Apart Within (Leaves Q E) p state
 
     abbrev most : PokeType → ℕ
     most ty = capacity_bound packing vector ty m
@@ -236,7 +258,7 @@ module _ (packing : Bool) (vector : Vector) where
         {p : Plan (Result Value FaultAt)} → Keeps (λ v. Added n state) (λ last. last ≡ state) p state →
         Keeps (λ v. Added n state) (Framed state) (then_ok p (constrained c levels at)) state
     valued_stores n c levels at state h =
-        checked_stores {Q = Added n state} {E = Framed state} (λ last a. a.frames) c levels at refl h
+        checked_stores {Q = λ v. Added n state} {E = Framed state} (λ v last a. a.frames) c levels at refl h
 
     -- ---- strings
 
@@ -339,6 +361,23 @@ module _ (packing : Bool) (vector : Vector) where
         less (Ok u) last h = less_grown ((link + c) + n * (link + c)) (suc n * (link + c)) (omega arith) state last h
         less (Err f) last h = h
 
+    -- what a value grew by
+    within_added : (n : ℕ) (now : State) → size now + n ≤ b → (v : Value) (last : State) →
+        Added n now last → Within last
+    within_added n now up v last a = let few = a.few in omega (arith, few, up)
+
+    few_added : (n : ℕ) (now : State) (r : Result Value FaultAt) (last : State) →
+        Leaves (λ v. Added n now) (λ last. last ≡ now) r last →
+        Leaves (λ v last. size last ≤ size now + n) (λ last. last ≡ now) r last
+    few_added n now (Ok v) last a = a.few
+    few_added n now (Err f) last same = same
+
+    member_added : (n : ℕ) (now : State) (r : Result Value FaultAt) (last : State) →
+        Leaves (λ v. IsMember vector n now) (Framed (moved packing Opens now)) r last →
+        Leaves (λ v. Added n now) (Framed (moved packing Opens now)) r last
+    member_added n now (Ok v) last h = record { frames = h.frames; few = h.few; one = h.one }
+    member_added n now (Err f) last h = h
+
     -- all elements, and the end of the array
     abbrev array_plan : PokeType → Order → Extent → Levels → (s : ℕ) → Plan (Result Value FaultAt)
     array_plan element order extent levels s = then_ok
@@ -347,7 +386,7 @@ module _ (packing : Bool) (vector : Vector) where
 
     -- in a store that packs them
     packed_stores : (element : PokeType) (order : Order) (extent : Extent) (levels : Levels) (s : ℕ) (state : State) →
-        packing ≡ true → (row_of element ≡ Apart → ⊥) →
+        packing ≡ true → PacksNumbers (row_of element) →
         size state + array_bound (row_of element) vector (tries element) (most element) ≤ b →
         Keeps (λ v. Added (array_bound (row_of element) vector (tries element) (most element)) state)
         (Framed (moved packing Opens state)) (array_plan element order extent levels s) (moved packing Opens state)
@@ -357,7 +396,7 @@ module _ (packing : Bool) (vector : Vector) where
         let each = most element in
         let start : State = moved true Opens state in
         subst (λ packs.
-        Stores (moved packs) Within (Leaves (λ v. Added (array_bound row vector count each) state) (Framed start))
+        Stores packs Apart Within (Leaves (λ v. Added (array_bound row vector count each) state) (Framed start))
         (array_plan element order extent levels s) start) (sym e)
         (ok_stores {P = λ r. IsPacked row count state} {Q = λ v. Added (array_bound row vector count each) state}
         {E = Framed start} _
@@ -370,21 +409,22 @@ module _ (packing : Bool) (vector : Vector) where
         let a = subst (λ move. Added (array_bound row vector count each) state (moved true move last))
         (sym (packed_closes row other)) a in
         let few = a.few in
-        at_made (omega (arith, few, le)) (at_end a))
+        let here : size (moved true (array_move row) last) ≤ b = omega (arith, few, le) in
+        at_made (subst Within (sym (closes_needs true row last)) here) (at_end a))
         (packed_elements vector b m element other order count each s extent state le count 0 0 (opened levels) s start
         (none_packed row 0 state) (omega arith)))
 
     packed_row : (element : PokeType) (order : Order) (extent : Extent) (levels : Levels) (s : ℕ) (state : State)
-        (row : Row) → where_rows packing (row_of element) ≡ row → (row ≡ Apart → ⊥) →
+        (row : Row) → where_rows packing (row_of element) ≡ row → (row ≡ Apart → ⊥) → PacksNumbers row →
         size state + array_bound row vector (tries element) (most element) ≤ b →
         Keeps (λ v. Added (array_bound row vector (tries element) (most element)) state)
         (Framed (moved packing Opens state)) (array_plan element order extent levels s) (moved packing Opens state)
-    packed_row element order extent levels s state row e other le =
+    packed_row element order extent levels s state row e other numbers le =
         let is = is_packed packing (row_of element) row e other in
         subst (λ kept. Keeps (λ v. Added (array_bound kept vector (tries element) (most element)) state)
         (Framed (moved packing Opens state)) (array_plan element order extent levels s) (moved packing Opens state))
         is.1
-        (packed_stores element order extent levels s state is.0 (λ same. other (sym is.1 ∙ same))
+        (packed_stores element order extent levels s state is.0 (subst PacksNumbers (sym is.1) numbers)
         (subst (λ kept. size state + array_bound kept vector (tries element) (most element) ≤ b) (sym is.1) le))
 
     array_stores : (element : PokeType) (order : Order) →
@@ -402,17 +442,23 @@ module _ (packing : Bool) (vector : Vector) where
         {Q = λ v. Added (family + tries element * (link + most element)) state} {E = Framed start} _
         (λ r last grown.
         let a = closed_adds (tries element * (link + most element)) state last grown in
-        let a = subst (Added (family + tries element * (link + most element)) state)
-        (sym (apart_closes packing (row_of element) e last)) a in
         let few = a.few in
-        at_made (omega (arith, few, le)) (at_end a))
+        let here : size (moved packing Closes last) ≤ b = omega (arith, few, le) in
+        let same = apart_closes packing (row_of element) e last in
+        at_made (subst Within (sym (closes_needs packing (row_of element) last ∙ same)) here)
+        (at_end (subst (Added (family + tries element * (link + most element)) state) (sym same) a)))
         (elements_stores (most element) s extent (element_plan element (plan m element order))
-        (λ l p now up. apart_row packing (row_of element) e (g l p now up)) (tries element) 0 (opened levels) s start
-        (omega (arith, none, le)))
+        (λ l p now up. apart_row packing (row_of element) e l (within_added (most element) now up) (g l p now up))
+        (tries element) 0 (opened levels) s start (omega (arith, none, le)))
     array_stores element order g extent levels s state (Numbers width) e le =
-        packed_row element order extent levels s state (Numbers width) e (λ same. cc) le
+        packed_row element order extent levels s state (Numbers width) e (λ same. cc) tt le
     array_stores element order g extent levels s state (Records widths) e le =
-        packed_row element order extent levels s state (Records widths) e (λ same. cc) le
+        packed_row element order extent levels s state (Records widths) e (λ same. cc) tt le
+    array_stores element order g extent levels s state (Values stride) e le =
+        let is = is_packed packing (row_of element) (Values stride) e (λ same. cc) in
+        weaker_stores (member_added (values_bound vector stride (tries element) (most element)) state)
+        (values_stores packing vector b m element order stride is.0 is.1
+        (λ l at now up. weaker_stores (few_added (most element) now) (g l at now up)) state le extent levels s)
 
     -- ---- unions
 
@@ -452,7 +498,7 @@ module _ (packing : Bool) (vector : Vector) where
       number_stores (IntegralOf name type fields) n levels s state le =
           let none = none_of vector state.now.pending in
           let start : State = moved packing Opens state in
-          framed_stores {Q = λ v. Added (family + parts_most fields) state} (λ last. refl) levels
+          framed_stores {Q = λ v. Added (family + parts_most fields) state} levels
           (omega (arith, le)) (omega (arith, le))
           (ok_stores {P = λ r. Grown (parts_most fields) start} {Q = λ v. Added (family + parts_most fields) state}
           {E = Framed start} _
@@ -495,13 +541,13 @@ module _ (packing : Bool) (vector : Vector) where
           inside_stores m s refl (read_stores (OffsetOf type unit) type order levels s state le)
       plan_stores StringOf order levels s state le =
           inside_stores m s refl (at_tick (framed_stores {Q = λ v. Added (string_bound vector m) state}
-          (λ last. refl) levels (omega (arith, le)) (omega (arith, le))
+          levels (omega (arith, le)) (omega (arith, le))
           (text_stores state le (m / 8 + 1) [] levels s s (moved packing Opens state) (omega arith)
           (record { frames = refl; few = omega arith }) (omega arith))))
       plan_stores (ArrayOf element bound) order levels s state le =
           inside_stores m s refl (at_tick (told_stores {Q = λ v. Added (most (ArrayOf element bound)) state}
           {E = λ last. last ≡ state} _ (extent_of bound levels s) _ refl
-          (λ extent. framed_stores {Q = λ v. Added (most (ArrayOf element bound)) state} (λ last. refl) levels
+          (λ extent. framed_stores {Q = λ v. Added (most (ArrayOf element bound)) state} levels
           (omega (arith, le)) (omega (arith, le))
           (array_stores element order (λ l p now up. plan_stores element order l p now up) extent levels s state
           (where_rows packing (row_of element)) refl le))))
@@ -509,7 +555,7 @@ module _ (packing : Bool) (vector : Vector) where
           let none = none_of vector state.now.pending in
           let start : State = moved packing Opens state in
           inside_stores m s refl (at_tick (framed_stores {Q = λ v. Added (family + fields_most fields) state}
-          (λ last. refl) levels (omega (arith, le)) (omega (arith, le))
+          levels (omega (arith, le)) (omega (arith, le))
           (ok_stores {P = λ r. Grown (fields_most fields) start} {Q = λ v. Added (family + fields_most fields) state}
           {E = Framed start} _
           (λ r last grown.
@@ -521,7 +567,7 @@ module _ (packing : Bool) (vector : Vector) where
           let none = none_of vector state.now.pending in
           let start : State = moved packing Opens state in
           inside_stores m s refl (at_tick (framed_stores {Q = λ v. Added (family + greatest alternatives) state}
-          (λ last. refl) levels (omega (arith, le)) (omega (arith, le))
+          levels (omega (arith, le)) (omega (arith, le))
           (ok_stores {P = λ t. Grown (greatest alternatives) start}
           {Q = λ v. Added (family + greatest alternatives) state} {E = Framed start} _
           (λ t last grown.
@@ -581,7 +627,7 @@ module _ (packing : Bool) (vector : Vector) where
 -- on the way a vector takes at most the type's bound more than it did before
 pub moves_within : (packing : Bool) (vector : Vector) (m : ℕ) (ty : PokeType) (order : Order) (levels : Levels)
     (s : ℕ) (state : State) →
-    Stores (moved packing)
+    Stores packing Apart
     (λ now. of_vector vector now.now ≤ of_vector vector state.now + capacity_bound packing vector ty m)
     (Leaves (λ v. Added packing vector (capacity_bound packing vector ty m) state) (λ last. last ≡ state))
     (plan m ty order levels s) state

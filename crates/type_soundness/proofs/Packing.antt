@@ -10,17 +10,17 @@ use Rattle.pickle_meaning.specs.declared.extent.Extent.{Extent}
 use Rattle.pickle_meaning.specs.Values.{Naming, Value, end_of, Levels, pushed, opened}
 use Rattle.pickle_meaning.specs.Clauses.{FaultAt, condition, field_start, is_due, is_met, ends_before}
 use Rattle.pickle_meaning.specs.Means.{Opened, ordered}
-use Rattle.mapping_plans.specs.Plan.{Plan}
-use Rattle.mapping_plans.specs.Mapping.{number_plan, read_plan, after_element, element_plan, elements_plan, plan, fields_plan}
-use Rattle.mapping_plans.specs.Rows.{Row, Apart, Numbers, Records, scalar_width, column_width, column_widths, stride_of, records_of, struct_row, row_of}
+use Rattle.mapping_plans.specs.Plan.{Plan, packed, in_row}
+use Rattle.mapping_plans.specs.Mapping.{number_plan, read_plan, then_packed, after_element, element_plan, elements_plan, plan, fields_plan}
+use Rattle.mapping_plans.specs.Rows.{Row, Apart, Numbers, Records, Values, Layout, scalar_width, column_width, column_widths, stride_of, records_of, struct_row, layout_of, or_values, row_of}
 use Rattle.mapping_plans.proofs.StructRows.{both_are, column_is, packed_struct_is}
 use Rattle.value_store.specs.declared.store.slots.Marks.{Marks}
-use Rattle.value_store.specs.Moves.{Opens, Places, Closes, Packs, State, moved, with_text, with_links, with_structs, with_struct, with_row}
+use Rattle.value_store.specs.Moves.{Move, Opens, Places, Closes, Packs, State, moved, needed, with_text, with_links, with_structs, with_struct, with_row}
 use Rattle.value_store.specs.Packed.{bytes_for}
 use Rattle.value_store.specs.Slots.{innermost, around}
 use Rattle.value_store.specs.Takes.{Vector, NodesOf, LinksOf, BytesOf, of_vector}
 use Rattle.type_soundness.specs.Capacity.{family_bound, row_bound, records_bound, array_bound, where_rows}
-use Rattle.type_soundness.proofs.Stored.{Change, Stores, at_end, at_tick, at_made, at_read, Leaves, then_stores, known_stores, ok_stores, one_stores, inside_stores, checked_stores, framed_stores, element_moved, row_stores}
+use Rattle.mapping_plans.proofs.Stored.{Stores, at_end, at_tick, at_made, at_read, Leaves, then_stores, known_stores, ok_stores, one_stores, inside_stores, checked_stores, framed_stores, row_stores}
 
 -- ---- rows
 
@@ -39,14 +39,27 @@ struct_numbers : (pinned : Bool) (fields : Fields) (width : ℕ) → struct_row 
 struct_numbers true _ width e = cc
 struct_numbers false fields width e = records_numbers (column_widths fields) width e
 
+apart_numbers : (own : Option Layout) (width : ℕ) → or_values Apart own ≡ Numbers width → ⊥
+apart_numbers None width e = cc
+apart_numbers (Some own) width e = cc
+
+numbers_first : (row : Row) (own : Option Layout) (width : ℕ) → or_values row own ≡ Numbers width → row ≡ Numbers width
+numbers_first Apart own width e = absurd (apart_numbers own width e)
+numbers_first (Numbers given) own width e = e
+numbers_first (Records widths) own width e = e
+numbers_first (Values stride) own width e = e
+
 -- only integers and offsets are packed as numbers
 pub packed_number_is : (type : PokeType) (width : ℕ) → row_of type ≡ Numbers width → scalar_width type ≡ Some width
 packed_number_is (IntegerOf type) width e = cc
 packed_number_is (OffsetOf type unit) width e = cc
 packed_number_is StringOf width e = absurd cc
 packed_number_is (ArrayOf element bound) width e = absurd cc
-packed_number_is (StructOf name pinned fields) width e = absurd (struct_numbers pinned fields width e)
-packed_number_is (IntegralOf name type _) width e = absurd cc
+packed_number_is (StructOf name pinned fields) width e =
+    let own = layout_of 0 (StructOf name pinned fields) in
+    absurd (struct_numbers pinned fields width (numbers_first (struct_row pinned fields) own width e))
+packed_number_is (IntegralOf name type fields) width e =
+    absurd (apart_numbers (layout_of 0 (IntegralOf name type fields)) width e)
 packed_number_is (UnionOf name alternatives) width e = absurd cc
 
 -- a row that is packed, and a store that packs
@@ -54,6 +67,13 @@ pub is_packed : (packing : Bool) (row given : Row) → where_rows packing row �
     (packing ≡ true) × (row ≡ given)
 is_packed true row given e other = (refl, e)
 is_packed false row given e other = absurd (other (sym e))
+
+-- elements are packed as numbers, or as structs of numbers
+abbrev pub PacksNumbers : Row → Type 0
+PacksNumbers Apart = ⊥
+PacksNumbers (Numbers width) = Unit {0}
+PacksNumbers (Records widths) = Unit {0}
+PacksNumbers (Values stride) = ⊥
 
 -- ---- lengths
 
@@ -77,6 +97,7 @@ abbrev bytes_each : Row → ℕ
 bytes_each Apart = 0
 bytes_each (Numbers width) = bytes_for width
 bytes_each (Records widths) = stride_of widths
+bytes_each (Values stride) = stride
 
 -- packed numbers, of at most so many bytes
 numbers_size : (vector : Vector) (k : Marks) (bytes width count : ℕ) → bytes ≤ k.bytes + bytes_for width * count →
@@ -103,6 +124,8 @@ family_few (Numbers width) NodesOf count each = omega arith
 family_few (Numbers width) vector count each = omega arith
 family_few (Records widths) NodesOf count each = omega arith
 family_few (Records widths) vector count each = omega arith
+family_few (Values stride) NodesOf count each = omega arith
+family_few (Values stride) vector count each = omega arith
 
 filled_size : (vector : Vector) (row : Row) (k n : Marks) (count each : ℕ) → IsFilled row k n →
     n.bytes ≤ k.bytes + bytes_each row * count →
@@ -208,6 +231,10 @@ one_number count start last h =
     rw (nodes, pending) in
     record { frames = h.frames; now = ap (with_numbers 1) h.now ∙ more }
 
+-- the change by a move of an element that is kept in such a way
+abbrev element_moved : (packing : Bool) → Row → Move → State → State
+element_moved packing row move state = moved packing (packed row move) state
+
 -- the struct is packed, with all its numbers
 struct_packed : (widths : List ℕ) (count : ℕ) (state last now : State) → IsPacked (Records widths) count state last →
     HasNumbers (length widths) (moved true Opens last) now →
@@ -230,10 +257,10 @@ struct_packed widths count state last now p h =
 -- ---- elements
 
 -- an integer or an offset, by the move that places it
-scalar_stores : {change : Change} {M : State → Type 0} {Q : State → Type 0} (m : ℕ) (ty : PokeType) (width : ℕ) →
-    scalar_width ty ≡ Some width → (order : Order) (levels : Levels) (at : ℕ) (state : State) →
-    M (change Places state) → Q (change Places state) →
-    Stores change M (Leaves (λ v. Q) (λ last. last ≡ state)) (plan m ty order levels at) state
+scalar_stores : {packing : Bool} {row : Row} {M : State → Type 0} {Q : State → Type 0} (m : ℕ) (ty : PokeType)
+    (width : ℕ) → scalar_width ty ≡ Some width → (order : Order) (levels : Levels) (at : ℕ) (state : State) →
+    M (needed packing (packed row Places) state) → Q (moved packing (packed row Places) state) →
+    Stores packing row M (Leaves (λ v. Q) (λ last. last ≡ state)) (plan m ty order levels at) state
 unfolding plan read_plan number_plan
 scalar_stores m (IntegerOf type) width e order levels at state here next = inside_stores m at refl
     (at_tick (one_stores (nat_le (at + type.width) m) (at_read (λ n. at_made here (at_end next))) (at_end refl)))
@@ -252,7 +279,7 @@ module _ (vector : Vector) (b m : ℕ) where
 
   abbrev Keeps : {A : Type 0} → Row → (Q : A → State → Type 0) → (E : State → Type 0) →
       Plan (Result A FaultAt) → State → Type 0
-  Keeps row Q E p state = Stores (element_moved true row) Within (Leaves Q E) p state
+  Keeps row Q E p state = Stores true row Within (Leaves Q E) p state
 
   packed_within : (row : Row) (count each : ℕ) (state last : State) →
       of_vector vector state.now + array_bound row vector count each ≤ b → IsPacked row count state last → Within last
@@ -295,8 +322,8 @@ module _ (vector : Vector) (b m : ℕ) where
       {E = λ now. now.frames ≡ start.frames} _
       (λ v now more. columns_stores all total start room rest both.rest both.others s order (pushed levels (Some v))
       (end_of v) (max top (end_of v)) (done + 1) now more (omega (arith, sum, count)))
-      (checked_stores {Q = HasNumbers (done + 1) start}
-      {E = λ now. now.frames ≡ start.frames} (λ now more. more.frames) c levels behind h.frames
+      (checked_stores {Q = λ v. HasNumbers (done + 1) start}
+      {E = λ now. now.frames ≡ start.frames} (λ v now more. more.frames) c levels behind h.frames
       (scalar_stores {Q = HasNumbers (done + 1) start} m ty both.width column.width (ordered set order) levels
       behind last here next)))))
 
@@ -313,7 +340,7 @@ module _ (vector : Vector) (b m : ℕ) where
       let here = packed_within (Records widths) count 0 state last room all in
       let none : 0 + length widths ≡ length widths = omega arith in
       inside_stores m
-      at refl (at_tick (framed_stores {Q = λ v. IsPacked (Records widths) (c + 1) state} (λ now. refl) levels here here
+      at refl (at_tick (framed_stores {Q = λ v. IsPacked (Records widths) (c + 1) state} levels here here
       (ok_stores {P = λ r. HasNumbers (length widths) start} {Q = λ v. IsPacked (Records widths) (c + 1) state}
       {E = λ now. now.frames ≡ last.now ∷ last.frames} _
       (λ r now h.
@@ -338,11 +365,12 @@ module _ (vector : Vector) (b m : ℕ) where
       at last (packed_within (Numbers width) count 0 state (moved true (Packs width) last) room all) next
 
   -- one more element
-  element_stores : (element : PokeType) (row : Row) → row_of element ≡ row → (row ≡ Apart → ⊥) → (c count each : ℕ) →
+  element_stores : (element : PokeType) (row : Row) → row_of element ≡ row → PacksNumbers row → (c count each : ℕ) →
       c + 1 ≤ count → (order : Order) (levels : Levels) (at : ℕ) (state last : State) →
       of_vector vector state.now + array_bound row vector count each ≤ b → IsPacked row c state last →
       Keeps row (λ v. IsPacked row (c + 1) state) (λ now. now ≡ last) (plan m element order levels at) last
-  element_stores element Apart e other c count each less order levels at state last room p = absurd (other refl)
+  element_stores element Apart e other c count each less order levels at state last room p = absurd other
+  element_stores element (Values stride) e other c count each less order levels at state last room p = absurd other
   element_stores element (Numbers width) e other c count each less order levels at state last room p =
       number_stores element width (packed_number_is element width e) c count less order levels at state last room p
   element_stores element (Records widths) e other c count each less order levels at state last room p =
@@ -355,7 +383,16 @@ module _ (vector : Vector) (b m : ℕ) where
 
   -- a fact about what a mapping in the frame of an array leaves
   abbrev Fills : {A : Type 0} → (Q : A → State → Type 0) → (state : State) → Plan (Result A FaultAt) → State → Type 0
-  Fills Q state p last = Stores (moved true) Within (Leaves Q (λ now. now.frames ≡ state.now ∷ state.frames)) p last
+  Fills Q state p last = Stores true Apart Within (Leaves Q (λ now. now.frames ≡ state.now ∷ state.frames)) p last
+
+  -- the plan of an element
+  element_packed : {Q : Value → State → Type 0} {E : State → Type 0} (row : Row) → PacksNumbers row → (levels : Levels)
+      {p : Plan (Result Value FaultAt)} {last : State} → Keeps row Q E p last →
+      Stores true Apart Within (Leaves Q E) (then_packed row levels (in_row row p)) last
+  element_packed Apart other levels h = absurd other
+  element_packed (Numbers width) other levels h = row_stores true (Numbers width) h
+  element_packed (Records widths) other levels h = row_stores true (Records widths) h
+  element_packed (Values stride) other levels h = absurd other
 
   packed_after : (row : Row) (count n c : ℕ) (extent : Extent) (next : Levels → ℕ → Plan (Result Opened FaultAt))
       (levels : Levels) (state last : State) → IsPacked row c state last → c + suc n ≤ count →
@@ -372,7 +409,7 @@ module _ (vector : Vector) (b m : ℕ) where
       one_stores (ends_before extent f.0) (at_end (fewer_packed row c count (omega arith) state now here))
       (at_end here.frames)
 
-  module _ (element : PokeType) (other : row_of element ≡ Apart → ⊥) (order : Order) (count each s : ℕ)
+  module _ (element : PokeType) (other : PacksNumbers (row_of element)) (order : Order) (count each s : ℕ)
       (extent : Extent) (state : State)
       (room : of_vector vector state.now + array_bound (row_of element) vector count each ≤ b) where
     pub packed_elements : (n i c : ℕ) (levels : Levels) (at : ℕ) (last : State) →
@@ -387,7 +424,7 @@ module _ (vector : Vector) (b m : ℕ) where
         (packed_after (row_of element) count n c extent
         (elements_plan (element_plan element (plan m element order)) m s extent n (i + 1)) levels state last p le
         (λ l p now more. packed_elements n (i + 1) (c + 1) l p now more (omega arith)) at)
-        (row_stores true (row_of element) (element_stores element (row_of element) refl other c count each (omega arith)
-        order levels at state last room p))))
+        (element_packed (row_of element) other levels (element_stores element (row_of element) refl other c count each
+        (omega arith) order levels at state last room p))))
         (one_stores (is_met extent s at)
         (at_end (fewer_packed (row_of element) c count (omega arith) state last p)) (at_end p.frames))

@@ -8,7 +8,7 @@ use Rattle.pickle_meaning.specs.Room.{text_length}
 use Rattle.value_store.specs.Takes.{Vector, NodesOf, FamiliesOf, LinksOf, PendingOf, TextsOf, BytesOf, packed_width, families_taken, texts_taken, own_takes, members_take, place_takes, member_takes, level_takes, levels_take}
 use Rattle.value_store.proofs.Taken.{levels_take-pushed, not_packed, kept-members}
 use Rattle.type_soundness.specs.Capacity.{number_bound, string_bound, family_bound, link_bound, capacity_bound}
-use Rattle.type_soundness.proofs.Moving.{place_bound}
+use Rattle.type_soundness.proofs.Places.{place_bound}
 
 -- ---- frames
 

@@ -3,11 +3,11 @@ use Rattle.std.proofs.Common.{ℕ, zero, suc, Bool, true, false, List, Result, O
 use Rattle.std.specs.Prelude.{if◌then◌else◌, nat_le}
 use Rattle.bit_space.specs.declared.order.Order.{Order}
 use Rattle.pickle_meaning.specs.Numbers.{number_at}
-use Rattle.pickle_meaning.specs.Values.{Levels}
+use Rattle.pickle_meaning.specs.Values.{Value, Levels}
 use Rattle.pickle_meaning.specs.Clauses.{FaultAt}
 use Rattle.mapping_plans.specs.Plan.{Plan, Ended, Tick, Made, Read, and_then, after, on_value, then_ok, leave_frame, framed, as_row, in_row, result_of}
-use Rattle.mapping_plans.specs.Mapping.{from_inside}
-use Rattle.mapping_plans.specs.Rows.{Row, Apart, Numbers, Records}
+use Rattle.mapping_plans.specs.Mapping.{from_inside, packs_last, then_packed}
+use Rattle.mapping_plans.specs.Rows.{Row, Apart, Numbers, Records, Values}
 use Rattle.mapping_plans.proofs.Always.{OfValue}
 use Rattle.value_store.specs.Moves.{Move}
 
@@ -38,11 +38,26 @@ as_row_yields row (on_tick h) = on_tick (as_row_yields row h)
 as_row_yields row (on_made h) = on_made (as_row_yields row h)
 as_row_yields row (on_read h) = on_read (λ n. as_row_yields row (h n))
 
+-- an element that is packed after it was mapped
+after_yields : (levels : Levels) {Q : Result Value FaultAt → Type 0} {p : Plan (Result Value FaultAt)} → Yields Q p →
+    Yields Q (and_then p (on_value (packs_last levels)))
+after_yields levels {Q} (yields {a} h) = told a h
+  where
+    told : (r : Result Value FaultAt) → Q r → Yields Q (on_value (packs_last levels) r)
+    told (Ok v) h = on_made (yields h)
+    told (Err f) h = yields h
+after_yields levels (on_tick h) = on_tick (after_yields levels h)
+after_yields levels (on_made h) = on_made (after_yields levels h)
+after_yields levels (on_read h) = on_read (λ n. after_yields levels (h n))
+
 -- the same plan as that of an element
-pub row_yields : {A : Type 0} {Q : A → Type 0} (row : Row) {p : Plan A} → Yields Q p → Yields Q (in_row row p)
-row_yields Apart h = h
-row_yields (Numbers width) h = as_row_yields (Numbers width) h
-row_yields (Records widths) h = as_row_yields (Records widths) h
+pub element_yields : (row : Row) (levels : Levels) {Q : Result Value FaultAt → Type 0}
+    {p : Plan (Result Value FaultAt)} → Yields Q p → Yields Q (then_packed row levels (in_row row p))
+unfolding then_ok
+element_yields Apart levels h = h
+element_yields (Numbers width) levels h = as_row_yields (Numbers width) h
+element_yields (Records widths) levels h = as_row_yields (Records widths) h
+element_yields (Values stride) levels h = after_yields levels h
 
 pub then_yields : {A B : Type 0} {P : A → Type 0} {Q : B → Type 0} (f : A → Plan B) → ((a : A) → P a → Yields Q (f a)) →
     {p : Plan A} → Yields P p → Yields Q (and_then p f)
@@ -63,14 +78,14 @@ unfolding then_ok
 ok_yields {F} {P} {Q} f g h =
     then_yields {P = OfValue {F = F} P} {Q = OfValue {F = F} Q} (on_value f) (value_yields {P = P} {Q = Q} f g) h
 
-after_yields : {A : Type 0} {Q : A → Type 0} (n : ℕ) (a : A) → Q a → Yields Q (after n a)
-after_yields zero a h = yields h
-after_yields (suc n) a h = on_tick (after_yields n a h)
+steps_yield : {A : Type 0} {Q : A → Type 0} (n : ℕ) (a : A) → Q a → Yields Q (after n a)
+steps_yield zero a h = yields h
+steps_yield (suc n) a h = on_tick (steps_yield n a h)
 
 -- a value that a function gives, after so many steps
 pub told_yields : {A B F : Type 0} {Q : B → Type 0} (n : ℕ) (r : Result A F) (f : A → Plan (Result B F)) →
     ((a : A) → Yields (OfValue Q) (f a)) → Yields (OfValue Q) (then_ok (after n r) f)
-told_yields {A} {B} {F} {Q} n r f g = ok_yields {P = λ a. Unit {0}} {Q = Q} f (λ a u. g a) (after_yields n r (any r))
+told_yields {A} {B} {F} {Q} n r f g = ok_yields {P = λ a. Unit {0}} {Q = Q} f (λ a u. g a) (steps_yield n r (any r))
   where
     any : (t : Result A F) → OfValue (λ a. Unit {0}) t
     any (Ok a) = tt

@@ -1,8 +1,8 @@
 -- How much of each vector of a store a mapping of a type takes at most, on m bits.
-use Rattle.std.specs.Prelude.{ℕ, ◌+◌, ◌*◌, ◌/◌, max, Bool, true, false, List, length}
+use Rattle.std.specs.Prelude.{ℕ, ◌+◌, ◌*◌, ◌/◌, min, max, Bool, true, false, List, length}
 use Rattle.pickle_types.specs.Types.{PokeType, IntegerOf, OffsetOf, StringOf, ArrayOf, StructOf, IntegralOf, UnionOf, Fields, NoFields, FieldThen, Parts, NoParts, PartThen}
 use Rattle.pickle_types.specs.Bounds.{least_width, count_of}
-use Rattle.mapping_plans.specs.Rows.{Row, Apart, Numbers, Records, row_of, stride_of}
+use Rattle.mapping_plans.specs.Rows.{Row, Apart, Numbers, Records, Values, row_of, stride_of}
 use Rattle.value_store.specs.Packed.{bytes_for}
 use Rattle.value_store.specs.Takes.{Vector, NodesOf, FamiliesOf, LinksOf, PendingOf, TextsOf, BytesOf}
 
@@ -62,12 +62,27 @@ records_bound PendingOf widths count = length widths + 1
 records_bound TextsOf widths count = 1
 records_bound BytesOf widths count = stride_of widths * count
 
--- an array of at most `count` elements: values that take `each`, packed numbers of a width, or packed structs of
--- numbers of such widths
+-- what packed values of fixed layout take: `apart` for values that are there as others are, one text with so many
+-- bytes, and a place in a frame for each part of a value that is mapped, which takes `each`; without elements a family
+abbrev pub values_take : Vector → (apart each bytes : ℕ) → ℕ
+values_take NodesOf apart each bytes = apart + 1
+values_take FamiliesOf apart each bytes = apart + 1
+values_take LinksOf apart each bytes = apart
+values_take PendingOf apart each bytes = each + 1
+values_take TextsOf apart each bytes = 1
+values_take BytesOf apart each bytes = bytes
+
+-- The first value stays, and its template takes as much again. While another one is mapped there are three.
+abbrev pub values_bound : Vector → (stride count each : ℕ) → ℕ
+values_bound vector stride count each = values_take vector (min 3 (count + 1) * each) each (stride * count)
+
+-- an array of at most `count` elements: values that take `each`, packed numbers of a width, packed structs of numbers
+-- of such widths, or packed values of fixed layout
 abbrev pub array_bound : Row → Vector → (count each : ℕ) → ℕ
 array_bound Apart vector count each = family_bound vector + count * (link_bound vector + each)
 array_bound (Numbers width) vector count each = row_bound vector width count
 array_bound (Records widths) vector count each = records_bound vector widths count
+array_bound (Values stride) vector count each = values_bound vector stride count each
 
 -- how a store keeps the elements of an array: one that doesn't pack keeps all as other values
 abbrev pub where_rows : (packs : Bool) → Row → Row
@@ -75,8 +90,8 @@ where_rows true row = row
 where_rows false row = Apart
 
 unfoldable mutual
-  -- what a mapping of a type on m bits takes of a vector at most, in a store that packs arrays of numbers and of
-  -- structs of numbers, or in one that doesn't
+  -- what a mapping of a type on m bits takes of a vector at most, in a store that packs arrays of numbers, of structs
+  -- of numbers and of other values of fixed layout, or in one that doesn't
   pub capacity_bound : (packs : Bool) → Vector → PokeType → (m : ℕ) → ℕ
   capacity_bound packs vector (IntegerOf type) m = number_bound vector
   capacity_bound packs vector (OffsetOf type unit) m = number_bound vector

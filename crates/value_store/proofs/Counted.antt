@@ -41,7 +41,7 @@ cut-all s =
     } ≡ s = refl in
     cc
 
-within-length : {A : Type 0} (xs ys : List A) → take (length xs) ys ≡ xs → length xs ≤ length ys
+pub within-length : {A : Type 0} (xs ys : List A) → take (length xs) ys ≡ xs → length xs ≤ length ys
 within-length xs ys e = omega (arith, ap length e, length-take (length xs) ys)
 
 -- what stays is within what was added to
@@ -97,7 +97,7 @@ IsLevel-more room k s u vs h g = record {
       };
 }
 
-cut-more : (room : Room) (k : Marks) (s u : Slots) (vs : Names → List (Option Value)) → IsWithin k s →
+pub cut-more : (room : Room) (k : Marks) (s u : Slots) (vs : Names → List (Option Value)) → IsWithin k s →
     Adds room s u vs → cut_to k u ≡ cut_to k s
 cut-more room k s u vs w h =
     let w' : IsWithin k (cut_to (marks_of s) u) = subst (λ x. IsWithin k x) (sym h.rest) w in
@@ -125,7 +125,7 @@ levels_at-more names room (k ∷ ks) s u vs h g =
     ∙ ap (λ x. (level_of names k s ++ vs names) ∷ levels_at names ks x) r
 
 -- a frame above all that a store holds
-level-above : (names : Names) (room : Room) (s u : Slots) (vs : Names → List (Option Value)) → Adds room s u vs →
+pub level-above : (names : Names) (room : Room) (s u : Slots) (vs : Names → List (Option Value)) → Adds room s u vs →
     level_of names (marks_of s) u ≡ vs names
 level-above names room s u vs h = ap (drop (length s.pending)) (h.stack names)
     ∙ drop_at (stack names s) (vs names) (length s.pending) (length-stack names s)

@@ -8,7 +8,7 @@ use Rattle.value_store.specs.declared.store.slots.Node.{Node}
 use Rattle.value_store.specs.declared.store.slots.Shape.{Shape}
 use Rattle.pickle_meaning.specs.Values.{Levels, top_of}
 use Rattle.value_store.specs.Keeping.{LacksRoom, LacksBytes}
-use Rattle.value_store.specs.Moves.{Move, Places, Leaves, Clears, Closes, Packs, OpensRecords, PacksRecord, State, state_of, with_number, with_text, with_links, with_template, joined, settled, settled_row, moved, CannotMove}
+use Rattle.value_store.specs.Moves.{Move, Places, Leaves, Clears, Closes, Packs, OpensRecords, PacksRecord, State, state_of, with_number, with_text, with_links, with_template, joined, settled, settled_row, moved, needed, CannotMove}
 use Rattle.value_store.specs.declared.store.slots.Shape.TheVariants.{Records, Struct}
 use Rattle.value_store.specs.Gathering.{with_records}
 use Rattle.value_store.specs.Names.{Names}
@@ -23,7 +23,8 @@ use Rattle.value_store.proofs.PackedRows.{row_bytes, row-packs}
 use Rattle.value_store.proofs.Writing.{fresh-empty, stale-some, filling-slots, filling-some}
 
 -- marks with the same entries
-same-marks : (a b : Marks) → a.nodes ≡ b.nodes → a.families ≡ b.families → a.links ≡ b.links → a.pending ≡ b.pending →
+pub same-marks : (a b : Marks) → a.nodes ≡ b.nodes → a.families ≡ b.families → a.links ≡ b.links →
+    a.pending ≡ b.pending →
     a.texts ≡ b.texts → a.bytes ≡ b.bytes → a ≡ b
 same-marks a b nodes families links pending texts bytes =
     let eta-a : record {
@@ -76,7 +77,7 @@ marks-more more s some =
     (omega (arith, length_push ends (length (s.bytes ++ more)), length-take (length s.texts - 1) s.texts, some))
     (length-append s.bytes more)
 
-abbrev framed : List Marks → Marks → State
+abbrev pub framed : List Marks → Marks → State
 framed frames now = record { now = now; frames = frames }
 
 -- the state of a store with other slots
@@ -105,7 +106,7 @@ module _ (h : Held) where
 
   -- a move that a vector has no capacity for
   pub unmoved : {T E : Type 0} (r : Result T E) (move : Move) (vector : Vector) →
-      of_vector vector h.capacity < of_vector vector (moved (packs h.room) move (state_of h)).now →
+      of_vector vector h.capacity < of_vector vector (needed (packs h.room) move (state_of h)).now →
       OnErr r (CannotMove h move)
   unmoved (Ok x) move vector more = tt
   unmoved (Err x) move vector more = (vector, more)
@@ -183,13 +184,13 @@ regrown-state (Ok x) h n s state e regrown = ap state_of regrown ∙ e
 regrown-state (Err x) h n s state e regrown = tt
 
 pub lacks-room : {T E : Type 0} (r : Result T E) (h : Held) (s : Slots) (move : Move) →
-    marks_of s ≡ (moved (packs h.room) move (state_of h)).now →
+    marks_of s ≡ (needed (packs h.room) move (state_of h)).now →
     OnErr r (LacksRoom h s) → OnErr r (CannotMove h move)
 lacks-room (Ok x) h s move e lacks = tt
 lacks-room (Err x) h s move e (vector, (least, more)) = (vector, omega (arith, more, ap (of_vector vector) e))
 
 pub lacks-bytes : {T E : Type 0} (r : Result T E) (h : Held) (count : ℕ) (move : Move) →
-    (moved (packs h.room) move (state_of h)).now.bytes ≡ length h.slots.bytes + count →
+    (needed (packs h.room) move (state_of h)).now.bytes ≡ length h.slots.bytes + count →
     OnErr r (LacksBytes h count) → OnErr r (CannotMove h move)
 lacks-bytes (Ok x) h count move e lacks = tt
 lacks-bytes (Err x) h count move e lacks = (BytesOf, omega (arith, lacks.1, e))
@@ -241,7 +242,7 @@ on-state (Ok x) n s t e is = is ∙ e
 on-state (Err x) n s t e is = tt
 
 pub lacks-same : {T E : Type 0} (r : Result T E) (h : Held) (one other : Move) →
-    (moved (packs h.room) one (state_of h)).now ≡ (moved (packs h.room) other (state_of h)).now →
+    (needed (packs h.room) one (state_of h)).now ≡ (needed (packs h.room) other (state_of h)).now →
     OnErr r (CannotMove h one) → OnErr r (CannotMove h other)
 lacks-same (Ok x) h one other e lacks = tt
 lacks-same (Err x) h one other e (vector, more) = (vector, omega (arith, more, ap (of_vector vector) e))
@@ -303,7 +304,8 @@ template-most PendingOf k n = omega arith
 template-most TextsOf k n = omega arith
 template-most BytesOf k n = omega arith
 
-room-kept : (vector : Vector) (h r : Held) → KeepsRoom h r → of_vector vector h.capacity ≤ of_vector vector r.capacity
+pub room-kept : (vector : Vector) (h r : Held) → KeepsRoom h r →
+    of_vector vector h.capacity ≤ of_vector vector r.capacity
 room-kept NodesOf h r keeps = keeps.nodes
 room-kept FamiliesOf h r keeps = keeps.families
 room-kept LinksOf h r keeps = keeps.links

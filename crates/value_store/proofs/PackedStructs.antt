@@ -11,8 +11,8 @@ use Rattle.pickle_meaning.specs.Arithmetic.{with_sign}
 use Rattle.pickle_meaning.specs.Values.{Value, Mapped, NoMembers, MemberThen, AbsentThen, IntegerLabel, OffsetLabel, ArrayLabel, Levels, label_of, members_of, top_of, outer_of, pushed, gathered}
 use Rattle.value_store.specs.Closed.{struct_label}
 use Rattle.value_store.specs.Keeping.{IsPushed}
-use Rattle.value_store.specs.Gathering.{IsDraft, AddsColumn, records_array, last_value, EndsWithTemplate, IsGathering, gathering_levels, BeginsRecords, IsRecordsOf, TakesRecord, Gathers, ClosesRecords}
-use Rattle.value_store.specs.PackedStructs.{DraftsMore, struct_bits, struct_bytes, drafted, fields, struct_row, struct_rows, AreDigits, AreRows, AreNumberShapes, struct_of, structs_of, structs_array, IsPackingStructs, IsStructsOf, BeginsStructs, CannotBegin, TakesStruct, PacksStruct, CannotPackStruct, ClosesStructs}
+use Rattle.value_store.specs.Gathering.{IsDraft, AddsColumn, records_array, last_value, EndsWithTemplate, IsGathering, gathering_levels, BeginsRecords, TakesRecord, Gathers, ClosesRecords}
+use Rattle.value_store.specs.PackedStructs.{DraftsMore, struct_bits, struct_bytes, drafted, fields, struct_row, struct_rows, AreDigits, AreRows, AreNumberShapes, struct_of, structs_of, structs_array, IsPackingStructs, BeginsStructs, CannotBegin, TakesStruct, PacksStruct, CannotPackStruct, ClosesStructs}
 use Rattle.value_store.specs.Labels.{number_of, width_of}
 use Rattle.value_store.specs.Lent.{numbered}
 use Rattle.value_store.specs.Names.{Names}
@@ -568,16 +568,6 @@ cannot-pack_struct h = λ names of cs start rows outer ds w.
       length-structs names of cs start (rows ++ ds ∷ []),
       length_push rows ds,
     )) w.gathering.packs
-
-pub records-of : (h : Held) → IsStructsOf h → IsRecordsOf h
-records-of h w = record {
-  before = w.packing.before;
-  size = struct_bits w.shapes;
-  stride = struct_bytes w.shapes;
-  start = w.start;
-  bytes = struct_rows w.shapes w.rows;
-  gathering = w.packing.gathering;
-}
 
 pub closed-structs : (h n : Held) → ClosesRecords h n → ClosesStructs h n
 closed-structs h n closes = λ names of cs start rows outer w. closes-structs names h of cs start rows outer w n closes

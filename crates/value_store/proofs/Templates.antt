@@ -71,14 +71,14 @@ module _ (s u : Slots) (size stride start : ℕ) (bytes : List ℕ) (g : Grows s
   mutual
     unfolding IsBranch-grow
 
-    part-grow : {j : ℕ} → IsTemplatePart s size stride start bytes j → IsTemplatePart u size stride start bytes j
+    pub part-grow : {j : ℕ} → IsTemplatePart s size stride start bytes j → IsTemplatePart u size stride start bytes j
     part-grow (NumberPart {j} column) = NumberPart (IsColumn-grow s u size stride start bytes j g column)
     part-grow (BranchPart {j} branch parts) =
         BranchPart (IsBranch-grow s u size start j g branch)
         (subst (λ ls. AreTemplateParts u size stride start bytes ls)
         (sym (family_links-grow s u branch.node.content g branch.family)) (parts-grow parts))
 
-    parts-grow : {ls : List (Option ℕ)} → AreTemplateParts s size stride start bytes ls →
+    pub parts-grow : {ls : List (Option ℕ)} → AreTemplateParts s size stride start bytes ls →
         AreTemplateParts u size stride start bytes ls
     parts-grow NoParts = NoParts
     parts-grow (PartThen part rest) = PartThen (part-grow part) (parts-grow rest)

@@ -62,15 +62,6 @@ abbrev pub gathering_levels : Names → (before : Slots) → (size stride start 
 gathering_levels names before size stride start bytes outer =
     (Some (records_array (last_value names before) size stride start bytes) ∷ []) ∷ outer
 
--- such an array is open
-pub record IsRecordsOf (h : Held) : Type 0 where
-  pub before : Slots
-  pub size : ℕ
-  pub stride : ℕ
-  pub start : ℕ
-  pub bytes : List ℕ
-  pub gathering : IsGathering h before size stride start bytes
-
 -- the template has one more number, of a shape and from the bit `begin` on
 abbrev pub AddsColumn : (before after : Held) → Shape → (begin at : ℕ) → Type 0
 AddsColumn before after shape begin at =

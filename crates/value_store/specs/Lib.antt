@@ -6,8 +6,10 @@ pub mod Moves
 pub mod Links
 pub mod Packed
 pub mod Records
+pub mod Layouts
 pub mod Columns
 pub mod Slots
+pub mod Below
 pub mod Names
 pub mod MemberNames
 pub mod Refs
@@ -19,6 +21,7 @@ pub mod Keeping
 pub mod Filling
 pub mod Gathering
 pub mod PackedStructs
+pub mod LayoutArrays
 pub mod Closed
 pub mod Integers
 pub mod Props

@@ -5,6 +5,12 @@ use Rattle.value_store.specs.Packed.{bytes_for}
 use Rattle.value_store.specs.Slots.{Held, packs, root_marks, innermost, marks_of, around}
 use Rattle.value_store.specs.Takes.{Vector, of_vector}
 
+-- how many nodes, families and links a value takes that has no text and no packed array
+pub record ValueSize : Type 0 where
+  pub nodes : ℕ
+  pub families : ℕ
+  pub links : ℕ
+
 pub data Move : Type 0 where
   -- a frame is opened inside the innermost one
   Opens : Move
@@ -35,6 +41,9 @@ pub data Move : Type 0 where
   -- the members of the innermost frame, numbers of so many bytes in all, become one more struct of the array around
   -- them, where such arrays are packed; else they become one value
   PacksStruct : (stride : ℕ) → Move
+  -- The last member of the innermost frame, a value of this size, becomes one more struct of so many bytes of an array
+  -- in that frame, where such arrays are packed; the first makes the array, after its template. Else nothing changes.
+  PacksValue : (size : ValueSize) (stride : ℕ) → Move
 
 -- the lengths of the vectors, and what they were when each open value was opened, the innermost first
 pub record State : Type 0 where
@@ -96,6 +105,53 @@ abbrev pub with_struct : (stride : ℕ) → (k own n : Marks) → Marks
 with_struct stride k own n = if nat_eq own.nodes k.nodes then with_structs (n.pending - own.pending) stride k
     else record own { bytes = own.bytes + stride }
 
+-- such a value is one more member
+abbrev pub with_value : (size : ValueSize) → Marks → Marks
+with_value size n = record {
+  nodes = n.nodes + size.nodes;
+  families = n.families + size.families;
+  links = n.links + size.links;
+  pending = n.pending + 1;
+  texts = n.texts;
+  bytes = n.bytes;
+}
+
+-- the value that is the one member of a frame has a template after it, and an array that has its bytes is the member
+abbrev pub with_first_value : (size : ValueSize) → (stride : ℕ) → Marks → Marks
+with_first_value size stride n = record {
+  nodes = n.nodes + size.nodes + 1;
+  families = n.families + size.families;
+  links = n.links + size.links;
+  pending = n.pending;
+  texts = n.texts + 1;
+  bytes = n.bytes + stride;
+}
+
+-- the value after such an array is given up, and the array has its bytes
+abbrev pub with_next_value : (size : ValueSize) → (stride : ℕ) → Marks → Marks
+with_next_value size stride n = record {
+  nodes = n.nodes - size.nodes;
+  families = n.families - size.families;
+  links = n.links - size.links;
+  pending = n.pending - 1;
+  texts = n.texts;
+  bytes = n.bytes + stride;
+}
+
+-- a frame that began at k has such an array where it has a text
+abbrev pub with_packed_value : (size : ValueSize) → (stride : ℕ) → (k n : Marks) → Marks
+with_packed_value size stride k n =
+    if nat_eq n.texts k.texts then with_first_value size stride n else with_next_value size stride n
+
+-- the most that there is on the way: the nodes of the template wait for their links
+abbrev pub with_first_drafted : (size : ValueSize) → (stride : ℕ) → Marks → Marks
+with_first_drafted size stride n = record (with_first_value size stride n) { pending = n.pending + size.nodes }
+
+-- the value that is given up is still there when its bytes are
+abbrev pub with_value_drafted : (size : ValueSize) → (stride : ℕ) → (k n : Marks) → Marks
+with_value_drafted size stride k n =
+    if nat_eq n.texts k.texts then with_first_drafted size stride n else record n { bytes = n.bytes + stride }
+
 -- what the innermost frame had is now its one member
 abbrev pub joined : State → State
 joined s = record { now = with_links (innermost s.frames) s.now; frames = s.frames }
@@ -117,6 +173,18 @@ packed_struct true stride s = record {
 }
 packed_struct false stride s = lifted (joined s)
 
+-- a value becomes a struct of an array in its frame
+abbrev pub packed_value : (packs : Bool) → (size : ValueSize) → (stride : ℕ) → State → State
+packed_value true size stride s =
+    record { now = with_packed_value size stride (innermost s.frames) s.now; frames = s.frames }
+packed_value false size stride s = s
+
+-- the most that there is on the way
+abbrev pub drafted_value : (packs : Bool) → (size : ValueSize) → (stride : ℕ) → State → State
+drafted_value true size stride s =
+    record { now = with_value_drafted size stride (innermost s.frames) s.now; frames = s.frames }
+drafted_value false size stride s = s
+
 abbrev pub moved : (packs : Bool) → Move → State → State
 moved packs Opens s = record { now = s.now; frames = s.now ∷ s.frames }
 moved packs Drops s = record { now = innermost s.frames; frames = around s.frames }
@@ -132,15 +200,34 @@ moved packs OpensRecords s = record { now = with_template (innermost s.frames) s
 moved packs (PacksRecord count) s = record { now = record s.now { bytes = s.now.bytes + count }; frames = s.frames }
 moved packs ClosesRecords s = lifted s
 moved packs (PacksStruct stride) s = packed_struct packs stride s
+moved packs (PacksValue size stride) s = packed_value packs size stride s
+
+-- the most that a move needs on its way
+abbrev pub needed : (packs : Bool) → Move → State → State
+needed packs Opens s = moved packs Opens s
+needed packs Drops s = moved packs Drops s
+needed packs Clears s = moved packs Clears s
+needed packs Places s = moved packs Places s
+needed packs Leaves s = moved packs Leaves s
+needed packs Closes s = moved packs Closes s
+needed packs Writes s = moved packs Writes s
+needed packs Ends s = moved packs Ends s
+needed packs (Packs width) s = moved packs (Packs width) s
+needed packs ClosesRow s = moved packs ClosesRow s
+needed packs OpensRecords s = moved packs OpensRecords s
+needed packs (PacksRecord count) s = moved packs (PacksRecord count) s
+needed packs ClosesRecords s = moved packs ClosesRecords s
+needed packs (PacksStruct stride) s = moved packs (PacksStruct stride) s
+needed packs (PacksValue size stride) s = drafted_value packs size stride s
 
 -- a call makes this move
 abbrev pub Moves : (before after : Held) → Move → Type 0
 Moves before after move = state_of after ≡ moved (packs before.room) move (state_of before)
 
--- the move takes more of some vector than its capacity
+-- the move needs more of some vector than its capacity
 abbrev pub CannotMove : Held → Move → Type 0
 CannotMove before move = (vector : Vector)
-    × (of_vector vector before.capacity < of_vector vector (moved (packs before.room) move (state_of before)).now)
+    × (of_vector vector before.capacity < of_vector vector (needed (packs before.room) move (state_of before)).now)
 
 -- what an empty store is
 abbrev pub no_state : State

@@ -97,16 +97,6 @@ pub record IsPackingStructs (names : Names) (h : Held) (of : ℕ) (cs : List Sha
   pub shapes : AreNumberShapes cs
   pub digits : AreRows cs rows
 
--- such an array is open
-pub record IsStructsOf (h : Held) : Type 0 where
-  pub names : Names
-  pub type : ℕ
-  pub shapes : List Shape
-  pub start : ℕ
-  pub rows : List (List ℕ)
-  pub outer : Levels
-  pub packing : IsPackingStructs names h type shapes start rows outer
-
 -- the numbers of the innermost frame became the template of such an array, which has no structs yet
 abbrev pub BeginsStructs : (before after : Held) → (of size stride start : ℕ) → Type 0
 BeginsStructs before after of size stride start =

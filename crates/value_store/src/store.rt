@@ -12,6 +12,7 @@ mod bytes;
 mod cut;
 mod element;
 mod gather;
+mod layout;
 mod place;
 mod read;
 mod records;

@@ -4,6 +4,7 @@ ghost use Rattle.std.specs.Prelude.{◌≡◌, ℕ, ◌+◌, ◌<◌, length, So
 ghost use Rattle.std.specs.Option.{option_map};
 ghost use Rattle.pickle_types.specs.Sound.{IsSmall};
 ghost use Rattle.pickle_meaning.specs.Values.{label_of, start_of, end_of, members_of, member_count, member_at};
+ghost use Rattle.value_store.specs.Layouts.{IsPlain};
 ghost use Rattle.value_store.specs.Integers.{AreIntegersOf, AreBytesOf};
 ghost use Rattle.value_store.specs.Labels.{kind_of, number_of, signed_of, width_of, unit_of, bytes_of, taken_of, name_of};
 ghost use Rattle.value_store.specs.Names.{Names, NamesMembers, title_found};
@@ -43,7 +44,9 @@ impl<'a> StoredValue<'a> {
 
     pub(crate) fn new(store: &'a Store, place: Place) -> StoredValue<'a>
         requires { IsPlace store.now.slots place }
-        ensures { (names : Names) → value_of names result ≡ place_value names store.now.slots place }
+        ensures value { (names : Names) → value_of names result ≡ place_value names store.now.slots place }
+        ensures slots { result.store.now.slots ≡ store.now.slots }
+        ensures place { result.place ≡ place }
     {
         StoredValue { store, place }
     }
@@ -233,8 +236,33 @@ impl<'a> StoredValue<'a> {
         ensures part { (names : Names) →
             option_map (value_of names) result ≡ member_at (members_of (value_of names self.now)) i }
         ensures below { IfSome result (λ c. place_rank c.place < place_rank self.now.place) }
+        ensures lender { IfSome result (λ c. c.store.now.slots ≡ self.now.store.now.slots) }
     {
         self.linked(self.links(), self.packed(), i)
+    }
+
+    /// The place of the element or field at a place, as [`StoredValue::child`] finds it.
+    pub(crate) fn child_place(&self, i: usize) -> Option<Place>
+        ensures part { (names : Names) → option_map (place_value names self.now.store.now.slots) result
+            ≡ member_at (members_of (value_of names self.now)) i }
+        ensures there { IfSome result (IsPlace self.now.store.now.slots) }
+        ensures below { IfSome result (λ p. place_rank p < place_rank self.now.place) }
+    {
+        match self.child(i) {
+            Some(child) => Some(child.place),
+            None => None,
+        }
+    }
+
+    /// The shape of the value, where an array is not packed.
+    pub(crate) fn plain_shape(&self) -> Shape
+        ensures is { IsShapeOf result (λ names. value_of names self.now) }
+        ensures plain { IsPlain result }
+    {
+        match self.shape() {
+            Shape::Integers { .. } | Shape::Offsets { .. } | Shape::Records { .. } => Shape::Array,
+            shape => shape,
+        }
     }
 
     /// The links to the parts, to walk over them. Those of a packed struct are those of its template.
@@ -368,6 +396,7 @@ impl<'a> StoredValue<'a> {
         ensures part { (names : Names) →
             option_map (value_of names) result ≡ member_at (members_of (value_of names self.now)) i }
         ensures below { IfSome result (λ c. place_rank c.place < place_rank self.now.place) }
+        ensures lender { IfSome result (λ c. c.store.now.slots ≡ self.now.store.now.slots) }
     {
         let _node = self.store.node_at(self.array());
         if i < packed {

@@ -52,8 +52,8 @@ fn avoids(e: &Resolved, level: usize) -> bool
     }
 }
 
-// A clause that is left out avoids each frame.
-fn clause_avoids(e: &Option<Box<Resolved>>, level: usize) -> bool
+/// A clause that is left out avoids each frame.
+pub(crate) fn clause_avoids(e: &Option<Box<Resolved>>, level: usize) -> bool
     ensures { result ≡ clause_avoids level (optional_term e.now) }
 {
     match e {

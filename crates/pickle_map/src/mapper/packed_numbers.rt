@@ -1,16 +1,17 @@
 //! Arrays of numbers that the store packs.
 
 ghost use Rattle.std.specs.Prelude.{◌*◌, ◌<◌, ◌≤◌, [], length, All, IfOk};
-ghost use Rattle.mapping_plans.specs.Rows.{struct_row};
+ghost use Rattle.mapping_plans.specs.Rows.{layout_of, struct_row};
 ghost use Rattle.pickle_map.specs.Columns.{HasNode, ArePacked};
 ghost use Rattle.pickle_types.specs.Table.{IsTable, type_of, open_fields};
 ghost use Rattle.pickle_map.specs.AtWork.{Frame, LevelStays, LeavesLevel, Closes, PacksRow};
 ghost use Rattle.pickle_map.specs.Calls.{as_array_level};
 ghost use Rattle.pickle_map.specs.Framed.{IsEnd};
-ghost use Rattle.pickle_map.specs.Row.{PacksAs, PacksOrNot};
+ghost use Rattle.pickle_map.specs.Row.{PacksAs, PacksLaid, PacksOrNot};
 ghost use Rattle.value_store.specs.Slots.{levels, IsPacking, level_count};
 ghost use Rattle.pickle_meaning.specs.Values.{outer_of};
 
+use crate::mapper::layouts::is_laid;
 use crate::mapper::packed_fields::stride_of;
 use crate::mapper::read::read_digits;
 use crate::mapper::start::Start;
@@ -24,12 +25,13 @@ use pickle_types::view::{Field, Node, Shape as Type};
 use value_store::store::Store;
 use value_store::store::slots::Shape;
 
-/// How the elements of an array are kept: apart, as packed numbers, or as packed structs of numbers, which have these
-/// fields.
+/// How the elements of an array are kept: apart, as packed numbers, as packed structs of numbers, which have these
+/// fields, or as packed values of any fixed layout.
 pub(crate) enum Packing<'a> {
     Apart,
     Numbers(Shape),
     Records(&'a [Field]),
+    Values,
 }
 
 // The most bytes of a packed struct.
@@ -47,6 +49,19 @@ fn packs_structs(nodes: &[Node], pinned: bool, fields: &[Field]) -> bool
     match stride_of(nodes, fields) {
         None => false,
         Some(stride) => 1 <= stride && stride <= MOST_BYTES,
+    }
+}
+
+// How the elements of an array are kept that are no numbers and no structs of numbers.
+fn packing_of_values<'a>(nodes: &'a [Node], element: usize) -> Packing<'a>
+    requires table { IsTable nodes.now }
+    requires element { element < length nodes.now }
+    ensures { PacksLaid result (layout_of 0 (type_of nodes.now element)) }
+{
+    if is_laid(nodes, element) {
+        Packing::Values
+    } else {
+        Packing::Apart
     }
 }
 
@@ -77,9 +92,10 @@ pub(crate) fn packing_of<'a>(nodes: &'a [Node], element: usize, store: &Store) -
             if packs_structs(nodes, *pinned, fields) {
                 Packing::Records(fields)
             } else {
-                Packing::Apart
+                packing_of_values(nodes, element)
             }
         }
+        Type::Integral { .. } => packing_of_values(nodes, element),
         _ => Packing::Apart,
     }
 }

@@ -58,7 +58,12 @@ impl<W: Watch> Mapper<'_, W> {
     /// mapped with one call less, and strings too.
     #[cycle(mapping)]
     #[inline(always)]
-    fn map_inside<S: Space>(&mut self, at: usize, start: Start, space: &mut S) -> Result<u64, Stop>
+    pub(crate) fn map_inside<S: Space>(
+        &mut self,
+        at: usize,
+        start: Start,
+        space: &mut S,
+    ) -> Result<u64, Stop>
         requires table { IsTable self.old.nodes.now }
         requires at { at < length self.old.nodes.now }
         requires open { level_count self.old.store.now + depth (type_of self.old.nodes.now at) ≤ 65 }
@@ -175,8 +180,7 @@ impl<W: Watch> Mapper<'_, W> {
         mapped
     }
 
-    /// Maps the elements of an array into its frame, as a row of packed numbers where the store packs them, and closes
-    /// it.
+    /// Maps the elements of an array into its frame, packed where the store packs them, and closes it.
     #[cycle(mapping)]
     fn array_body<S: Space>(
         &mut self,
@@ -204,6 +208,7 @@ impl<W: Watch> Mapper<'_, W> {
         match packing_of(self.nodes, element, self.store) {
             Packing::Numbers(shape) => self.row_body(element, shape, extent, start, space),
             Packing::Records(fields) => { self.records_body(element, fields, extent, start, space) }
+            Packing::Values => self.values_body(element, extent, start, space),
             Packing::Apart => self.elements_body(element, extent, start, space),
         }
     }

@@ -1,5 +1,6 @@
 //! Values that are made of bytes: texts, and arrays of packed numbers.
 ghost use Rattle.std.specs.Prelude.{◌≡◌, [], ◌∷◌, Some, length, IsTrue, ◌↔◌, OnOk, OnErr};
+ghost use Rattle.value_store.specs.Below.{KeepsBelow};
 ghost use Rattle.value_store.specs.Keeping.{LacksRoom, LacksBytes, IsPushed, CannotPush};
 ghost use Rattle.value_store.specs.Slots.{level_count, with_bytes, with_more, bytes_value, AreBytes, AreSome, MayKeep, HasNoNode, GoesOn, HoldsInRoom, KeepsRoom, Regrown};
 
@@ -29,6 +30,7 @@ impl Store {
         ensures depth { level_count self.new ≡ level_count self.old }
         ensures full { OnErr result (CannotPush self.old (Some (bytes_value shape bytes.now start))) }
         ensures lacks { OnErr result (LacksRoom self.old (with_bytes shape bytes.now start self.old.slots)) }
+        ensures below { OnOk result (KeepsBelow self.old self.new) }
     {
         let index = self.nodes.len();
         let content = self.texts.len() as u64;
@@ -58,6 +60,7 @@ impl Store {
         ensures room { KeepsRoom self.old self.new }
         ensures depth { level_count self.new ≡ level_count self.old }
         ensures full { OnErr result (LacksBytes self.old (length more.now)) }
+        ensures below { OnOk result (KeepsBelow self.old self.new) }
     {
         self.room.reserve(&mut self.bytes, more.len())?;
         append(&mut self.bytes, more, self.room);
@@ -77,6 +80,7 @@ impl Store {
         ensures room { KeepsRoom self.old self.new }
         ensures depth { level_count self.new ≡ level_count self.old }
         ensures full { OnErr result (LacksBytes self.old 1) }
+        ensures below { OnOk result (KeepsBelow self.old self.new) }
     {
         self.room.reserve(&mut self.bytes, 1)?;
         self.bytes.push_reserved(byte);

@@ -1,7 +1,9 @@
 //! Makes arrays of packed structs of numbers.
 ghost use Rattle.std.specs.Prelude.{◌≡◌, ◌+◌, ◌-◌, ◌<◌, ◌≤◌, [], true, Some, max, length, OnOk, OnErr};
+ghost use Rattle.value_store.specs.Below.{Extends, KeepsBelow};
 ghost use Rattle.value_store.specs.Gathering.{with_records, EndsWithTemplate, IsDraft};
-ghost use Rattle.value_store.specs.PackedStructs.{DraftsMore, IsStructsOf, BeginsStructs, CannotBegin, TakesStruct, PacksStruct, CannotPackStruct, ClosesStructs};
+ghost use Rattle.value_store.specs.LayoutArrays.{ClosesPacking};
+ghost use Rattle.value_store.specs.PackedStructs.{DraftsMore, BeginsStructs, CannotBegin, TakesStruct, PacksStruct, CannotPackStruct, ClosesStructs};
 ghost use Rattle.value_store.specs.Moves.{Moves, CannotMove, Places, OpensRecords, PacksRecord, ClosesRecords};
 ghost use Rattle.value_store.specs.Keeping.{IsPushed, CannotPush};
 ghost use Rattle.value_store.specs.Slots.{level_count, packs, innermost, number_value, IsNumber, HasSlots, HoldsInRoom, KeepsRoom, Regrown};
@@ -25,6 +27,7 @@ impl Store {
         ensures full { OnErr result (CannotPush self.old (Some (number_value shape begin at))) }
         ensures moves { OnOk result (Moves self.old self.new Places) }
         ensures lacks { OnErr result (CannotMove self.old Places) }
+        ensures extends { OnOk result (Extends self.old self.new) }
     {
         let _ = &self.nodes;
         self.place_number(shape, begin, u64::from(at))
@@ -45,7 +48,7 @@ impl Store {
 
     // Makes an array of packed structs, which has none yet, of the template that is the last node. It takes the place of
     // the parts of the innermost open value.
-    fn place_records(&mut self, size: u32, stride: u16, start: u64)
+    pub(super) fn place_records(&mut self, size: u32, stride: u16, start: u64)
         requires template { EndsWithTemplate self.old.slots size stride start [] }
         requires stride { 1 ≤ stride }
         requires packs { packs self.old.room ≡ true }
@@ -91,6 +94,7 @@ impl Store {
         ensures full { OnErr result (CannotBegin self.old start) }
         ensures moves { OnOk result (Moves self.old self.new OpensRecords) }
         ensures lacks { OnErr result (CannotMove self.old OpensRecords) }
+        ensures below { OnOk result (KeepsBelow self.old self.new) }
     {
         let _ = &self.nodes;
         self.reserve_records()?;
@@ -111,6 +115,7 @@ impl Store {
         ensures full { OnErr result (CannotPackStruct self.old) }
         ensures moves { OnOk result (Moves self.old self.new (PacksRecord (length more.now))) }
         ensures lacks { OnErr result (CannotMove self.old (PacksRecord (length more.now))) }
+        ensures below { OnOk result (KeepsBelow self.old self.new) }
     {
         self.room.reserve(&mut self.bytes, more.len())?;
         append(&mut self.bytes, more, self.room);
@@ -121,12 +126,13 @@ impl Store {
 
     /// Closes the open array of packed structs.
     pub fn close_records(&mut self)
-        requires { IsStructsOf self.old }
         ensures ok { ClosesStructs self.old self.new }
+        ensures packing { ClosesPacking self.old self.new }
         ensures within { HoldsInRoom self.new }
         ensures room { KeepsRoom self.old self.new }
         ensures depth { level_count self.new ≡ max 1 (level_count self.old - 1) }
         ensures moves { Moves self.old self.new ClosesRecords }
+        ensures below { KeepsBelow self.old self.new }
     {
         self.lift_level();
     }

@@ -5,6 +5,7 @@ ghost use Rattle.value_store.specs.declared.store.room.Growth.TheVariants.{Never
 ghost use Rattle.pickle_types.specs.Table.{IsWidth};
 ghost use Rattle.pickle_meaning.specs.Means.{integer_value, offset_value};
 ghost use Rattle.pickle_meaning.specs.Values.{ArrayLabel};
+ghost use Rattle.value_store.specs.Below.{Extends, KeepsBelow};
 ghost use Rattle.value_store.specs.Closed.{struct_label, union_label};
 ghost use Rattle.value_store.specs.Columns.{AddsNumber};
 ghost use Rattle.value_store.specs.declared.store.slots.Shape.TheVariants.{Integer, Offset};
@@ -23,7 +24,7 @@ use pickle_types::integer::IntegerType;
 // Moves the links above a mark, and leaves capacity for one link there. `to` has the capacity already. The vectors
 // change places where all links move to an empty vector of the same capacity: an array of numbers has as many links as
 // the file has bytes.
-fn move_above(from: &mut Vec<Link>, mark: usize, to: &mut Vec<Link>, room: Room)
+pub(super) fn move_above(from: &mut Vec<Link>, mark: usize, to: &mut Vec<Link>, room: Room)
     requires mark { mark ≤ vec_len from.old }
     requires room { vec_len to.old + (vec_len from.old - mark) ≤ vec_capacity to.old }
     requires above { mark < vec_capacity from.old }
@@ -45,7 +46,7 @@ fn move_above(from: &mut Vec<Link>, mark: usize, to: &mut Vec<Link>, room: Room)
 
 // Reserves capacity for the links above a mark. An empty vector gets as much as the links have where they are, so that
 // both vectors can change places.
-fn reserve_moved(
+pub(super) fn reserve_moved(
     to: &mut Vec<Link>,
     from: &Vec<Link>,
     mark: usize,
@@ -67,7 +68,7 @@ fn reserve_moved(
 }
 
 // Reserves capacity for one link above a mark. The links that are above it now will be moved away.
-fn reserve_above(links: &mut Vec<Link>, mark: usize, room: Room) -> Result<(), Memory>
+pub(super) fn reserve_above(links: &mut Vec<Link>, mark: usize, room: Room) -> Result<(), Memory>
     requires { mark ≤ vec_len links.old }
     ensures items { links.new.items ≡ links.old.items }
     ensures len { vec_len links.new ≡ vec_len links.old }
@@ -115,6 +116,7 @@ impl Store {
         ensures adds { OnOk result (self.new.slots ≡ with_leaf shape start content self.old.slots) }
         ensures moves { OnOk result (Moves self.old self.new Places) }
         ensures lacks { OnErr result (CannotMove self.old Places) }
+        ensures extends { OnOk result (Extends self.old self.new) }
     {
         let index = self.nodes.len();
         self.room.reserve(&mut self.nodes, 1)?;
@@ -142,6 +144,7 @@ impl Store {
         ensures full { OnErr result (CannotClose self.old (λ names. composite_label names shape) start (start + size)) }
         ensures joins { OnOk result (state_of self.new ≡ joined (state_of self.old)) }
         ensures lacks { OnErr result (CannotMove self.old Closes) }
+        ensures below { OnOk result (KeepsBelow self.old self.new) }
     {
         let mark = self.innermost().pending;
         let index = self.nodes.len();
@@ -182,6 +185,7 @@ impl Store {
         ensures adds { OnOk result (AddsNumber self.old self.new (Integer number.width number.signed) start) }
         ensures moves { OnOk result (Moves self.old self.new Places) }
         ensures lacks { OnErr result (CannotMove self.old Places) }
+        ensures extends { OnOk result (Extends self.old self.new) }
     {
         self.place_number(
             Shape::Integer {
@@ -213,6 +217,7 @@ impl Store {
         ensures adds { OnOk result (AddsNumber self.old self.new (Offset number.width number.signed unit) start) }
         ensures moves { OnOk result (Moves self.old self.new Places) }
         ensures lacks { OnErr result (CannotMove self.old Places) }
+        ensures extends { OnOk result (Extends self.old self.new) }
     {
         self.place_number(
             Shape::Offset {
@@ -235,6 +240,7 @@ impl Store {
         ensures full { OnErr result (CannotPush self.old None) }
         ensures moves { OnOk result (Moves self.old self.new Leaves) }
         ensures lacks { OnErr result (CannotMove self.old Leaves) }
+        ensures extends { OnOk result (Extends self.old self.new) }
     {
         self.room.reserve(&mut self.pending, 1)?;
         self.pending.push_reserved(Link::absent());
@@ -254,6 +260,7 @@ impl Store {
         ensures full { OnErr result (CannotClose self.old (λ names. composite_label names shape) start (start + size)) }
         ensures moves { OnOk result (Moves self.old self.new Closes) }
         ensures lacks { OnErr result (CannotMove self.old Closes) }
+        ensures below { OnOk result (KeepsBelow self.old self.new) }
     {
         self.place_family(shape, start, size)?;
         self.lift_level();
@@ -271,6 +278,7 @@ impl Store {
         ensures full { OnErr result (CannotClose self.old (λ names. ArrayLabel) start end) }
         ensures moves { OnOk result (Moves self.old self.new Closes) }
         ensures lacks { OnErr result (CannotMove self.old Closes) }
+        ensures below { OnOk result (KeepsBelow self.old self.new) }
     {
         self.close(Shape::Array, start, end - start)
     }
@@ -287,6 +295,7 @@ impl Store {
         ensures full { OnErr result (CannotClose self.old (λ names. struct_label names of) start end) }
         ensures moves { OnOk result (Moves self.old self.new Closes) }
         ensures lacks { OnErr result (CannotMove self.old Closes) }
+        ensures below { OnOk result (KeepsBelow self.old self.new) }
     {
         self.close(Shape::Struct { of }, start, end - start)
     }
@@ -303,6 +312,7 @@ impl Store {
         ensures full { OnErr result (CannotClose self.old (λ names. union_label names of taken) start end) }
         ensures moves { OnOk result (Moves self.old self.new Closes) }
         ensures lacks { OnErr result (CannotMove self.old Closes) }
+        ensures below { OnOk result (KeepsBelow self.old self.new) }
     {
         self.close(Shape::Union { taken, of }, start, end - start)
     }

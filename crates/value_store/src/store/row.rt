@@ -1,5 +1,6 @@
 //! Arrays of packed numbers.
 ghost use Rattle.std.specs.Prelude.{◌≡◌, ◌<◌, ◌-◌, ◌^◌, max, take, IsTrue, ◌↔◌, OnOk, OnErr};
+ghost use Rattle.value_store.specs.Below.{KeepsBelow};
 ghost use Rattle.value_store.specs.Filling.{Packs, CannotPack, SettlesRow, ClosesRow, CannotCloseRow};
 ghost use Rattle.value_store.specs.Moves.{Moves, CannotMove, Packs as PacksNumber, ClosesRow as ClosesPacked, state_of, settled_row};
 ghost use Rattle.value_store.specs.Packed.{bytes_for, number_bytes};
@@ -48,6 +49,7 @@ impl Store {
         ensures full { OnErr result (CannotPack self.old shape digits start) }
         ensures moves { OnOk result (Moves self.old self.new (PacksNumber width)) }
         ensures lacks { OnErr result (CannotMove self.old (PacksNumber width)) }
+        ensures below { OnOk result (KeepsBelow self.old self.new) }
     {
         if !first && width <= 8 {
             return self.append_byte(shape, digits as u8);
@@ -72,6 +74,7 @@ impl Store {
         ensures full { OnErr result (CannotCloseRow self.old shape start) }
         ensures settles { OnOk result (state_of self.new ≡ settled_row (packs self.old.room) (state_of self.old)) }
         ensures lacks { OnErr result (CannotMove self.old (ClosesPacked)) }
+        ensures below { OnOk result (KeepsBelow self.old self.new) }
     {
         if self.has_no_node() {
             self.place_family(Shape::Array, start, 0)
@@ -92,6 +95,7 @@ impl Store {
         ensures full { OnErr result (CannotCloseRow self.old shape start) }
         ensures moves { OnOk result (Moves self.old self.new (ClosesPacked)) }
         ensures lacks { OnErr result (CannotMove self.old (ClosesPacked)) }
+        ensures below { OnOk result (KeepsBelow self.old self.new) }
     {
         self.settle_row(shape, start)?;
         self.lift_level();

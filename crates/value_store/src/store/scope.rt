@@ -53,7 +53,7 @@ impl Store {
     }
 
     // The node of the part at a place of a frame; None where the part is absent or past the end.
-    fn part_at(&self, level: usize, i: usize) -> Option<usize>
+    pub(super) fn part_at(&self, level: usize, i: usize) -> Option<usize>
         ensures part { (names : Names) →
             option_map (node_value names self.now.slots) result ≡ value_at (levels names self.now) level i }
         ensures below { IfSome result (λ j. j < length self.now.slots.nodes) }

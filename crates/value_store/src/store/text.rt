@@ -2,6 +2,7 @@
 
 ghost use Rattle.std.specs.Prelude.{◌≡◌, ℕ, ◌+◌, ◌-◌, ◌≤◌, [], max, IsTrue, ◌↔◌, OnOk, OnErr};
 ghost use Rattle.pickle_meaning.specs.Values.{opened};
+ghost use Rattle.value_store.specs.Below.{KeepsBelow};
 ghost use Rattle.value_store.specs.Names.{Names};
 ghost use Rattle.value_store.specs.Filling.{Writes, ShowsByte, CannotWrite, Settles, ClosesText, CannotCloseText};
 ghost use Rattle.value_store.specs.Moves.{Moves, CannotMove, Opens, Ends, Writes as WritesByte, state_of, settled};
@@ -20,6 +21,7 @@ impl Store {
         ensures levels { (names : Names) → levels names self.new ≡ opened (levels names self.old) }
         ensures room { KeepsRoom self.old self.new }
         ensures depth { level_count self.new ≡ level_count self.old + 1 }
+        ensures slots { self.new.slots ≡ self.old.slots }
         ensures moves { Moves self.old self.new Opens }
         ensures within { HoldsInRoom self.new }
     {
@@ -40,6 +42,7 @@ impl Store {
         ensures full { OnErr result (CannotWrite self.old byte start) }
         ensures moves { OnOk result (Moves self.old self.new WritesByte) }
         ensures lacks { OnErr result (CannotMove self.old WritesByte) }
+        ensures below { OnOk result (KeepsBelow self.old self.new) }
     {
         if first {
             self.place_bytes(Shape::Text, start, &[byte])
@@ -58,6 +61,7 @@ impl Store {
         ensures full { OnErr result (CannotCloseText self.old start) }
         ensures settles { OnOk result (state_of self.new ≡ settled (state_of self.old)) }
         ensures lacks { OnErr result (CannotMove self.old Ends) }
+        ensures below { OnOk result (KeepsBelow self.old self.new) }
     {
         if self.has_no_node() {
             self.place_bytes(Shape::Text, start, &[])
@@ -77,6 +81,7 @@ impl Store {
         ensures full { OnErr result (CannotCloseText self.old start) }
         ensures moves { OnOk result (Moves self.old self.new Ends) }
         ensures lacks { OnErr result (CannotMove self.old Ends) }
+        ensures below { OnOk result (KeepsBelow self.old self.new) }
     {
         self.settle_text(start)?;
         self.lift_level();

@@ -2,6 +2,7 @@ use Rattle.std.proofs.Common.{rules}
 use Rattle.fault_location.proofs.Meant.{comes_mapped, outer_mapped}
 use Rattle.fault_location.proofs.Searching.{mapped_spends}
 use Rattle.pickle_map.specs.Calls.{as_type}
+use Rattle.pickle_map.proofs.Keeping.{extended_keeps}
 use Rattle.fault_location.proofs.checker.Checker.map_watched.Goals as goal
 
 pub returns : goal.returns
@@ -19,6 +20,8 @@ returns g c = record {
         (as_type c.args.inner.node c.args.inner.order c.args.inner.start) c.map_type.result c.map_type.ensures.is
         c.map_type.ensures.level.same;
     depth = search rules;
+    frames = c.map_type.ensures.level.frames;
+    opened = extended_keeps c.args.self.now.store.now c.map_type.new.self.store.now c.map_type.ensures.level.extends;
   };
   spends =
       mapped_spends c.args.self.now.nodes.now (g.S.Space.view c.args.space.now) (g.S.Space.view c.map_type.new.space)

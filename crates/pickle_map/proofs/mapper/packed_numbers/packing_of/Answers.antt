@@ -1,8 +1,9 @@
 use Rattle.std.proofs.Common.{◌≡◌, refl, sym, ap, subst, ◌∙◌}
 use Rattle.std.proofs.lemmas.Bool.{false≢true}
-use Rattle.pickle_types.specs.Table.{type_of, open_fields}
-use Rattle.mapping_plans.specs.Rows.{Records, struct_row, row_of}
+use Rattle.pickle_types.specs.Table.{name_of, type_of, open_fields, open_parts}
+use Rattle.mapping_plans.specs.Rows.{Records, struct_row, layout_of, row_of}
 use Rattle.pickle_map.proofs.Elements.{apart_shape}
+use Rattle.pickle_map.proofs.Sizes.{laid_or_not, struct_keeps, integral_keeps}
 use Rattle.pickle_map.proofs.RecordTypes.{record_type}
 use Rattle.pickle_map.proofs.Shapes.{opened_as, below_as}
 use Rattle.pickle_map.proofs.mapper.packed_numbers.packing_of.Goals as goal
@@ -44,11 +45,26 @@ returns-then-packs_structs c =
     )
 
 pub returns-else-packs_structs : goal.returns-else-packs_structs
-returns-else-packs_structs c = λ packing.
-    let e = ap row_of (opened_as c.args.nodes.now c.requires.table c.args.element c.requires.element
-    c.index-nodes-element.result _ c.in-Struct.is) in
+returns-else-packs_structs c =
+    let nodes = c.args.nodes.now in
+    let opened = opened_as nodes c.requires.table c.args.element c.requires.element c.index-nodes-element.result _
+    c.in-Struct.is in
     let row = rw (c.deref.ensures.value, c.if-packs_structs.false) at c.packs_structs.ensures in
-    e ∙ row
+    laid_or_not nodes c.args.element c.packing_of_values.result c.args.store.now.room
+    (sym c.packs.ensures ∙ c.if-not-packs.false) (λ own is. ap row_of opened
+    ∙ struct_keeps (name_of c.in-Struct.name) c.in-Struct.pinned (open_fields (type_of nodes) c.in-Struct.fields.items)
+    own row (sym (ap (layout_of 0) opened) ∙ is)) c.packing_of_values.ensures
+
+pub returns-in-Integral : goal.returns-in-Integral
+returns-in-Integral c =
+    let nodes = c.args.nodes.now in
+    let opened = opened_as nodes c.requires.table c.args.element c.requires.element c.index-nodes-element.result _
+    c.in-Integral.is in
+    laid_or_not nodes c.args.element c.packing_of_values-in-Integral.result c.args.store.now.room
+    (sym c.packs.ensures ∙ c.if-not-packs.false) (λ own is. ap row_of opened
+    ∙ integral_keeps (name_of c.in-Integral.name) c.in-Integral.number
+    (open_parts (type_of nodes) c.in-Integral.fields.items) own (sym (ap (layout_of 0) opened) ∙ is))
+    c.packing_of_values-in-Integral.ensures
 
 pub returns-in_default : goal.returns-in_default
 returns-in_default c = λ packing.
@@ -56,3 +72,4 @@ returns-in_default c = λ packing.
     opened_as c.args.nodes.now c.requires.table c.args.element c.requires.element c.index-nodes-element.result _ refl in
     ap row_of opened
     ∙ apart_shape (type_of c.args.nodes.now) _ c.in_default.not-Integer c.in_default.not-Offset c.in_default.not-Struct
+    c.in_default.not-Integral

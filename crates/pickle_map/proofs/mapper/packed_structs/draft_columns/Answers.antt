@@ -2,6 +2,7 @@ use Rattle.std.proofs.Common.{rules, ◌≡◌, ◌+◌, ◌∷◌, drop, take, 
 use Rattle.std.proofs.lemmas.List.{drop_more, take_all}
 use Rattle.pickle_types.specs.Table.{type_of}
 use Rattle.mapping_plans.specs.Rows.{scalar_shape}
+use Rattle.value_store.specs.Moves.{State}
 use Rattle.value_store.specs.PackedStructs.{struct_bytes}
 use Rattle.pickle_map.specs.Columns.{shapes_of}
 use Rattle.pickle_map.specs.Records.{Drafts}
@@ -51,7 +52,8 @@ loop-field-preserved c =
       within = search rules;
       state = search rules;
       room = search rules;
-      stays = pushed_stays nodes _ _ _ _ i.stays (e.ok nodes) e.depth;
+      stays = pushed_stays nodes _ _ _ _ i.stays (e.ok nodes) e.depth (ap (λ (s : State). s.frames) e.moves)
+          e.extends;
     }
 
 pub returns-clause-draft : goal.returns-clause-draft

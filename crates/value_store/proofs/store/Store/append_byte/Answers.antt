@@ -1,10 +1,11 @@
-use Rattle.std.proofs.Common.{rules, [], ◌∷◌, ap, subst, sym, arith}
+use Rattle.std.proofs.Common.{rules, [], ◌∷◌, ap, subst, sym, arith, ◌∙◌}
 use Rattle.std.specs.Prelude.{vec_capacity}
 use Rattle.value_store.specs.Keeping.{LacksBytes}
-use Rattle.value_store.specs.Slots.{Slots, Held, GoesOn}
+use Rattle.value_store.specs.Slots.{Slots, Held, GoesOn, cut_to, innermost}
 use Rattle.value_store.specs.contracts.store.Store.{the_view}
 use Rattle.value_store.proofs.Held.{refused}
 use Rattle.value_store.proofs.Writing.{more-frames, more-placed}
+use Rattle.value_store.proofs.Below.{more-below, frame-within, filling-text}
 use Rattle.value_store.proofs.store.Store.append_byte.Goals as goal
 
 pub invariant_of-self-2 : goal.invariant_of-self-2
@@ -60,3 +61,15 @@ returns-in_err-reserve-clause-full c =
     let lacks : LacksBytes (the_view c.self.inside) 1 =
     (c.self.invariant.bytes, omega (arith, c.in_err-reserve.ensures.full)) in
     rw (← c.self.view_is) (refused c.from_residual.result lacks)
+
+pub returns-clause-below : goal.returns-clause-below
+returns-clause-below c =
+    let h = the_view c.self.inside in
+    let g : GoesOn h c.args.shape (c.args.byte ∷ []) =
+    subst (λ (h : Held). GoesOn h c.args.shape (c.args.byte ∷ [])) (sym c.self.view_is) c.requires in
+    let e =
+    more-placed h c.args.shape (c.args.byte ∷ []) c.len-last.result c.len.result c.push_reserved.new.self.items g
+    (search rules) (search rules) (search rules) in
+    rw (← c.self.view_is) (ap (cut_to (innermost h.frames)) e
+    ∙ more-below (innermost h.frames) h.slots (frame-within h c.self.invariant.levels) (c.args.byte ∷ [])
+    (filling-text g.names h c.args.shape g.bytes g.start g.outer g.filling g.some))

@@ -1,10 +1,11 @@
-use Rattle.std.proofs.Common.{◌<◌, ◌≤◌, ◌^◌, subst, arith}
+use Rattle.std.proofs.Common.{◌<◌, ◌≤◌, ◌^◌, subst, arith, [], ap}
 use Rattle.value_store.specs.declared.store.slots.Shape.TheVariants.{Struct}
 use Rattle.value_store.specs.Slots.{Held, AreLevels, Regrown, innermost, with_family}
 use Rattle.value_store.proofs.Gathering.{begins, closed-template}
 use Rattle.value_store.proofs.PackedStructs.{begins-structs, cannot-begin}
 use Rattle.value_store.proofs.Held.{refused}
 use Rattle.value_store.proofs.Moved.{records-moves, template-lacks}
+use Rattle.value_store.proofs.Below.{records-opened}
 use Rattle.value_store.proofs.store.Store.open_records.Goals as goal
 
 pub place_records-requires-clause-template : goal.place_records-requires-clause-template
@@ -52,3 +53,11 @@ pub returns-in_err-place_family-clause-lacks : goal.returns-in_err-place_family-
 returns-in_err-place_family-clause-lacks c =
     template-lacks _ c.args.self.now c.reserve_records.new.self c.reserve_records.ensures.same
     c.reserve_records.ensures.room c.in_err-place_family.ensures.lacks
+
+pub returns-clause-below : goal.returns-clause-below
+returns-clause-below c =
+    let all = subst (λ (h : Held). AreLevels h.room h.frames h.slots) c.self.view_is c.self.invariant.levels in
+    records-opened c.args.self.now c.reserve_records.new.self c.place_family.new.self c.place_records.new.self all
+    c.reserve_records.ensures.same c.in_ok-place_family.ensures.below
+    (ap (λ (x : Held). x.frames) c.in_ok-place_family.ensures.slots)
+    c.args.size c.args.stride [] c.args.start c.place_records.ensures.slots

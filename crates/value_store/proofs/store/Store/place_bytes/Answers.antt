@@ -1,10 +1,11 @@
-use Rattle.std.proofs.Common.{rules, ◌≡◌, subst, sym, arith}
-use Rattle.value_store.specs.Slots.{Slots, Held, MayKeep, with_bytes}
+use Rattle.std.proofs.Common.{rules, ◌≡◌, subst, sym, arith, ◌∙◌, ap}
+use Rattle.value_store.specs.Slots.{Slots, Held, MayKeep, with_bytes, cut_to, innermost}
 use Rattle.value_store.specs.Takes.{NodesOf, PendingOf, TextsOf, BytesOf}
 use Rattle.value_store.specs.contracts.store.Store.{the_view}
 use Rattle.value_store.proofs.Held.{refused}
 use Rattle.value_store.proofs.Moved.{bytes-lack}
 use Rattle.value_store.proofs.Writing.{bytes-frames, bytes-levels, bytes-full}
+use Rattle.value_store.proofs.Below.{bytes-below, frame-within}
 use Rattle.value_store.proofs.store.Store.place_bytes.Goals as goal
 
 pub returns-in_err-reserve-clause-full : goal.returns-in_err-reserve-clause-full
@@ -126,3 +127,20 @@ returns-clause-levels c =
     let e : t ≡ with_bytes c.args.shape c.args.bytes.now c.args.start s = search rules in
     λ names. rw (← c.self.view_is) (rw e (bytes-levels (the_view c.self.inside) c.args.shape c.args.bytes.now
     c.args.start c.self.invariant.levels c.requires.are may c.requires.some names _))
+
+pub returns-clause-below : goal.returns-clause-below
+returns-clause-below c =
+    let h = the_view c.self.inside in
+    let s = h.slots in
+    let t : Slots = record {
+      nodes = c.push_reserved-3.new.self.items;
+      families = s.families;
+      links = s.links;
+      pending = c.push_reserved-2.new.self.items;
+      texts = c.push_reserved.new.self.items;
+      bytes = c.append.new.to.items;
+    } in
+    let e : t ≡ with_bytes c.args.shape c.args.bytes.now c.args.start s = search rules in
+    rw (← c.self.view_is) (ap (cut_to (innermost h.frames)) e
+    ∙ bytes-below (innermost h.frames) s (frame-within h c.self.invariant.levels) c.args.shape c.args.bytes.now
+    c.args.start)

@@ -4,11 +4,12 @@ use Rattle.value_store.specs.declared.store.slots.Family.{Family}
 use Rattle.value_store.specs.declared.store.slots.Marks.{Marks}
 use Rattle.value_store.specs.declared.store.slots.Node.{Node}
 use Rattle.value_store.specs.Moves.{Closes}
-use Rattle.value_store.specs.Slots.{Slots, innermost, with_family}
+use Rattle.value_store.specs.Slots.{Slots, innermost, with_family, cut_to}
 use Rattle.value_store.specs.Takes.{NodesOf, FamiliesOf, LinksOf, PendingOf}
 use Rattle.value_store.specs.contracts.store.Store.{the_view}
 use Rattle.value_store.proofs.Held.{family-frames, family-levels, family-full, innermost-within}
 use Rattle.value_store.proofs.Moved.{having, family-joins, unmoved}
+use Rattle.value_store.proofs.Below.{family-below, frame-within}
 use Rattle.value_store.proofs.store.Store.place_family.Goals as goal
 
 pub returns-in_err-reserve-clause-full : goal.returns-in_err-reserve-clause-full
@@ -166,3 +167,22 @@ returns-clause-joins c =
     let w : Marks → Slots = λ k. with_family c.args.shape c.args.start c.args.size k.pending s in
     rw (← c.self.view_is)
     (ap (having h) (e ∙ ap w m) ∙ family-joins h c.args.shape c.args.start c.args.size c.self.invariant.levels)
+
+pub returns-clause-below : goal.returns-clause-below
+returns-clause-below c =
+    let h = the_view c.self.inside in
+    let s = h.slots in
+    let m : c.innermost-mark.result ≡ innermost h.frames = search rules in
+    let t : Slots = record {
+      nodes = c.push_reserved-3.new.self.items;
+      families = c.push_reserved-2.new.self.items;
+      links = c.move_above.new.to.items;
+      pending = c.push_reserved.new.self.items;
+      texts = s.texts;
+      bytes = s.bytes;
+    } in
+    let e : t ≡ with_family c.args.shape c.args.start c.args.size c.innermost-mark.result.pending s = search rules in
+    let w : Marks → Slots = λ k. with_family c.args.shape c.args.start c.args.size k.pending s in
+    rw (← c.self.view_is) (ap (cut_to (innermost h.frames)) (e ∙ ap w m)
+    ∙ family-below (innermost h.frames) s (frame-within h c.self.invariant.levels) c.args.shape c.args.start
+    c.args.size)

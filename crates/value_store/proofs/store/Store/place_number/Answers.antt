@@ -2,11 +2,12 @@ use Rattle.std.proofs.Common.{rules, ◌≡◌, Some, length, ◌∙◌, ap, ari
 use Rattle.std.proofs.lemmas.List.{length_push}
 use Rattle.value_store.specs.declared.store.slots.Node.{Node}
 use Rattle.value_store.specs.Moves.{Places}
-use Rattle.value_store.specs.Slots.{Slots, with_leaf}
+use Rattle.value_store.specs.Slots.{Slots, with_leaf, cut_to, marks_of}
 use Rattle.value_store.specs.Takes.{NodesOf, PendingOf}
 use Rattle.value_store.specs.contracts.store.Store.{the_view}
 use Rattle.value_store.proofs.Held.{number-frames, number-levels, number-full}
 use Rattle.value_store.proofs.Moved.{having, number-moves, unmoved}
+use Rattle.value_store.proofs.Below.{leaf-kept}
 use Rattle.value_store.proofs.store.Store.place_number.Goals as goal
 
 pub returns-in_err-reserve-clause-full : goal.returns-in_err-reserve-clause-full
@@ -111,3 +112,17 @@ returns-clause-adds c =
     } in
     let e : t ≡ with_leaf c.args.shape c.args.start c.args.content s = search rules in
     rw (← c.self.view_is) e
+
+pub returns-clause-extends : goal.returns-clause-extends
+returns-clause-extends c =
+    let s = (the_view c.self.inside).slots in
+    let t : Slots = record {
+      nodes = c.push_reserved-2.new.self.items;
+      families = s.families;
+      links = s.links;
+      pending = c.push_reserved.new.self.items;
+      texts = s.texts;
+      bytes = s.bytes;
+    } in
+    let e : t ≡ with_leaf c.args.shape c.args.start c.args.content s = search rules in
+    rw (← c.self.view_is) (ap (cut_to (marks_of s)) e ∙ leaf-kept c.args.shape c.args.start c.args.content s)

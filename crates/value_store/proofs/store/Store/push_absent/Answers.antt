@@ -5,6 +5,7 @@ use Rattle.value_store.specs.Takes.{PendingOf}
 use Rattle.value_store.specs.contracts.store.Store.{the_view}
 use Rattle.value_store.proofs.Held.{absent-frames, absent-levels, absent-full}
 use Rattle.value_store.proofs.Moved.{absent-moves, unmoved}
+use Rattle.value_store.proofs.Below.{absent-kept}
 use Rattle.value_store.proofs.store.Store.push_absent.Goals as goal
 
 pub returns-in_err-reserve-clause-full : goal.returns-in_err-reserve-clause-full
@@ -49,3 +50,8 @@ pub returns-clause-moves : goal.returns-clause-moves
 returns-clause-moves c =
     let e : c.push_reserved.new.self.items ≡ (the_view c.self.inside).slots.pending ++ None ∷ [] = search rules in
     rw (← c.self.view_is) (rw e (absent-moves (the_view c.self.inside)))
+
+pub returns-clause-extends : goal.returns-clause-extends
+returns-clause-extends c =
+    let e : c.push_reserved.new.self.items ≡ (the_view c.self.inside).slots.pending ++ None ∷ [] = search rules in
+    rw (← c.self.view_is) (rw e (absent-kept (the_view c.self.inside).slots))

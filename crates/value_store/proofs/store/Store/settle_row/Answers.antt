@@ -1,4 +1,4 @@
-use Rattle.std.proofs.Common.{rules, ap}
+use Rattle.std.proofs.Common.{rules, ap, refl}
 use Rattle.value_store.specs.Moves.{Closes, ClosesRow, State}
 use Rattle.value_store.specs.Slots.{HasNoNode}
 use Rattle.value_store.proofs.PackedRows.{settled-row, settled-cannot, stale-row_levels}
@@ -39,3 +39,6 @@ pub returns-else-has_no_node-clause-settles : goal.returns-else-has_no_node-clau
 returns-else-has_no_node-clause-settles c =
     let stale : HasNoNode c.args.self.now → ⊥ = search rules in
     row-stale c.args.self.now c.args.shape c.args.start c.requires.packed c.requires.row stale
+
+pub returns-else-has_no_node-clause-below : goal.returns-else-has_no_node-clause-below
+returns-else-has_no_node-clause-below c = refl

@@ -1,4 +1,4 @@
-use Rattle.std.proofs.Common.{rules, ap}
+use Rattle.std.proofs.Common.{rules, ap, refl}
 use Rattle.value_store.specs.declared.store.slots.Shape.TheVariants.{Text}
 use Rattle.value_store.specs.Moves.{Ends, State}
 use Rattle.value_store.specs.Slots.{HasNoNode}
@@ -43,3 +43,6 @@ returns-else-has_no_node-clause-settles c =
     let stale : HasNoNode c.args.self.now → ⊥ = search rules in
     let t = c.requires in
     stale-settled t.names c.args.self.now Text t.bytes c.args.start t.outer t.writing stale
+
+pub returns-else-has_no_node-clause-below : goal.returns-else-has_no_node-clause-below
+returns-else-has_no_node-clause-below c = refl

@@ -1,12 +1,14 @@
-use Rattle.std.proofs.Common.{◌≡◌, ℕ, ◌+◌, ◌-◌, ◌*◌, ◌≤◌, ◌<◌, max, drop}
+use Rattle.std.proofs.Common.{◌≡◌, ℕ, ◌+◌, ◌-◌, ◌*◌, ◌≤◌, ◌<◌, ◌∷◌, List, Option, max, drop}
 use Rattle.pickle_types.specs.Bounds.{least_width}
 use Rattle.pickle_types.specs.Table.{type_of, open_fields, open_parts}
 use Rattle.pickle_map.specs.Calls.{as_fields, as_alternatives, as_elements}
 use Rattle.pickle_map.specs.Follows.{Partly}
 use Rattle.pickle_map.specs.AtWork.{StaysLent}
 use Rattle.pickle_map.specs.Framed.{Frame, Runs, LevelStays, under_way}
+use Rattle.pickle_map.specs.LaidArrays.{HasValues}
+use Rattle.pickle_meaning.specs.Values.{Value, outer_of}
 use Rattle.mapping_plans.specs.Mapping.{plan, fields_plan, element_plan, elements_plan, alternatives_plan}
-use Rattle.value_store.specs.Slots.{levels, level_count}
+use Rattle.value_store.specs.Slots.{levels}
 use Rattle.pickle_map.proofs.Shapes.{fields_bound, parts_bound}
 use Rattle.pickle_map.proofs.mapper.state.Mapper.+mapping.Given as goal
 
@@ -34,6 +36,15 @@ decreases-elements_body g l = 8 * l.element + 8
 
 abbrev pub decreases-map_elements : goal.decreases-map_elements
 decreases-map_elements g l = 8 * l.element + 7
+
+abbrev pub decreases-values_body : goal.decreases-values_body
+decreases-values_body g l = 8 * l.element + 8
+
+abbrev pub decreases-map_values : goal.decreases-map_values
+decreases-map_values g l = 8 * l.element + 7
+
+abbrev pub decreases-map_value : goal.decreases-map_value
+decreases-map_value g l = 8 * l.at + 6
 
 abbrev pub decreases-map_struct : goal.decreases-map_struct
 decreases-map_struct g l = 8 * fields_bound l.fields.now + 2
@@ -77,7 +88,7 @@ invariant-map_alternatives-loop-index g l = record {
   frame : Frame (g.S.Space.view l.initial.space) (g.S.Space.view l.space) l.initial.self.meter.now l.self.meter.now
       l.initial.self.store.now l.self.store.now 0 under_way;
   same : levels l.initial.self.nodes.now l.self.store.now ≡ levels l.initial.self.nodes.now l.initial.self.store.now;
-  depth : level_count l.self.store.now ≡ level_count l.initial.self.store.now;
+  level : LevelStays l.initial.self.nodes.now l.initial.self.store.now l.self.store.now;
   so_far : Runs (g.S.Space.view l.initial.space) l.initial.self.meter.now l.self.meter.now
       l.initial.self.store.now l.self.store.now
       (as_alternatives l.alternatives l.start.order l.start.bit l.initial.self.nodes.now
@@ -109,4 +120,31 @@ invariant-map_elements-loop-self g l = record {
       (plan (8 * (g.S.Space.view l.initial.space).len) (type_of l.initial.self.nodes.now l.element) l.start.order))
       (8 * (g.S.Space.view l.initial.space).len) l.start.bit l.extent n l.count
       (levels l.initial.self.nodes.now l.self.store.now) l.place));
+}
+
+abbrev pub decreases-map_values-loop-self : goal.decreases-map_values-loop-self
+decreases-map_values-loop-self g l = 8 * (g.S.Space.view l.initial.space).len - l.place
+
+abbrev pub invariant-map_values-loop-self : goal.invariant-map_values-loop-self
+invariant-map_values-loop-self g l = record {
+  lent : StaysLent l.initial.self l.self;
+  frame : Frame (g.S.Space.view l.initial.space) (g.S.Space.view l.space) l.initial.self.meter.now l.self.meter.now
+      l.initial.self.store.now l.self.store.now 0 under_way;
+  after : l.start.bit ≤ l.place;
+  inside : l.place ≤ 8 * (g.S.Space.view l.initial.space).len;
+  level : LevelStays l.initial.self.nodes.now l.initial.self.store.now l.self.store.now;
+  counted : l.count + l.start.bit ≤ l.place;
+  first : (l.count ≡ 0 → l.place ≡ l.start.bit) × (l.place ≡ l.start.bit → l.count ≡ 0);
+  so_far : (values : List (Option Value)) × (n : ℕ) × (8 * (g.S.Space.view l.initial.space).len
+      < l.place + n * max 1 (least_width (type_of l.initial.self.nodes.now l.element))) ×
+      HasValues l.initial.self.nodes.now l.self.store.now (type_of l.initial.self.nodes.now l.element) l.start.bit
+      (outer_of (levels l.initial.self.nodes.now l.initial.self.store.now)) l.place values ×
+      Runs (g.S.Space.view l.initial.space) l.initial.self.meter.now l.self.meter.now
+      l.initial.self.store.now l.self.store.now
+      (as_elements l.element l.extent l.start.order l.start.bit l.initial.self.nodes.now
+      (8 * (g.S.Space.view l.initial.space).len) (levels l.initial.self.nodes.now l.initial.self.store.now))
+      (Partly (elements_plan (element_plan (type_of l.initial.self.nodes.now l.element)
+      (plan (8 * (g.S.Space.view l.initial.space).len) (type_of l.initial.self.nodes.now l.element) l.start.order))
+      (8 * (g.S.Space.view l.initial.space).len) l.start.bit l.extent n l.count
+      (values ∷ outer_of (levels l.initial.self.nodes.now l.initial.self.store.now)) l.place));
 }

@@ -1,14 +1,15 @@
-use Rattle.std.proofs.Common.{rules, ◌+◌, ◌^◌, ◌<◌, None, refl, sym, subst, ◌∙◌, arith}
+use Rattle.std.proofs.Common.{rules, ◌+◌, ◌^◌, ◌<◌, None, refl, sym, ap, subst, ◌∙◌, arith}
 use Rattle.std.proofs.lemmas.List.{drop_more, drop_all}
 use Rattle.std.proofs.lemmas.Result.{err_from_is_err_and}
 use Rattle.pickle_types.specs.Table.{type_of}
 use Rattle.pickle_types.specs.Types.{parts_depth}
 use Rattle.mapping_plans.specs.Mapping.{number_plan}
 use Rattle.pickle_meaning.specs.Means.{number_type, width_in}
+use Rattle.value_store.specs.Moves.{State}
 use Rattle.value_store.specs.Slots.{level_count}
 use Rattle.pickle_map.proofs.Shapes.{opened_as, below_as, sound_as, names_as, parts_within, parts_bounded, part_bounded, of_one, integral_opened, parts_named}
 use Rattle.pickle_map.specs.Mappable.{IsPartOf}
-use Rattle.pickle_map.proofs.Keeping.{regrown_stays, pushed_stays, same_stays}
+use Rattle.pickle_map.proofs.Keeping.{added_stays, closes_level, regrown_stays, same_adds, same_stays, stays_then, stopped_stays}
 use Rattle.pickle_map.proofs.Left.{left_open, left_keeps, left_adds}
 use Rattle.pickle_map.proofs.Clauses.{checks_ok, checks_stop}
 use Rattle.pickle_map.proofs.Placing.{digits_end, digits_no_tick, digits_stop, digits_goes}
@@ -53,15 +54,21 @@ integral_body-returns-clause-is g t c =
       follows = closes_made _ _ _
           (in_later c.in_ok-place_fields.ensures.frame.left.room room (c.in_ok-place_fields.ensures.is known))
           (moves_to c.in_ok-place_fields.ensures.frame.left.room (same_room c.close_struct.new.self)
-          c.in_ok-close_struct.ensures.within c.in_ok-close_struct.ensures.moves) n.steps n.made;
+          c.in_ok-close_struct.ensures.within c.in_ok-close_struct.ensures.moves tt) n.steps n.made;
     }
+
+pub integral_body-returns-clause-level : goal.integral_body-returns-clause-level
+integral_body-returns-clause-level g t c =
+    let e = c.in_ok-close_struct.ensures in
+    closes_level c.args.self.now.nodes.now _ _ _ c.requires.open c.in_ok-place_fields.ensures.level e.depth
+    (ap (λ (s : State). s.frames) e.moves) e.below e.within
 
 pub place_fields-loop-part-init : goal.place_fields-loop-part-init
 place_fields-loop-part-init g t c = record {
   lent = search rules;
   frame = search rules;
   left = search rules;
-  level = search rules;
+  level = same_stays c.args.self.now.nodes.now c.args.self.now.store.now;
   so_far = λ known. follow_here;
 }
 
@@ -98,6 +105,11 @@ place_fields-returns-in_err-place_part-clause-is g t c =
     (digits_stop _ _ _ _ _ _ _ _ next _ cut (e.limit ∙ i.frame.limit) e.ok e.made _
     (in_call i.frame.room room (rw i.lent.nodes at (c.in_err-place_part.ensures.is known)))))
 
+pub place_fields-returns-in_err-place_part-clause-level : goal.place_fields-returns-in_err-place_part-clause-level
+place_fields-returns-in_err-place_part-clause-level g t c =
+    let i = c.loop-part.invariant in
+    stays_then c.args.self.now.nodes.now _ _ _ i.level (rw i.lent.nodes at c.in_err-place_part.ensures.level)
+
 pub place_fields-loop-part-preserved : goal.place_fields-loop-part-preserved
 place_fields-loop-part-preserved g t c =
     let e = c.in_ok-tick.ensures in
@@ -111,7 +123,7 @@ place_fields-loop-part-preserved g t c =
       lent = search rules;
       frame = search rules;
       left = search rules;
-      level = search rules;
+      level = stays_then c.args.self.now.nodes.now _ _ _ i.level stays;
       so_far = λ known.
           let h = rw i.lent.nodes at (c.in_ok-place_part.ensures.is known) in
           rw h.kept (follow_on (in_later i.frame.room c.in_ok-place_part.ensures.frame.left.room (i.so_far known))
@@ -149,7 +161,8 @@ pub place_integral-returns-clause-level : goal.place_integral-returns-clause-lev
 place_integral-returns-clause-level g t c =
     let o = c.open_level.ensures in
     left_adds c.args.self.now.nodes.now o.room c.integral_body-placed.ensures.frame.left.room c.leave_level.ensures.room
-    o.depth (o.levels c.args.self.now.nodes.now) _ c.integral_body-placed.ensures.level c.leave_level.ensures.left
+    o.depth (o.levels c.args.self.now.nodes.now) o.slots o.moves _ c.integral_body-placed.ensures.level
+    c.leave_level.ensures.left
 
 pub place_number-place_integer-requires-clause-digits : goal.place_number-place_integer-requires-clause-digits
 place_number-place_integer-requires-clause-digits g t c =
@@ -234,6 +247,33 @@ place_number-returns-in-Union-clause-is g t c = rw (
   opened_as c.args.self.now.nodes.now c.requires.table c.args.at c.requires.at c.index-nodes-at.result _ c.in-Union.is,
 ) (λ known. follow_done)
 
+pub place_number-returns-in-Integral-clause-level : goal.place_number-returns-in-Integral-clause-level
+place_number-returns-in-Integral-clause-level g t c = c.place_integral.ensures.level
+
+pub place_number-returns-in-String-clause-level : goal.place_number-returns-in-String-clause-level
+place_number-returns-in-String-clause-level g t c =
+    same_adds c.args.self.now.nodes.now c.args.self.now.store.now _
+
+pub place_number-returns-in-Array-clause-level : goal.place_number-returns-in-Array-clause-level
+place_number-returns-in-Array-clause-level g t c =
+    same_adds c.args.self.now.nodes.now c.args.self.now.store.now _
+
+pub place_number-returns-in-Struct-clause-level : goal.place_number-returns-in-Struct-clause-level
+place_number-returns-in-Struct-clause-level g t c =
+    same_adds c.args.self.now.nodes.now c.args.self.now.store.now _
+
+pub place_number-returns-in-Union-clause-level : goal.place_number-returns-in-Union-clause-level
+place_number-returns-in-Union-clause-level g t c =
+    same_adds c.args.self.now.nodes.now c.args.self.now.store.now _
+
+pub place_part-returns-in_err-tick-clause-level : goal.place_part-returns-in_err-tick-clause-level
+place_part-returns-in_err-tick-clause-level g t c =
+    same_stays c.args.self.now.nodes.now c.args.self.now.store.now
+
+pub place_part-returns-in_err-place_number-clause-level : goal.place_part-returns-in_err-place_number-clause-level
+place_part-returns-in_err-place_number-clause-level g t c = stopped_stays c.args.self.now.nodes.now _ _ _ _
+    (same_stays _ _) c.in_err-place_number.ensures.level
+
 pub place_part-returns-in_err-tick-clause-is : goal.place_part-returns-in_err-tick-clause-is
 place_part-returns-in_err-tick-clause-is g t c =
     let p = err_from_is_err_and c.from_residual.result c.from_residual.ensures.1 in
@@ -273,9 +313,9 @@ place_part-returns-in_err-check-clause-is g t c =
     (c.in_ok-place_number.ensures.frame.left.limit ∙ e.limit) c.in_err-check.ensures.made _ (omega arith) checked)
 
 pub place_part-returns-clause-level : goal.place_part-returns-clause-level
-place_part-returns-clause-level g t c = pushed_stays c.args.self.now.nodes.now _ _ _ _ (same_stays _ _)
-    (c.in_ok-place_number.ensures.is None).kept c.in_ok-place_number.ensures.level.depth
+place_part-returns-clause-level g t c = added_stays c.args.self.now.nodes.now _ _ _ _ _ (same_stays _ _)
+    (c.in_ok-place_number.ensures.is None).kept c.in_ok-place_number.ensures.level
 
 pub place_part-returns-in_err-check-clause-level : goal.place_part-returns-in_err-check-clause-level
-place_part-returns-in_err-check-clause-level g t c = pushed_stays c.args.self.now.nodes.now _ _ _ _ (same_stays _ _)
-    (c.in_ok-place_number.ensures.is None).kept c.in_ok-place_number.ensures.level.depth
+place_part-returns-in_err-check-clause-level g t c = added_stays c.args.self.now.nodes.now _ _ _ _ _ (same_stays _ _)
+    (c.in_ok-place_number.ensures.is None).kept c.in_ok-place_number.ensures.level

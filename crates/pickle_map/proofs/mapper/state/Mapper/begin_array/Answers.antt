@@ -3,7 +3,9 @@ use Rattle.std.proofs.lemmas.Bool.{false≢true}
 use Rattle.pickle_types.specs.Table.{type_of}
 use Rattle.pickle_meaning.specs.Values.{outer_of}
 use Rattle.value_store.specs.PackedStructs.{struct_bits}
-use Rattle.value_store.specs.Slots.{HasNoNode, packs}
+use Rattle.value_store.specs.Moves.{State}
+use Rattle.value_store.specs.Slots.{Held, HasNoNode, packs}
+use Rattle.pickle_map.proofs.Keeping.{below_keeps, keeps_then, regrown_keeps}
 use Rattle.value_store.proofs.Held.{regrown-levels}
 use Rattle.pickle_map.specs.Columns.{shapes_of}
 use Rattle.pickle_map.specs.Framed.{LevelStays}
@@ -51,6 +53,13 @@ returns-clause-frame g c =
           (λ e. ap outer_of (regrown-levels nodes c.draft_columns.new.store c.open_records.new.self e) ∙ stays.outer)
           (returns-clause-opens g c) c.open_records.ensures.err;
       depth = c.open_records.ensures.depth ∙ stays.depth;
+      frames = either_way c.open_records.result (λ moves. ap (λ (s : State). s.frames) moves ∙ stays.frames)
+          (λ e. ap (λ (h : Held). h.frames) e ∙ stays.frames) c.open_records.ensures.moves c.open_records.ensures.err;
+      opened = keeps_then c.args.self.now.store.now c.draft_columns.new.store c.open_records.new.self stays.frames
+          stays.opened (either_way c.open_records.result
+          (below_keeps c.draft_columns.new.store c.open_records.new.self)
+          (regrown_keeps c.draft_columns.new.store c.open_records.new.self) c.open_records.ensures.below
+          c.open_records.ensures.err);
     } in
     let room = room_then c.in_ok-draft_columns.ensures.room c.open_records.ensures.room in
     search rules

@@ -1,6 +1,7 @@
 use Rattle.std.proofs.Common.{arith}
 use Rattle.std.proofs.lemmas.Result.{err_from_is_err_and}
 use Rattle.pickle_map.proofs.Clauses.{checks_ok, checks_stop}
+use Rattle.pickle_map.proofs.Keeping.{added_stays, same_stays, stopped_stays}
 use Rattle.pickle_map.proofs.Walks.{follow_stop}
 use Rattle.pickle_map.proofs.mapper.state.Mapper.map_column.Goals as goal
 
@@ -28,3 +29,17 @@ returns-clause-is g c =
       follows = checks_ok _ _ _ _ h.value h.follows c.in_ok-end.ensures.frame.left.limit
           c.in_ok-check.ensures.made tt checked;
     }
+
+pub returns-in_err-end-clause-level : goal.returns-in_err-end-clause-level
+returns-in_err-end-clause-level g c =
+    stopped_stays c.args.self.now.nodes.now _ _ _ _ (same_stays _ _) c.in_err-end.ensures.level
+
+pub returns-in_err-check-clause-level : goal.returns-in_err-check-clause-level
+returns-in_err-check-clause-level g c =
+    added_stays c.args.self.now.nodes.now _ _ _ _ _ (same_stays _ _) c.in_ok-end.ensures.is.kept
+    c.in_ok-end.ensures.level
+
+pub returns-clause-level : goal.returns-clause-level
+returns-clause-level g c =
+    added_stays c.args.self.now.nodes.now _ _ _ _ _ (same_stays _ _) c.in_ok-end.ensures.is.kept
+    c.in_ok-end.ensures.level

@@ -10,7 +10,7 @@ use Rattle.pickle_map.specs.Mappable.{IsFieldOf}
 use Rattle.value_store.specs.Slots.{level_count, number_bits}
 use Rattle.pickle_map.proofs.Columns.{first_column, adds_none, adds_more, adds_length, places_none, places_more, column_stops, column_goes}
 use Rattle.pickle_map.proofs.RecordRows.{shapes_more}
-use Rattle.pickle_map.proofs.Keeping.{pushed_stays}
+use Rattle.pickle_map.proofs.Keeping.{same_stays, stays_then}
 use Rattle.pickle_map.proofs.Mapping.{fields_end, fields_no_tick}
 use Rattle.pickle_map.proofs.Shapes.{of_one}
 use Rattle.pickle_map.proofs.Walks.{follow_here, follow_on}
@@ -23,7 +23,7 @@ loop-field-init g c = record {
   frame = search rules;
   after = search rules;
   inside = search rules;
-  level = search rules;
+  level = same_stays c.args.self.now.nodes.now c.args.self.now.store.now;
   columns = c.requires.columns;
   more = places_none c.args.self.now.store.now c.args.self.now.store.now refl;
   adds = adds_none c.args.self.now.store.now c.args.start.bit c.args.row.now.items c.requires.holds;
@@ -66,6 +66,11 @@ returns-in_err-place-clause-is g c =
     rw (p.1, p.2) (follow_on (in_later i.frame.room c.in_err-place.ensures.frame.left.room i.so_far)
     (column_stops _ _ _ _ _ _ _ _ _ next first.2 first.3 (e.limit ∙ i.frame.limit) e.ok e.made _ h))
 
+pub returns-in_err-place-clause-level : goal.returns-in_err-place-clause-level
+returns-in_err-place-clause-level g c =
+    let i = c.loop-field.invariant in
+    stays_then c.args.self.now.nodes.now _ _ _ i.level (rw i.lent.nodes at c.in_err-place.ensures.level)
+
 pub loop-field-preserved : goal.loop-field-preserved
 loop-field-preserved g c =
     let i = c.loop-field.invariant in
@@ -93,7 +98,7 @@ loop-field-preserved g c =
       frame = search rules;
       after = search rules;
       inside = search rules;
-      level = pushed_stays c.args.self.now.nodes.now _ _ _ _ i.level m.kept c.in_ok-place.ensures.level.depth;
+      level = stays_then c.args.self.now.nodes.now _ _ _ i.level (rw i.lent.nodes at c.in_ok-place.ensures.level);
       columns = first.4;
       more = places_more _ _ _ i.more c.in_ok-place.ensures.more;
       adds = rw more (adds_more _ _ _ _ shape c.args.start.bit _ _ _ _ _ i.adds adds);

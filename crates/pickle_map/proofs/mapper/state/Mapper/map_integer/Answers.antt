@@ -2,6 +2,7 @@ use Rattle.std.proofs.Common.{refl}
 use Rattle.std.proofs.lemmas.Result.{err_from_is_err_and}
 use Rattle.bit_space.specs.SpaceView.{known_bits}
 use Rattle.mapping_plans.specs.Mapping.{read_plan}
+use Rattle.pickle_map.proofs.Keeping.{same_adds, stopped_adds}
 use Rattle.pickle_map.proofs.Placing.{read_stops, read_goes}
 use Rattle.pickle_map.proofs.mapper.state.Mapper.map_integer.Goals as goal
 
@@ -25,10 +26,24 @@ returns-in_err-place_integer-clause-level g c =
     let p =
     err_from_is_err_and c.from_residual-in_err-place_integer.result c.from_residual-in_err-place_integer.ensures.1 in
     let level = c.in_err-place_integer.ensures.level in
-    rw p.1 (record { same = level.same; depth = level.depth })
+    rw p.1 (stopped_adds c.args.self.now.nodes.now _ _ _ _ level)
 
 pub returns-clause-level : goal.returns-clause-level
-returns-clause-level g c = record { same = tt; depth = (c.in_ok-place_integer.ensures.level).depth }
+returns-clause-level g c =
+    let level = c.in_ok-place_integer.ensures.level in
+    record {
+      same = tt;
+      depth = level.depth;
+      frames = level.frames;
+      extends = level.extends;
+      back = tt;
+      within = level.within;
+    }
+
+pub returns-in_err-digits-clause-level : goal.returns-in_err-digits-clause-level
+returns-in_err-digits-clause-level g c =
+    let p = err_from_is_err_and c.from_residual.result c.from_residual.ensures.1 in
+    rw p.1 (same_adds c.args.self.now.nodes.now c.args.self.now.store.now _)
 
 pub returns-clause-is : goal.returns-clause-is
 unfolding read_plan

@@ -11,7 +11,8 @@ use Rattle.value_store.specs.Exceeding.{Exceeds}
 use Rattle.value_store.specs.Slots.{levels, element_width, element_value}
 use Rattle.pickle_meaning.specs.Values.{outer_of}
 use Rattle.value_store.proofs.PackedRows.{packing-outer, packing-empty}
-use Rattle.pickle_map.proofs.Keeping.{regrown_stays}
+use Rattle.value_store.specs.Moves.{State}
+use Rattle.pickle_map.proofs.Keeping.{below_keeps, keeps_then, regrown_stays, same_stays}
 use Rattle.pickle_map.proofs.Worlds.{same_room, in_world, in_later, moves_to, lacks_these}
 use Rattle.pickle_map.proofs.Mapping.{few_enough, elements_end, elements_beyond, elements_no_tick, elements_goes, elements_over, elements_stop}
 use Rattle.pickle_map.proofs.Row.{some_bits, least_is, element_end, element_stops, element_no_room, element_goes, row_more, first_is}
@@ -28,7 +29,7 @@ loop-meter-init g c =
       frame = search rules;
       after = search rules;
       inside = search rules;
-      level = search rules;
+      level = same_stays c.args.self.now.nodes.now c.args.self.now.store.now;
       counted = search rules;
       so_far = (
         [],
@@ -112,7 +113,7 @@ loop-meter-preserved g c =
     omega (arith, i.so_far.3) in
     let levels = row_more c.args.shape i.so_far.0 c.in-Ok.digits c.args.start.bit c.loop-meter.place outer i.so_far.3 in
     let moves = rw width at k.moves in
-    let moves = moves_to (same_room c.loop-meter.store) (same_room c.push_packed.new.self) k.within moves in
+    let moves = moves_to (same_room c.loop-meter.store) (same_room c.push_packed.new.self) k.within moves tt in
     let h =
     element_goes {world = world_of (g.S.Space.view c.loop-meter.space) c.loop-meter.store c.push_packed.new.self}
     c.args.shape (8 * (g.S.Space.view c.args.space.now).len) (type_of c.args.self.now.nodes.now c.args.element)
@@ -146,6 +147,10 @@ loop-meter-preserved g c =
         outer =
             packing-outer c.args.self.now.nodes.now c.push_packed.new.self c.args.shape _ c.args.start.bit outer packed;
         depth = k.depth ∙ i.level.depth;
+        frames = ap (λ (s : State). s.frames) k.moves ∙ i.level.frames;
+        opened =
+            keeps_then c.args.self.now.store.now c.loop-meter.store c.push_packed.new.self i.level.frames i.level.opened
+            (below_keeps c.loop-meter.store c.push_packed.new.self k.below);
       };
       counted = omega (arith, i.counted, some.0, width, c.from-place.ensures);
       so_far = rw (c.from-place.ensures, width) (

@@ -10,6 +10,7 @@ use Rattle.value_store.specs.PackedStructs.{struct_bits, struct_of, structs_of}
 use Rattle.value_store.specs.Slots.{levels}
 use Rattle.pickle_map.specs.Columns.{shapes_of}
 use Rattle.pickle_map.specs.Records.{no_structs, some_structs}
+use Rattle.pickle_map.proofs.Keeping.{same_stays, stays_then}
 use Rattle.pickle_map.proofs.Mapping.{few_enough, elements_end, elements_beyond, elements_no_tick, elements_goes, elements_over, elements_stop}
 use Rattle.pickle_map.proofs.RecordElements.{record_least, record_some, structs_more, ends_with_memory, record_goes, record_stops}
 use Rattle.pickle_map.proofs.RecordFrames.{structs_stay}
@@ -26,7 +27,7 @@ loop-row-init g c =
       frame = search rules;
       after = search rules;
       inside = search rules;
-      level = search rules;
+      level = same_stays c.args.self.now.nodes.now c.args.self.now.store.now;
       counted = search rules;
       so_far = (
         [],
@@ -98,7 +99,7 @@ loop-row-preserved g c =
       frame = search rules;
       after = search rules;
       inside = search rules;
-      level = search rules;
+      level = stays_then nodes _ _ _ i.level (rw i.lent.nodes at k.level);
       counted = omega (arith, i.counted, some, one.ends);
       so_far = (
         i.so_far.0 ++ one.digits ∷ [],
@@ -110,6 +111,16 @@ loop-row-preserved g c =
             (follow_on (in_later i.frame.room k.frame.left.room i.so_far.5) next.2),
       );
     }
+
+pub returns-then-ends-clause-level : goal.returns-then-ends-clause-level
+returns-then-ends-clause-level g c =
+    let i = c.loop-row.invariant in
+    stays_then c.args.self.now.nodes.now _ _ _ i.level (rw i.lent.nodes at c.in-Err.ensures.level)
+
+pub returns-in-Err-clause-level : goal.returns-in-Err-clause-level
+returns-in-Err-clause-level g c =
+    let i = c.loop-row.invariant in
+    stays_then c.args.self.now.nodes.now _ _ _ i.level (rw i.lent.nodes at c.in-Err.ensures.level)
 
 pub returns-then-ends-clause-is : goal.returns-then-ends-clause-is
 returns-then-ends-clause-is g c =

@@ -5,7 +5,9 @@ use Rattle.pickle_map.specs.Framed.{LevelStays}
 use Rattle.value_store.proofs.PackedStructs.{length-row}
 use Rattle.pickle_map.proofs.RecordRows.{ok_maps, err_maps, either_way, row_adds, row_stays, packed_is, pack_passes, comes_to}
 use Rattle.pickle_map.proofs.Worlds.{room_then}
-use Rattle.value_store.specs.Slots.{packs}
+use Rattle.value_store.specs.Moves.{State}
+use Rattle.value_store.specs.Slots.{Held, packs}
+use Rattle.pickle_map.proofs.Keeping.{below_keeps, keeps_then, regrown_keeps}
 use Rattle.pickle_map.proofs.mapper.state.Mapper.pack_row.Goals as goal
 
 pub begin_array-requires-clause-stride : goal.begin_array-requires-clause-stride
@@ -29,6 +31,13 @@ returns-clause-frame g c =
           (λ e. ap outer_of (regrown-levels nodes c.begin_array.new.self.store.now c.pack_record.new.self e)
           ∙ stays.outer) (returns-clause-adds g c) c.pack_record.ensures.err;
       depth = c.pack_record.ensures.depth ∙ stays.depth;
+      frames = either_way c.pack_record.result (λ moves. ap (λ (s : State). s.frames) moves ∙ stays.frames)
+          (λ e. ap (λ (h : Held). h.frames) e ∙ stays.frames) c.pack_record.ensures.moves c.pack_record.ensures.err;
+      opened = keeps_then c.args.self.now.store.now c.begin_array.new.self.store.now c.pack_record.new.self stays.frames
+          stays.opened (either_way c.pack_record.result
+          (below_keeps c.begin_array.new.self.store.now c.pack_record.new.self)
+          (regrown_keeps c.begin_array.new.self.store.now c.pack_record.new.self) c.pack_record.ensures.below
+          c.pack_record.ensures.err);
     } in
     let room = room_then c.in_ok-begin_array.ensures.frame.room c.pack_record.ensures.room in
     search rules

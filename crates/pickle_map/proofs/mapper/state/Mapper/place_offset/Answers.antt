@@ -1,8 +1,9 @@
-use Rattle.std.proofs.Common.{refl}
+use Rattle.std.proofs.Common.{refl, ap}
 use Rattle.std.proofs.lemmas.Result.{err_from_is_err_and}
 use Rattle.pickle_meaning.specs.Means.{offset_value}
 use Rattle.mapping_plans.specs.Mapping.{number_plan}
-use Rattle.value_store.proofs.Held.{regrown-levels, regrown-depth}
+use Rattle.value_store.specs.Moves.{State}
+use Rattle.pickle_map.proofs.Keeping.{regrown_adds}
 use Rattle.pickle_map.proofs.Walks.{follow_made, follow_done, follow_no_room}
 use Rattle.pickle_map.proofs.Worlds.{same_room, moves_to, lacks_these}
 use Rattle.pickle_map.proofs.mapper.state.Mapper.place_offset.Goals as goal
@@ -18,10 +19,19 @@ pub returns-in_err-push_offset-clause-level : goal.returns-in_err-push_offset-cl
 returns-in_err-push_offset-clause-level g c =
     let p = err_from_is_err_and c.from_residual.result c.from_residual.ensures.1 in
     let e = c.in_err-push_offset.ensures.err in
-    rw p.1 (record {
-      same = regrown-levels c.args.self.now.nodes.now _ _ e;
-      depth = regrown-depth c.args.self.now.store.now c.push_offset.new.self e;
-    })
+    rw p.1 (regrown_adds c.args.self.now.nodes.now _ _ _ e)
+
+pub returns-clause-level : goal.returns-clause-level
+returns-clause-level g c =
+    let e = c.in_ok-push_offset.ensures in
+    record {
+      same = tt;
+      depth = e.depth;
+      frames = ap (λ (s : State). s.frames) e.moves;
+      extends = e.extends;
+      back = tt;
+      within = e.within;
+    }
 
 pub returns-clause-is : goal.returns-clause-is
 unfolding number_plan
@@ -32,5 +42,5 @@ returns-clause-is g c =
       kept = c.in_ok-push_offset.ensures.ok c.args.self.now.nodes.now;
       ends = refl;
       follows = follow_made (moves_to (same_room c.args.self.now.store.now) (same_room c.push_offset.new.self)
-          c.in_ok-push_offset.ensures.within c.in_ok-push_offset.ensures.moves) n.limit n.steps n.made follow_done;
+          c.in_ok-push_offset.ensures.within c.in_ok-push_offset.ensures.moves tt) n.limit n.steps n.made follow_done;
     }

@@ -10,6 +10,7 @@ use Rattle.value_store.specs.PackedStructs.{struct_bytes}
 use Rattle.pickle_map.specs.Columns.{shapes_of}
 use Rattle.pickle_map.specs.Records.{PassesRoom, in_frame, packed_state}
 use Rattle.value_store.proofs.PackedStructs.{length-row}
+use Rattle.pickle_map.proofs.Keeping.{dropped_stays, stays_then}
 use Rattle.pickle_map.proofs.RecordFrames.{dropped_is, filled_is, among_stays, structs_stay, frame_stops, frame_packs, frame_lacks, struct_is}
 use Rattle.pickle_map.proofs.Shapes.{fields_named}
 use Rattle.pickle_map.proofs.mapper.state.Mapper.record_body.Goals as goal
@@ -105,3 +106,31 @@ returns-clause-is g c =
       ends = m.adds.ends;
       runs = rw (← value) runs;
     }
+
+pub returns-in_err-end-clause-level : goal.returns-in_err-end-clause-level
+returns-in_err-end-clause-level g c =
+    let o = c.open_level.ensures in
+    let d = c.drop_level.ensures in
+    dropped_stays c.args.self.now.nodes.now _ _ _ _ o.moves o.slots (o.levels c.args.self.now.nodes.now)
+    c.in_err-end.ensures.level
+    (d.levels c.args.self.now.nodes.now) d.moves d.slots o.depth d.depth
+
+pub returns-in_err-pack_row-clause-level : goal.returns-in_err-pack_row-clause-level
+returns-in_err-pack_row-clause-level g c =
+    let o = c.open_level.ensures in
+    let d = c.drop_level.ensures in
+    let m = c.in_ok-end.ensures in
+    let dropped =
+    dropped_stays c.args.self.now.nodes.now _ _ _ _ o.moves o.slots (o.levels c.args.self.now.nodes.now) m.level
+    (d.levels c.args.self.now.nodes.now) d.moves d.slots o.depth d.depth in
+    stays_then c.args.self.now.nodes.now _ _ _ dropped (rw m.frame.lent.nodes at c.in_err-pack_row.ensures.frame.level)
+
+pub returns-clause-level : goal.returns-clause-level
+returns-clause-level g c =
+    let o = c.open_level.ensures in
+    let d = c.drop_level.ensures in
+    let m = c.in_ok-end.ensures in
+    let dropped =
+    dropped_stays c.args.self.now.nodes.now _ _ _ _ o.moves o.slots (o.levels c.args.self.now.nodes.now) m.level
+    (d.levels c.args.self.now.nodes.now) d.moves d.slots o.depth d.depth in
+    stays_then c.args.self.now.nodes.now _ _ _ dropped (rw m.frame.lent.nodes at c.in_ok-pack_row.ensures.frame.level)

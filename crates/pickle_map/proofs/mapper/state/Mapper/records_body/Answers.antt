@@ -5,12 +5,13 @@ use Rattle.pickle_types.specs.Table.{type_of}
 use Rattle.pickle_meaning.specs.Means.{array_value}
 use Rattle.pickle_meaning.specs.Values.{outer_of}
 use Rattle.mapping_plans.specs.Mapping.{array_move}
+use Rattle.value_store.specs.Moves.{State}
 use Rattle.value_store.specs.PackedStructs.{structs_of}
 use Rattle.value_store.specs.Slots.{levels}
 use Rattle.pickle_map.specs.Columns.{shapes_of}
-use Rattle.pickle_map.proofs.Keeping.{regrown_stays}
+use Rattle.pickle_map.proofs.Keeping.{closes_level, regrown_stays}
 use Rattle.pickle_map.proofs.Mapping.{array_no_room, array_made}
-use Rattle.pickle_map.proofs.RecordArrays.{none_mapped, has_none, has_some, is_open, none_closed, some_closed, none_moves, some_moves, none_lacks}
+use Rattle.pickle_map.proofs.RecordArrays.{none_mapped, has_none, has_some, none_closed, some_closed, none_moves, some_moves, none_lacks}
 use Rattle.pickle_map.proofs.RecordElements.{record_some}
 use Rattle.pickle_map.proofs.RecordRows.{packing_nodes}
 use Rattle.pickle_map.proofs.Walks.{follow_stop}
@@ -50,16 +51,6 @@ returns-in_err-close_array-clause-is g c =
     let lacks = none_lacks m.frame.left.room c.requires.record.packs c.close_array.new.self fresh.opened full e.lacks in
     rw (p.1, p.2) (array_no_room _ _ _ _ (in_later m.frame.left.room e.room m.is.runs) (type_of nodes c.args.element)
     (rw (ap array_move r.row) lacks))
-
-pub close_records-requires : goal.close_records-requires
-close_records-requires g c =
-    let nodes = c.args.self.now.nodes.now in
-    let m = c.in_ok-end.ensures in
-    let outer = outer_of (levels nodes c.args.self.now.store.now) in
-    is_open nodes c.map_records.new.self.store.now c.args.element (shapes_of (type_of nodes) c.args.fields.now)
-    c.args.start.bit outer m.is.rows
-    (has_some nodes c.map_records.new.self.store.now c.args.element (shapes_of (type_of nodes) c.args.fields.now)
-    c.args.start.bit outer m.is.rows m.is.has (λ none. c.if-end-start.false (m.is.ends ∙ rw none (omega arith))))
 
 pub returns-clause-is : goal.returns-clause-is
 returns-clause-is g c =
@@ -104,4 +95,17 @@ returns-clause-is g c =
             follows = array_made _ _ _ _ (in_later m.frame.left.room e.room m.is.runs) (type_of nodes c.args.element)
                 (rw (ap array_move r.row) moves) n.steps n.made;
           })
+    ]
+
+pub returns-clause-level : goal.returns-clause-level
+returns-clause-level g c =
+    elim c.if-end-start.branch [
+      | then-end-start+in_ok-close_array w ↦
+          let e = w.in_ok-close_array.ensures in
+          rw w.self-is (closes_level c.args.self.now.nodes.now _ _ _ c.requires.open.0 c.in_ok-end.ensures.level e.depth
+          (ap (λ (s : State). s.frames) e.moves) e.below e.within)
+      | else-end-start w ↦
+          let e = w.close_records.ensures in
+          rw w.self-is (closes_level c.args.self.now.nodes.now _ _ _ c.requires.open.0 c.in_ok-end.ensures.level e.depth
+          (ap (λ (s : State). s.frames) e.moves) e.below e.within)
     ]

@@ -4,7 +4,8 @@ use Rattle.std.proofs.Common.{Some, ap, ◌∙◌}
 use Rattle.pickle_types.specs.Table.{type_of}
 use Rattle.pickle_meaning.specs.Values.{outer_of, pushed}
 use Rattle.value_store.specs.Slots.{levels}
-use Rattle.pickle_map.proofs.Keeping.{regrown_stays}
+use Rattle.value_store.specs.Moves.{State}
+use Rattle.pickle_map.proofs.Keeping.{closes_level, regrown_stays}
 use Rattle.pickle_map.proofs.Mapping.{array_no_room, array_made}
 use Rattle.pickle_map.proofs.Row.{row_move, row_closed}
 use Rattle.pickle_map.proofs.Worlds.{same_room, in_later, moves_to, lacks_these}
@@ -34,6 +35,12 @@ returns-in_err-close_row-clause-level g c =
     let p = err_from_is_err_and c.from_residual-in_err-close_row.result c.from_residual-in_err-close_row.ensures.1 in
     rw p.1 (regrown_stays c.args.self.now.nodes.now _ _ _ c.in_ok-end.ensures.level c.in_err-close_row.ensures.err)
 
+pub returns-clause-level : goal.returns-clause-level
+returns-clause-level g c =
+    let e = c.in_ok-close_row.ensures in
+    closes_level c.args.self.now.nodes.now _ _ _ c.requires.open c.in_ok-end.ensures.level e.depth
+    (ap (λ (s : State). s.frames) e.moves) e.below e.within
+
 pub returns-clause-is : goal.returns-clause-is
 returns-clause-is g c =
     let n = c.note_made.ensures in
@@ -44,7 +51,7 @@ returns-clause-is g c =
     (row_closed c.args.shape m.numbers c.args.start.bit c.in_ok-end.end outer m.ends) in
     let room = c.in_ok-close_row.ensures.room in
     let moves = moves_to c.in_ok-end.ensures.frame.left.room (same_room c.close_row.new.self)
-    c.in_ok-close_row.ensures.within c.in_ok-close_row.ensures.moves in
+    c.in_ok-close_row.ensures.within c.in_ok-close_row.ensures.moves tt in
     let move = row_move c.args.shape (type_of c.args.self.now.nodes.now c.args.element) c.requires.shape.is in
     record {
       value = _;

@@ -3,7 +3,8 @@ use Rattle.std.proofs.lemmas.Result.{err_from_is_err_and}
 use Rattle.value_store.specs.Slots.{levels}
 use Rattle.pickle_meaning.specs.Values.{outer_of, text_value}
 use Rattle.value_store.proofs.Writing.{writing-outer}
-use Rattle.pickle_map.proofs.Keeping.{regrown_stays}
+use Rattle.value_store.specs.Moves.{State}
+use Rattle.pickle_map.proofs.Keeping.{below_keeps, closes_level, keeps_then, regrown_stays, same_stays}
 use Rattle.mapping_plans.proofs.Fitting.{longer}
 use Rattle.pickle_map.proofs.Walks.{follow_here, follow_on}
 use Rattle.pickle_map.proofs.Worlds.{same_room, in_later, moves_to, lacks_these}
@@ -16,7 +17,7 @@ loop-byte-init g c = record {
   frame = search rules;
   after = search rules;
   inside = search rules;
-  level = search rules;
+  level = same_stays c.args.self.now.nodes.now c.args.self.now.store.now;
   so_far = ([], _, omega arith, omega arith, c.requires.writing, follow_here);
 }
 
@@ -65,7 +66,7 @@ returns-then-byte-eq0-clause-is g c =
     let keeps = rw end at keeps in
     let room = c.in_ok-close_text-in-Ok.ensures.room in
     let moves = moves_to i.frame.room (same_room c.close_text.new.self) c.in_ok-close_text-in-Ok.ensures.within
-    c.in_ok-close_text-in-Ok.ensures.moves in
+    c.in_ok-close_text-in-Ok.ensures.moves tt in
     record {
       value = text_value i.so_far.0 c.args.start (c.loop-byte.place + 8);
       kept = keeps;
@@ -73,6 +74,12 @@ returns-then-byte-eq0-clause-is g c =
       follows = follow_on (in_later i.frame.room room i.so_far.5) (text_closed _ _ _ _ _ _ i.so_far.2 i.inside _
           (r.limit ∙ i.frame.limit) r.steps r.made fits may moves c.if-byte-eq0.true n.steps n.made);
     }
+
+pub returns-then-byte-eq0-clause-level : goal.returns-then-byte-eq0-clause-level
+returns-then-byte-eq0-clause-level g c =
+    let e = c.in_ok-close_text-in-Ok.ensures in
+    closes_level c.args.self.now.nodes.now _ _ _ c.requires.open c.loop-byte.invariant.level e.depth
+    (ap (λ (s : State). s.frames) e.moves) e.below e.within
 
 pub returns-in_err-push_byte-in-Ok-clause-is : goal.returns-in_err-push_byte-in-Ok-clause-is
 returns-in_err-push_byte-in-Ok-clause-is g c =
@@ -111,7 +118,7 @@ loop-byte-preserved g c =
     let shows = c.in_ok-push_byte-in-Ok.ensures.levels c.args.self.now.nodes.now i.so_far.0 outer i.so_far.4
     (omega (arith, i.so_far.3, fits, short)) in
     let moves = moves_to i.frame.room (same_room c.push_byte.new.self) c.in_ok-push_byte-in-Ok.ensures.within
-    c.in_ok-push_byte-in-Ok.ensures.moves in
+    c.in_ok-push_byte-in-Ok.ensures.moves tt in
     let next = text_goes _ _ _ _ _ _ i.so_far.2 i.inside _ (r.limit ∙ i.frame.limit) r.steps r.made fits may
     c.if-byte-eq0.false moves n.steps n.made in
     record {
@@ -121,6 +128,10 @@ loop-byte-preserved g c =
       level = record {
         outer = writing-outer c.args.self.now.nodes.now c.push_byte.new.self _ c.args.start outer writes;
         depth = c.in_ok-push_byte-in-Ok.ensures.depth ∙ i.level.depth;
+        frames = ap (λ (s : State). s.frames) c.in_ok-push_byte-in-Ok.ensures.moves ∙ i.level.frames;
+        opened =
+            keeps_then c.args.self.now.store.now c.loop-byte.store c.push_byte.new.self i.level.frames i.level.opened
+            (below_keeps c.loop-byte.store c.push_byte.new.self c.in_ok-push_byte-in-Ok.ensures.below);
       };
       so_far = (
         i.so_far.0 ++ c.in-Ok.byte ∷ [],

@@ -1,0 +1,31 @@
+-- Types whose values are all alike but for their numbers, as the mapper finds them.
+use Rattle.std.specs.Prelude.{◌≡◌, ℕ, ◌+◌, ◌*◌, ◌<◌, ◌≤◌, Bool, true, false, List, Option, Some, None, length}
+use Rattle.pickle_types.specs.declared.node.Field.{Field}
+use Rattle.pickle_types.specs.declared.node.Node.{Node}
+use Rattle.pickle_types.specs.declared.node.Part.{Part}
+use Rattle.mapping_plans.specs.Rows.{Layout}
+use Rattle.pickle_map.specs.declared.mapper.layouts.FixedSize.{FixedSize}
+
+-- a size is that of a layout
+abbrev pub IsSizeOf : Option FixedSize → Option Layout → Type 0
+IsSizeOf None None = Unit {0}
+IsSizeOf None (Some l) = ⊥
+IsSizeOf (Some size) None = ⊥
+IsSizeOf (Some size) (Some l) = (size.bits ≡ l.bits) × (size.bytes ≡ l.bytes)
+
+-- it has at most 512 bytes
+abbrev pub IsFew : Option FixedSize → Type 0
+IsFew None = Unit {0}
+IsFew (Some size) = (size.bits ≤ 8 * size.bytes) × (size.bytes ≤ 512)
+
+-- the nodes of fields leave place for as many levels
+abbrev pub HasPlace : List Node → (level : ℕ) → Field → Type 0
+HasPlace nodes level f = level + f.node < length nodes
+
+abbrev pub HasPartPlace : List Node → (level : ℕ) → Part → Type 0
+HasPartPlace nodes level p = level + p.node < length nodes
+
+-- there is a layout
+abbrev pub IsLaid : Bool → Option Layout → Type 0
+IsLaid true own = (l : Layout) × (own ≡ Some l)
+IsLaid false own = own ≡ None

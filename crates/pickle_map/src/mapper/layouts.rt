@@ -1,0 +1,161 @@
+//! Types whose values are all alike but for their numbers, so that arrays of them are packed.
+
+ghost use Rattle.std.specs.Prelude.{◌≡◌, ◌+◌, ◌<◌, Option, Some, None, length, All, if◌then◌else◌};
+ghost use Rattle.mapping_plans.specs.Rows.{Layout, clause_avoids, field_layout, fields_layout, layout_of, number_layout, parts_layout, some_bytes};
+ghost use Rattle.pickle_map.specs.Layouts.{HasPlace, HasPartPlace, IsFew, IsLaid, IsSizeOf};
+ghost use Rattle.pickle_types.specs.Table.{IsTable, IsWidth, type_of, open_fields, open_parts, optional_term};
+
+use crate::mapper::packed_fields::clause_avoids;
+use pickle_types::integer::IntegerType;
+use pickle_types::view::{Field, Node, Part, Shape};
+
+/// How many bits each value of such a type takes, and how many bytes its numbers take side by side.
+#[derive(Clone, Copy)]
+pub(crate) struct FixedSize {
+    pub bits: u32,
+    pub bytes: u32,
+}
+
+// The most bytes of a struct.
+const MOST_BYTES: u32 = 512;
+
+// The size of a number of a type.
+fn number_size(number: IntegerType) -> FixedSize
+    requires width { IsWidth number }
+    ensures size { IsSizeOf (Some result) (Some (number_layout number)) }
+    ensures few { IsFew (Some result) }
+{
+    let bits = u32::from(number.width);
+    FixedSize {
+        bits,
+        bytes: (bits + 7) / 8,
+    }
+}
+
+// Whether a field is always there, right after the one before it, and its constraint names nothing of the frame at that
+// level.
+fn is_plain(field: &Field, level: usize) -> bool
+    ensures { (own : Option Layout) → field_layout (clause_avoids level (optional_term field.now.constraint))
+        (optional_term field.now.label) (optional_term field.now.condition) own ≡ (if result then own else None) }
+{
+    match (&field.label, &field.condition) {
+        (None, None) => clause_avoids(&field.constraint, level),
+        _ => false,
+    }
+}
+
+// The size of the type at a place of the table, if it has one. No constraint names anything of the frame at that level
+// of the frames around a value.
+#[cycle(sizes)]
+fn size_at(nodes: &[Node], at: usize, level: usize) -> Option<FixedSize>
+    requires table { IsTable nodes.now }
+    requires at { level + at < length nodes.now }
+    ensures size { IsSizeOf result (layout_of level (type_of nodes.now at)) }
+    ensures few { IsFew result }
+{
+    match &nodes[at].shape {
+        Shape::Integer(number) => Some(number_size(*number)),
+        Shape::Offset(number, _) => Some(number_size(*number)),
+        Shape::Struct {
+            name: _,
+            pinned,
+            fields,
+        } => {
+            if *pinned {
+                None
+            } else {
+                fields_size(nodes, fields, level + 1)
+            }
+        }
+        Shape::Integral {
+            name: _,
+            number,
+            fields,
+        } => match parts_size(nodes, fields, level + 1) {
+            Some(own) => {
+                if own.bits == u32::from(number.width) {
+                    Some(own)
+                } else {
+                    None
+                }
+            }
+            None => None,
+        },
+        Shape::String => None,
+        Shape::Array(..) => None,
+        Shape::Union { .. } => None,
+    }
+}
+
+// The size of a struct of these fields, one after the other. The last field comes first, and no field is looked at after
+// 512 bytes, so that few types are looked at, however often they are in one another.
+#[cycle(sizes)]
+fn fields_size(nodes: &[Node], fields: &[Field], level: usize) -> Option<FixedSize>
+    requires table { IsTable nodes.now }
+    requires fields { All (HasPlace nodes.now level) fields.now }
+    ensures size { IsSizeOf result (some_bytes (fields_layout level (open_fields (type_of nodes.now) fields.now))) }
+    ensures few { IsFew result }
+{
+    let mut all = FixedSize { bits: 0, bytes: 0 };
+    let mut at = fields.len();
+    while at > 0 {
+        at -= 1;
+        let field = &fields[at];
+        if !is_plain(field, level) {
+            return None;
+        }
+        let own = match size_at(nodes, field.node, level) {
+            Some(own) => own,
+            None => return None,
+        };
+        all = FixedSize {
+            bits: own.bits + all.bits,
+            bytes: own.bytes + all.bytes,
+        };
+        if MOST_BYTES < all.bytes {
+            return None;
+        }
+    }
+    if all.bytes == 0 { None } else { Some(all) }
+}
+
+// The same for the fields of an integral struct.
+#[cycle(sizes)]
+fn parts_size(nodes: &[Node], parts: &[Part], level: usize) -> Option<FixedSize>
+    requires table { IsTable nodes.now }
+    requires parts { All (HasPartPlace nodes.now level) parts.now }
+    ensures size { IsSizeOf result (some_bytes (parts_layout level (open_parts (type_of nodes.now) parts.now))) }
+    ensures few { IsFew result }
+{
+    let mut all = FixedSize { bits: 0, bytes: 0 };
+    let mut at = parts.len();
+    while at > 0 {
+        at -= 1;
+        let part = &parts[at];
+        if !clause_avoids(&part.constraint, level) {
+            return None;
+        }
+        let own = match size_at(nodes, part.node, level) {
+            Some(own) => own,
+            None => return None,
+        };
+        all = FixedSize {
+            bits: own.bits + all.bits,
+            bytes: own.bytes + all.bytes,
+        };
+        if MOST_BYTES < all.bytes {
+            return None;
+        }
+    }
+    if all.bytes == 0 { None } else { Some(all) }
+}
+
+/// Whether the elements of an array of the type at a place of the table, which are no numbers and no structs of numbers,
+/// are kept as values of fixed layout.
+pub(crate) fn is_laid(nodes: &[Node], at: usize) -> bool
+    requires table { IsTable nodes.now }
+    requires at { at < length nodes.now }
+    ensures { IsLaid result (layout_of 0 (type_of nodes.now at)) }
+{
+    size_at(nodes, at, 0).is_some()
+}
