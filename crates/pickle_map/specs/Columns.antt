@@ -1,5 +1,5 @@
 -- The numbers of a struct, as a mapper places them.
-use Rattle.std.specs.Prelude.{◌≡◌, ℕ, ◌+◌, ◌<◌, ◌^◌, ◌∷◌, ◌++◌, List, map, length, Bool, true, false, Option, Some, None}
+use Rattle.std.specs.Prelude.{◌≤◌, ◌≡◌, ℕ, ◌+◌, ◌<◌, ◌^◌, ◌∷◌, ◌++◌, List, map, length, Bool, true, false, Option, Some, None}
 use Rattle.pickle_types.specs.Types.{PokeType}
 use Rattle.pickle_types.specs.declared.node.Field.{Field}
 use Rattle.pickle_types.specs.declared.node.Node.{Node}
@@ -22,12 +22,12 @@ use Rattle.mapping_plans.specs.Rows.{Row, Apart, Records, column_width, stride_o
 abbrev pub HasNode : List Node → Field → Type 0
 HasNode nodes f = f.node < length nodes
 
--- how many bytes numbers of these widths take, if there are any widths
+-- how many bytes numbers of these widths take side by side, unless one of them has no width or they are more than 512
 abbrev pub IsStride : Option ℕ → Option (List ℕ) → Type 0
 IsStride None None = Unit {0}
-IsStride None (Some widths) = ⊥
+IsStride None (Some widths) = 512 < stride_of widths
 IsStride (Some stride) None = ⊥
-IsStride (Some stride) (Some widths) = stride ≡ stride_of widths
+IsStride (Some stride) (Some widths) = (stride ≡ stride_of widths) × (stride ≤ 512)
 
 -- the width of a field that is a column
 abbrev pub field_width : List Node → Field → Option ℕ

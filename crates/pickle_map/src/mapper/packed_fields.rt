@@ -94,22 +94,31 @@ fn column_width(nodes: &[Node], field: &Field) -> Option<u8>
     }
 }
 
-/// How many bytes the numbers of a struct with such fields take side by side, if all of them are such numbers.
+// The most bytes of a packed struct.
+const MOST_BYTES: usize = 512;
+
+/// How many bytes the numbers of a struct with such fields take side by side, if all of them are such numbers and take
+/// at most 512 bytes. No field is looked at after one that is no such number, or after 512 bytes, since this is called
+/// for each array.
 pub(crate) fn stride_of(nodes: &[Node], fields: &[Field]) -> Option<usize>
     requires table { IsTable nodes.now }
     requires fields { All (HasNode nodes.now) fields.now }
     ensures { IsStride result (column_widths (open_fields (type_of nodes.now) fields.now)) }
 {
-    let mut all = Some(0);
+    let mut all = 0;
     let mut at = fields.len();
     while at > 0 {
         at -= 1;
-        all = match (column_width(nodes, &fields[at]), all) {
-            (Some(width), Some(rest)) => Some(rest + (usize::from(width) + 7) / 8),
-            _ => None,
+        let width = match column_width(nodes, &fields[at]) {
+            Some(width) => width,
+            None => return None,
         };
+        all += (usize::from(width) + 7) / 8;
+        if MOST_BYTES < all {
+            return None;
+        }
     }
-    all
+    Some(all)
 }
 
 // Appends a number of `width` bits to the bytes of a packed struct.

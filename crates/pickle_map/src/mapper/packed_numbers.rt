@@ -34,9 +34,6 @@ pub(crate) enum Packing<'a> {
     Values,
 }
 
-// The most bytes of a packed struct.
-const MOST_BYTES: usize = 512;
-
 // Whether structs with such fields are packed in an array.
 fn packs_structs(nodes: &[Node], pinned: bool, fields: &[Field]) -> bool
     requires table { IsTable nodes.now }
@@ -48,7 +45,7 @@ fn packs_structs(nodes: &[Node], pinned: bool, fields: &[Field]) -> bool
     }
     match stride_of(nodes, fields) {
         None => false,
-        Some(stride) => 1 <= stride && stride <= MOST_BYTES,
+        Some(stride) => 1 <= stride,
     }
 }
 

@@ -1,4 +1,4 @@
-use Rattle.std.proofs.Common.{◌+◌, ◌*◌, ◌≤◌, length, drop, IfSome}
+use Rattle.std.proofs.Common.{◌≤◌, length, drop, Some}
 use Rattle.pickle_types.specs.Table.{type_of, open_fields}
 use Rattle.mapping_plans.specs.Rows.{column_widths}
 use Rattle.pickle_map.specs.Columns.{IsStride}
@@ -7,8 +7,8 @@ use Rattle.pickle_map.proofs.mapper.packed_fields.stride_of.Given as goal
 abbrev pub invariant-loop-at : goal.invariant-loop-at
 invariant-loop-at l = record {
   within : l.at ≤ length l.fields;
-  few : IfSome l.all (λ stride. stride + 32 * l.at ≤ 32 * length l.fields);
-  so_far : IsStride l.all (column_widths (open_fields (type_of l.nodes) (drop l.at l.fields)));
+  few : l.all ≤ 512;
+  so_far : IsStride (Some l.all) (column_widths (open_fields (type_of l.nodes) (drop l.at l.fields)));
 }
 
 abbrev pub decreases-loop-at : goal.decreases-loop-at
