@@ -4,3 +4,4 @@ pub mod Comes
 pub mod Ranges
 pub mod Known
 pub mod Evaluating
+pub mod Spending

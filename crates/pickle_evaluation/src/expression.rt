@@ -3,7 +3,7 @@
 //! Rare cases are functions of their own, which aren't inlined: a call pays for the locals of everything that is
 //! inlined.
 
-ghost use Rattle.std.specs.Prelude.{◌≡◌, ◌+◌, ◌<◌, ◌≤◌, ◌^◌, IfOk, OnOk, OnErr, List};
+ghost use Rattle.std.specs.Prelude.{◌≡◌, ◌+◌, ◌<◌, ◌^◌, IfOk, OnOk, OnErr, List};
 ghost use Rattle.pickle_types.specs.Table.{term_of};
 ghost use Rattle.pickle_types.specs.declared.node.Node.{Node as TableNode};
 ghost use Rattle.pickle_types.specs.Sound.{IsOptionalWidth, IsSoundTerm};
@@ -14,6 +14,7 @@ ghost use Rattle.pickle_evaluation.specs.Operands.{IsOperand};
 ghost use Rattle.pickle_evaluation.specs.Comes.{Comes, computed_operand, IsApplied, infix_part, choice_part, index_part};
 ghost use Rattle.pickle_evaluation.specs.Contents.{IsSoundContent, IsHeld};
 ghost use Rattle.pickle_evaluation.specs.Evaluating.{Chooses, Combines, Evaluates, EvaluatesOn, Indexes, Looks};
+ghost use Rattle.pickle_evaluation.specs.Spending.{SpendsSteps};
 ghost use Rattle.value_store.specs.Scalars.{computed_of, IsScalar};
 
 use crate::comparison::{COMPARISON_STEPS, comparison, leaf};
@@ -39,9 +40,7 @@ pub fn evaluate<'a>(
     meter: &mut Meter,
 ) -> Result<Operand<'a>, Unvalued>
     requires { IsSoundTerm (term_of e.now) }
-    ensures limit { meter.new.limit ≡ meter.old.limit }
-    ensures made { meter.new.made ≡ meter.old.made }
-    ensures steps { meter.old.steps ≤ meter.new.steps }
+    ensures meter { SpendsSteps meter.old meter.new }
     ensures is { Evaluates meter.old meter.new store.now result (evaluation (term_of e.now)) }
     ensures operand { IfOk result IsOperand }
 {
@@ -74,9 +73,7 @@ fn applied<'a>(
 ) -> Result<Operand<'a>, Unvalued>
     requires sound { IsSoundTerm (term_of e.now) }
     requires applies { IsApplied (term_of e.now) }
-    ensures limit { meter.new.limit ≡ meter.old.limit }
-    ensures made { meter.new.made ≡ meter.old.made }
-    ensures steps { meter.old.steps ≤ meter.new.steps }
+    ensures meter { SpendsSteps meter.old meter.new }
     ensures is { EvaluatesOn meter.old meter.new store.now result (evaluation (term_of e.now)) }
     ensures operand { IfOk result IsOperand }
 {
@@ -120,9 +117,7 @@ pub fn look<'a>(
     meter: &mut Meter,
 ) -> Result<Content<'a>, Unvalued>
     requires { IsSoundTerm (term_of e.now) }
-    ensures limit { meter.new.limit ≡ meter.old.limit }
-    ensures made { meter.new.made ≡ meter.old.made }
-    ensures steps { meter.old.steps ≤ meter.new.steps }
+    ensures meter { SpendsSteps meter.old meter.new }
     ensures is { Looks meter.old meter.new store.now result (evaluation (term_of e.now)) }
     ensures sound { IfOk result IsSoundContent }
 {
@@ -160,9 +155,7 @@ fn infix(
 ) -> Result<Scalar, Unvalued>
     requires left { IsSoundTerm (term_of a.now) }
     requires right { IsSoundTerm (term_of b.now) }
-    ensures limit { meter.new.limit ≡ meter.old.limit }
-    ensures made { meter.new.made ≡ meter.old.made }
-    ensures steps { meter.old.steps ≤ meter.new.steps }
+    ensures meter { SpendsSteps meter.old meter.new }
     ensures is { Evaluates meter.old meter.new store.now (computed_operand result)
         (infix_part op (term_of a.now) (term_of b.now)) }
     ensures scalar { IfOk result IsScalar }
@@ -191,9 +184,7 @@ fn choice<'a>(
     requires test { IsSoundTerm (term_of c.now) }
     requires left { IsSoundTerm (term_of x.now) }
     requires right { IsSoundTerm (term_of y.now) }
-    ensures limit { meter.new.limit ≡ meter.old.limit }
-    ensures made { meter.new.made ≡ meter.old.made }
-    ensures steps { meter.old.steps ≤ meter.new.steps }
+    ensures meter { SpendsSteps meter.old meter.new }
     ensures is { Evaluates meter.old meter.new store.now result
         (choice_part common.now (term_of c.now) (term_of x.now) (term_of y.now)) }
     ensures operand { IfOk result IsOperand }
@@ -230,9 +221,7 @@ fn index<'a>(
 ) -> Result<Operand<'a>, Unvalued>
     requires path { IsSoundTerm (term_of e.now) }
     requires index { IsSoundTerm (term_of i.now) }
-    ensures limit { meter.new.limit ≡ meter.old.limit }
-    ensures made { meter.new.made ≡ meter.old.made }
-    ensures steps { meter.old.steps ≤ meter.new.steps }
+    ensures meter { SpendsSteps meter.old meter.new }
     ensures is { Evaluates meter.old meter.new store.now result (index_part (term_of e.now) (term_of i.now)) }
     ensures operand { IfOk result IsOperand }
 {
@@ -251,9 +240,7 @@ fn between(
 ) -> Result<Scalar, Unvalued>
     requires left { IsSoundContent x }
     requires right { IsSoundContent y }
-    ensures limit { meter.new.limit ≡ meter.old.limit }
-    ensures made { meter.new.made ≡ meter.old.made }
-    ensures steps { meter.old.steps ≤ meter.new.steps }
+    ensures meter { SpendsSteps meter.old meter.new }
     ensures is { Combines meter.old meter.new op literal x.entry y.entry result }
     ensures scalar { IfOk result IsScalar }
 {
@@ -265,9 +252,7 @@ fn between(
 
 /// Takes `count` steps. Where fewer are left it takes those, and fails.
 pub fn take_steps(count: u64, meter: &mut Meter) -> Result<(), LimitPassed>
-    ensures limit { meter.new.limit ≡ meter.old.limit }
-    ensures made { meter.new.made ≡ meter.old.made }
-    ensures steps { meter.old.steps ≤ meter.new.steps }
+    ensures meter { SpendsSteps meter.old meter.new }
     ensures ok { OnOk result (meter.new.steps ≡ meter.old.steps + count) }
     ensures err { OnErr result ((meter.new.steps ≡ meter.old.limit) × (meter.old.limit < meter.old.steps + count)) }
 {

@@ -3,12 +3,13 @@
 //! The general path makes an operand in memory of each node. Here `&&`, `||`, `!`, brackets and comparisons of integers
 //! return their truths only.
 
-ghost use Rattle.std.specs.Prelude.{◌≡◌, ◌+◌, ◌≤◌, true};
+ghost use Rattle.std.specs.Prelude.{◌≡◌, ◌+◌, true};
 ghost use Rattle.pickle_types.specs.Table.{term_of};
 ghost use Rattle.pickle_types.specs.Sound.{IsSoundTerm};
 ghost use Rattle.pickle_meaning.specs.Evaluation.{evaluation, literal_length};
 ghost use Rattle.pickle_evaluation.specs.Comes.{infix_part, is_logical, is_not};
 ghost use Rattle.pickle_evaluation.specs.Evaluating.{EvaluatesTruth};
+ghost use Rattle.pickle_evaluation.specs.Spending.{SpendsSteps};
 
 use crate::comparison::{COMPARISON_STEPS, comparison};
 use crate::content::truth_of;
@@ -29,9 +30,7 @@ pub fn evaluate_truth(
     meter: &mut Meter,
 ) -> Result<Result<bool, MapFaultKind>, Unvalued>
     requires { IsSoundTerm (term_of e.now) }
-    ensures limit { meter.new.limit ≡ meter.old.limit }
-    ensures made { meter.new.made ≡ meter.old.made }
-    ensures steps { meter.old.steps ≤ meter.new.steps }
+    ensures meter { SpendsSteps meter.old meter.new }
     ensures is { EvaluatesTruth meter.old meter.new store.now result (evaluation (term_of e.now)) }
 {
     match e {
@@ -69,9 +68,7 @@ fn logic(
     requires left { IsSoundTerm (term_of a.now) }
     requires right { IsSoundTerm (term_of b.now) }
     requires literal { literal_length (term_of a.now) + literal_length (term_of b.now) ≡ 0 }
-    ensures limit { meter.new.limit ≡ meter.old.limit }
-    ensures made { meter.new.made ≡ meter.old.made }
-    ensures steps { meter.old.steps ≤ meter.new.steps }
+    ensures meter { SpendsSteps meter.old meter.new }
     ensures is { EvaluatesTruth meter.old meter.new store.now result (infix_part op (term_of a.now) (term_of b.now)) }
 {
     let left = operand_truth(a, store, meter)?;
@@ -92,9 +89,7 @@ fn operand_truth(
     meter: &mut Meter,
 ) -> Result<Result<bool, MapFaultKind>, Unvalued>
     requires { IsSoundTerm (term_of e.now) }
-    ensures limit { meter.new.limit ≡ meter.old.limit }
-    ensures made { meter.new.made ≡ meter.old.made }
-    ensures steps { meter.old.steps ≤ meter.new.steps }
+    ensures meter { SpendsSteps meter.old meter.new }
     ensures is { EvaluatesTruth meter.old meter.new store.now result (evaluation (term_of e.now)) }
 {
     if let Some(holds) = comparison(e, store) {
@@ -112,9 +107,7 @@ fn looked_truth(
     meter: &mut Meter,
 ) -> Result<Result<bool, MapFaultKind>, Unvalued>
     requires { IsSoundTerm (term_of e.now) }
-    ensures limit { meter.new.limit ≡ meter.old.limit }
-    ensures made { meter.new.made ≡ meter.old.made }
-    ensures steps { meter.old.steps ≤ meter.new.steps }
+    ensures meter { SpendsSteps meter.old meter.new }
     ensures is { EvaluatesTruth meter.old meter.new store.now result (evaluation (term_of e.now)) }
 {
     Ok(truth_of(look(e, store, meter)?))

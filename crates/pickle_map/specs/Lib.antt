@@ -50,4 +50,5 @@ pub use Rattle.pickle_evaluation.specs.Contents
 pub use Rattle.pickle_evaluation.specs.Comes
 pub use Rattle.pickle_evaluation.specs.Ranges
 pub use Rattle.pickle_evaluation.specs.Known
+pub use Rattle.pickle_evaluation.specs.Spending
 pub use Rattle.value_store.specs.Integers

@@ -1,12 +1,13 @@
 //! Evaluates the expressions beside types: constraints, conditions, labels and bounds.
 
-ghost use Rattle.std.specs.Prelude.{◌≡◌, List, ◌<◌, ◌≤◌, ◌^◌, Ok, IfOk};
+ghost use Rattle.std.specs.Prelude.{◌≡◌, List, ◌<◌, ◌^◌, Ok, IfOk};
 ghost use Rattle.pickle_types.specs.declared.node.Node.{Node as TableNode};
 ghost use Rattle.pickle_types.specs.Table.{term_of, optional_term, bound_of};
 ghost use Rattle.pickle_types.specs.Sound.{IsSoundTerm, IsSoundClause, IsSoundBound};
 ghost use Rattle.pickle_meaning.specs.Values.{Label};
 ghost use Rattle.pickle_meaning.specs.Clauses.{satisfied, behind_start, count_of, size_of};
 ghost use Rattle.pickle_evaluation.specs.Contents.{IsHeld, IsSoundContent};
+ghost use Rattle.pickle_evaluation.specs.Spending.{SpendsSteps};
 ghost use Rattle.pickle_map.specs.Settles.{Ends, natural};
 ghost use Rattle.pickle_map.specs.Settled.{Checks, FindsExtent, FindsStart, ShowsValue, TellsOf, TellsThere, TellsTruth};
 
@@ -33,9 +34,7 @@ pub fn check(
     meter: &mut Meter,
 ) -> Result<(), Stop>
     requires sound { IsSoundClause (optional_term clause.now) }
-    ensures limit { meter.new.limit ≡ meter.old.limit }
-    ensures made { meter.new.made ≡ meter.old.made }
-    ensures steps { meter.old.steps ≤ meter.new.steps }
+    ensures meter { SpendsSteps meter.old meter.new }
     ensures is { (nodes : List TableNode) → Checks nodes meter.old meter.new store.now clause.now place result }
 {
     match clause {
@@ -52,9 +51,7 @@ pub fn is_there(
     meter: &mut Meter,
 ) -> Result<bool, Stop>
     requires sound { IsSoundClause (optional_term clause.now) }
-    ensures limit { meter.new.limit ≡ meter.old.limit }
-    ensures made { meter.new.made ≡ meter.old.made }
-    ensures steps { meter.old.steps ≤ meter.new.steps }
+    ensures meter { SpendsSteps meter.old meter.new }
     ensures is { (nodes : List TableNode) → TellsThere nodes meter.old meter.new store.now clause.now start result }
 {
     match clause {
@@ -76,9 +73,7 @@ pub fn find_start(
     meter: &mut Meter,
 ) -> Result<u128, Stop>
     requires sound { IsSoundClause (optional_term label.now) }
-    ensures limit { meter.new.limit ≡ meter.old.limit }
-    ensures made { meter.new.made ≡ meter.old.made }
-    ensures steps { meter.old.steps ≤ meter.new.steps }
+    ensures meter { SpendsSteps meter.old meter.new }
     ensures is { (nodes : List TableNode) →
         FindsStart nodes meter.old meter.new store.now pinned label.now start behind result }
 {
@@ -100,9 +95,7 @@ pub fn find_extent(
     meter: &mut Meter,
 ) -> Result<Extent, Stop>
     requires sound { IsSoundBound (bound_of bound.now) }
-    ensures limit { meter.new.limit ≡ meter.old.limit }
-    ensures made { meter.new.made ≡ meter.old.made }
-    ensures steps { meter.old.steps ≤ meter.new.steps }
+    ensures meter { SpendsSteps meter.old meter.new }
     ensures is { (nodes : List TableNode) → FindsExtent nodes meter.old meter.new store.now bound.now start result }
 {
     match bound {
@@ -117,9 +110,7 @@ pub fn find_extent(
 fn evaluate_label(e: &Resolved, store: &Store, start: u128, meter: &mut Meter) -> Result<u128, Stop>
     requires sound { IsSoundTerm (term_of e.now) }
     requires start { start < 2 ^ 127 }
-    ensures limit { meter.new.limit ≡ meter.old.limit }
-    ensures made { meter.new.made ≡ meter.old.made }
-    ensures steps { meter.old.steps ≤ meter.new.steps }
+    ensures meter { SpendsSteps meter.old meter.new }
     ensures is { (nodes : List TableNode) →
         TellsOf nodes meter.old meter.new store.now e.now start (behind_start start) result }
 {
@@ -135,9 +126,7 @@ fn evaluate_count(
     meter: &mut Meter,
 ) -> Result<Extent, Stop>
     requires sound { IsSoundTerm (term_of e.now) }
-    ensures limit { meter.new.limit ≡ meter.old.limit }
-    ensures made { meter.new.made ≡ meter.old.made }
-    ensures steps { meter.old.steps ≤ meter.new.steps }
+    ensures meter { SpendsSteps meter.old meter.new }
     ensures is { (nodes : List TableNode) →
         TellsOf nodes meter.old meter.new store.now e.now start (count_of start) result }
 {
@@ -153,9 +142,7 @@ fn evaluate_size(
     meter: &mut Meter,
 ) -> Result<Extent, Stop>
     requires sound { IsSoundTerm (term_of e.now) }
-    ensures limit { meter.new.limit ≡ meter.old.limit }
-    ensures made { meter.new.made ≡ meter.old.made }
-    ensures steps { meter.old.steps ≤ meter.new.steps }
+    ensures meter { SpendsSteps meter.old meter.new }
     ensures is { (nodes : List TableNode) →
         TellsOf nodes meter.old meter.new store.now e.now start (size_of start) result }
 {
@@ -170,9 +157,7 @@ fn evaluate<'a>(
     meter: &mut Meter,
 ) -> Result<Content<'a>, Stop>
     requires { IsSoundTerm (term_of e.now) }
-    ensures limit { meter.new.limit ≡ meter.old.limit }
-    ensures made { meter.new.made ≡ meter.old.made }
-    ensures steps { meter.old.steps ≤ meter.new.steps }
+    ensures meter { SpendsSteps meter.old meter.new }
     ensures is { (nodes : List TableNode) → ShowsValue nodes meter.old meter.new store.now e.now place result }
     ensures sound { IfOk result IsSoundContent }
 {
@@ -187,9 +172,7 @@ fn evaluate<'a>(
 #[inline(always)]
 fn find_truth(e: &Resolved, store: &Store, place: u128, meter: &mut Meter) -> Result<bool, Stop>
     requires { IsSoundTerm (term_of e.now) }
-    ensures limit { meter.new.limit ≡ meter.old.limit }
-    ensures made { meter.new.made ≡ meter.old.made }
-    ensures steps { meter.old.steps ≤ meter.new.steps }
+    ensures meter { SpendsSteps meter.old meter.new }
     ensures is { (nodes : List TableNode) → TellsTruth nodes meter.old meter.new store.now e.now place result }
 {
     match comparison(e, store) {
@@ -212,9 +195,7 @@ fn expression_truth(
     meter: &mut Meter,
 ) -> Result<bool, Stop>
     requires { IsSoundTerm (term_of e.now) }
-    ensures limit { meter.new.limit ≡ meter.old.limit }
-    ensures made { meter.new.made ≡ meter.old.made }
-    ensures steps { meter.old.steps ≤ meter.new.steps }
+    ensures meter { SpendsSteps meter.old meter.new }
     ensures is { (nodes : List TableNode) → TellsTruth nodes meter.old meter.new store.now e.now place result }
 {
     match evaluate_truth(e, store, meter) {

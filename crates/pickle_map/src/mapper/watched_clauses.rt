@@ -1,8 +1,9 @@
 //! Evaluates clauses under a watcher, and reports each clause that stops the mapping.
 
-ghost use Rattle.std.specs.Prelude.{◌≡◌, ◌<◌, ◌≤◌, ◌^◌};
+ghost use Rattle.std.specs.Prelude.{◌<◌, ◌^◌};
 ghost use Rattle.pickle_types.specs.Table.{optional_term, bound_of};
 ghost use Rattle.pickle_types.specs.Sound.{IsSoundClause, IsSoundBound};
+ghost use Rattle.pickle_evaluation.specs.Spending.{SpendsSteps};
 ghost use Rattle.pickle_map.specs.Settled.{Checks, FindsExtent, FindsStart, TellsThere};
 
 use crate::mapper::clauses;
@@ -24,9 +25,7 @@ pub fn check<W: Watch>(
     watch: &mut W,
 ) -> Result<(), Stop>
     requires sound { IsSoundClause (optional_term clause.now) }
-    ensures limit { meter.new.limit ≡ meter.old.limit }
-    ensures made { meter.new.made ≡ meter.old.made }
-    ensures steps { meter.old.steps ≤ meter.new.steps }
+    ensures meter { SpendsSteps meter.old meter.new }
     ensures is { Checks table.now meter.old meter.new store.now clause.now place result }
 {
     let checked = clauses::check(clause, store, place, meter);
@@ -47,9 +46,7 @@ pub fn is_there<W: Watch>(
     watch: &mut W,
 ) -> Result<bool, Stop>
     requires sound { IsSoundClause (optional_term clause.now) }
-    ensures limit { meter.new.limit ≡ meter.old.limit }
-    ensures made { meter.new.made ≡ meter.old.made }
-    ensures steps { meter.old.steps ≤ meter.new.steps }
+    ensures meter { SpendsSteps meter.old meter.new }
     ensures is { TellsThere table.now meter.old meter.new store.now clause.now start result }
 {
     let there = clauses::is_there(clause, store, start, meter);
@@ -79,9 +76,7 @@ pub fn find_start<W: Watch>(
     watch: &mut W,
 ) -> Result<u128, Stop>
     requires sound { IsSoundClause (optional_term label.now) }
-    ensures limit { meter.new.limit ≡ meter.old.limit }
-    ensures made { meter.new.made ≡ meter.old.made }
-    ensures steps { meter.old.steps ≤ meter.new.steps }
+    ensures meter { SpendsSteps meter.old meter.new }
     ensures is { FindsStart table.now meter.old meter.new store.now layout.pinned label.now
         layout.start layout.behind result }
 {
@@ -108,9 +103,7 @@ pub fn find_extent<W: Watch>(
     watch: &mut W,
 ) -> Result<Extent, Stop>
     requires sound { IsSoundBound (bound_of bound.now) }
-    ensures limit { meter.new.limit ≡ meter.old.limit }
-    ensures made { meter.new.made ≡ meter.old.made }
-    ensures steps { meter.old.steps ≤ meter.new.steps }
+    ensures meter { SpendsSteps meter.old meter.new }
     ensures is { FindsExtent table.now meter.old meter.new store.now bound.now start result }
 {
     let extent = clauses::find_extent(bound, store, start, meter);

@@ -347,7 +347,7 @@ choice-returns-then-branch-clause-is t c nodes =
     (c.chosen.ensures.is nodes c.args.meter.now.limit c.look.new.meter.steps c.evaluate.new.meter.steps
     (evaluation (term_of c.args.x.now) (levels nodes c.args.store.now))
     (at_limit nodes c.look.new.meter.limit c.args.meter.now.limit c.look.new.meter.steps c.evaluate.new.meter.steps
-    c.evaluate.result (evaluation (term_of c.args.x.now) (levels nodes c.args.store.now)) c.look.ensures.limit
+    c.evaluate.result (evaluation (term_of c.args.x.now) (levels nodes c.args.store.now)) c.look.ensures.meter.limit
     (c.evaluate.ensures.is nodes))))
 
 pub choice-returns-else-branch-clause-is : goal.choice-returns-else-branch-clause-is
@@ -368,7 +368,7 @@ choice-returns-else-branch-clause-is t c nodes =
     c.evaluate-else-branch.new.meter.steps (evaluation (term_of c.args.y.now) (levels nodes c.args.store.now)) (at_limit
     nodes c.look.new.meter.limit c.args.meter.now.limit c.look.new.meter.steps c.evaluate-else-branch.new.meter.steps
     c.evaluate-else-branch.result (evaluation (term_of c.args.y.now) (levels nodes c.args.store.now))
-    c.look.ensures.limit (c.evaluate-else-branch.ensures.is nodes))))
+    c.look.ensures.meter.limit (c.evaluate-else-branch.ensures.is nodes))))
 
 pub index-returns-in_err-p-clause-is : goal.index-returns-in_err-p-clause-is
 index-returns-in_err-p-clause-is t c nodes =
@@ -391,7 +391,7 @@ index-returns-in_err-n-clause-is t c nodes =
     (λ n. leads_to (element (operand_of nodes c.in_ok-p.p) (operand_label n)))
     (seen_at nodes c.args.meter.now.limit c.evaluate.new.meter.limit c.evaluate.new.meter.steps c.look.new.meter.steps
     (Err c.in_err-n.field-0.0) (evaluation (term_of c.args.i.now) (levels nodes c.args.store.now))
-    c.evaluate.ensures.limit (c.in_err-n.ensures.is nodes))))
+    c.evaluate.ensures.meter.limit (c.in_err-n.ensures.is nodes))))
 
 pub index-returns-in_err-element-clause-is : goal.index-returns-in_err-element-clause-is
 index-returns-in_err-element-clause-is t c nodes =
@@ -406,7 +406,7 @@ index-returns-in_err-element-clause-is t c nodes =
     (evaluation (term_of c.args.i.now) (levels nodes c.args.store.now))
     (λ n. leads_to (element (operand_of nodes c.in_ok-p.p) (operand_label n)))
     (seen_at nodes c.args.meter.now.limit c.evaluate.new.meter.limit c.evaluate.new.meter.steps c.look.new.meter.steps
-    (Ok c.in_ok-n.n) (evaluation (term_of c.args.i.now) (levels nodes c.args.store.now)) c.evaluate.ensures.limit
+    (Ok c.in_ok-n.n) (evaluation (term_of c.args.i.now) (levels nodes c.args.store.now)) c.evaluate.ensures.meter.limit
     (c.in_ok-n.ensures.is nodes))
     (λ n held. leads_not nodes c.args.meter.now.limit c.look.new.meter.steps c.in_err-element.field-0.0
     (element (operand_of nodes c.in_ok-p.p) (operand_label n))
@@ -422,7 +422,7 @@ index-returns-clause-is t c nodes =
     c.in_ok-n.n (Ok c.in_ok-element.field-0) (evaluation (term_of c.args.i.now) (levels nodes c.args.store.now))
     (λ n. leads_to (element (operand_of nodes c.in_ok-p.p) (operand_label n)))
     (seen_at nodes c.args.meter.now.limit c.evaluate.new.meter.limit c.evaluate.new.meter.steps c.look.new.meter.steps
-    (Ok c.in_ok-n.n) (evaluation (term_of c.args.i.now) (levels nodes c.args.store.now)) c.evaluate.ensures.limit
+    (Ok c.in_ok-n.n) (evaluation (term_of c.args.i.now) (levels nodes c.args.store.now)) c.evaluate.ensures.meter.limit
     (c.in_ok-n.ensures.is nodes))
     (λ n held. leads nodes c.args.meter.now.limit c.look.new.meter.steps c.in_ok-element.field-0
     (element (operand_of nodes c.in_ok-p.p) (operand_label n))
@@ -479,14 +479,15 @@ infix-returns-in_err-right-clause-is t c nodes =
     (literal_length (term_of c.args.a.now) + literal_length (term_of c.args.b.now)) (operand_label x) (operand_label y))
     (seen_at nodes c.args.meter.now.limit c.look.new.meter.limit c.look.new.meter.steps c.look-2.new.meter.steps
     (Err c.in_err-right.field-0.0) (evaluation (term_of c.args.b.now) (levels nodes c.args.store.now))
-    c.look.ensures.limit (c.in_err-right.ensures.is nodes)))))
+    c.look.ensures.meter.limit (c.in_err-right.ensures.is nodes)))))
 
 pub infix-returns-clause-is : goal.infix-returns-clause-is
 infix-returns-clause-is t c nodes =
     let n : c.literal_length.result + c.literal_length-2.result
     ≡ (literal_length (term_of c.args.a.now) + literal_length (term_of c.args.b.now)) =
     rw (c.literal_length.ensures.is, c.literal_length-2.ensures.is) refl in
-    let l : c.look-2.new.meter.limit ≡ c.args.meter.now.limit = c.look-2.ensures.limit ∙ c.look.ensures.limit in
+    let l : c.look-2.new.meter.limit ≡ c.args.meter.now.limit =
+    c.look-2.ensures.meter.limit ∙ c.look.ensures.meter.limit in
     seen_goes_on nodes c.args.meter.now.limit c.args.meter.now.steps c.look.new.meter.steps c.between.new.meter.steps
     c.in_ok-left.left (computed_operand c.between.result)
     (evaluation (term_of c.args.a.now) (levels nodes c.args.store.now)) (λ x.
@@ -506,8 +507,8 @@ infix-returns-clause-is t c nodes =
     (evaluation (term_of c.args.b.now) (levels nodes c.args.store.now)) (λ y. between c.args.op
     (literal_length (term_of c.args.a.now) + literal_length (term_of c.args.b.now)) (operand_label x) (operand_label y))
     (seen_at nodes c.args.meter.now.limit c.look.new.meter.limit c.look.new.meter.steps c.look-2.new.meter.steps
-    (Ok c.in_ok-right.right) (evaluation (term_of c.args.b.now) (levels nodes c.args.store.now)) c.look.ensures.limit
-    (c.in_ok-right.ensures.is nodes))
+    (Ok c.in_ok-right.right) (evaluation (term_of c.args.b.now) (levels nodes c.args.store.now))
+    c.look.ensures.meter.limit (c.in_ok-right.ensures.is nodes))
     (λ y is_y.
     subst (λ (k : ℕ). Evaluated nodes c.args.meter.now.limit c.look-2.new.meter.steps c.between.new.meter.steps
     (computed_operand c.between.result) (between c.args.op k (operand_label x) (operand_label y))) n

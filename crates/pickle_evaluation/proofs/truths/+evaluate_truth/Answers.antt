@@ -158,7 +158,7 @@ logic-returns-in_err-right-clause-is t c nodes =
     (ap (settled c.args.op) held ∙ sym c.settled.ensures ∙ c.in_default.is)
     (truth_stops c.args.meter.now.limit mid after c.in_err-right.field-0.0 right _
     (truth_at c.args.meter.now.limit c.operand_truth.new.meter.limit mid after (Err c.in_err-right.field-0.0) right
-    c.operand_truth.ensures.limit (c.in_err-right.ensures.is nodes)))))
+    c.operand_truth.ensures.meter.limit (c.in_err-right.ensures.is nodes)))))
 
 pub logic-returns-in_err-left-2-clause-is : goal.logic-returns-in_err-left-2-clause-is
 logic-returns-in_err-left-2-clause-is t c nodes =
@@ -176,7 +176,7 @@ logic-returns-in_err-left-2-clause-is t c nodes =
     (ap (settled c.args.op) held ∙ sym c.settled.ensures ∙ c.in_default.is)
     (truth_goes_on c.args.meter.now.limit mid after after c.in_ok-right.right (Err (Fault kind)) right _
     (truth_at c.args.meter.now.limit c.operand_truth.new.meter.limit mid after (Ok c.in_ok-right.right) right
-    c.operand_truth.ensures.limit (c.in_ok-right.ensures.is nodes))
+    c.operand_truth.ensures.meter.limit (c.in_ok-right.ensures.is nodes))
     (λ y is_y. left_joins_not c.args.meter.now.limit after c.args.op literal (operand_label x) (operand_label y) kind
     c.requires.logical c.requires.literal (held ∙ c.in_err-left-2.was)))))
 
@@ -196,7 +196,7 @@ logic-returns-in_err-right-2-clause-is t c nodes =
     (ap (settled c.args.op) held ∙ sym c.settled.ensures ∙ c.in_default.is)
     (truth_goes_on c.args.meter.now.limit mid after after c.in_ok-right.right (Err (Fault kind)) right _
     (truth_at c.args.meter.now.limit c.operand_truth.new.meter.limit mid after (Ok c.in_ok-right.right) right
-    c.operand_truth.ensures.limit (c.in_ok-right.ensures.is nodes))
+    c.operand_truth.ensures.meter.limit (c.in_ok-right.ensures.is nodes))
     (λ y is_y. right_joins_not c.args.meter.now.limit after c.args.op literal (operand_label x) (operand_label y) kind
     c.requires.logical c.requires.literal (is_y ∙ c.in_err-right-2.was)))))
 
@@ -215,7 +215,7 @@ logic-returns-clause-is t c nodes =
     (ap (settled c.args.op) held ∙ sym c.settled.ensures ∙ c.in_default.is)
     (truth_goes_on c.args.meter.now.limit mid after after c.in_ok-right.right (Ok (Ok q)) right _
     (truth_at c.args.meter.now.limit c.operand_truth.new.meter.limit mid after (Ok c.in_ok-right.right) right
-    c.operand_truth.ensures.limit (c.in_ok-right.ensures.is nodes))
+    c.operand_truth.ensures.meter.limit (c.in_ok-right.ensures.is nodes))
     (λ y is_y. joins c.args.meter.now.limit after c.args.op literal (operand_label x) (operand_label y) p q
     c.requires.logical c.requires.literal (held ∙ c.in_ok-left-2.was) (is_y ∙ c.in_ok-right-2.was)
     (ap (settled c.args.op) (sym c.in_ok-left-2.was) ∙ sym c.settled.ensures ∙ c.in_default.is))))

@@ -55,7 +55,7 @@ returns-in-Ok-clause-spends g c =
     searches_later {D = failed} {D' = failed} c.find_extent.new.meter.limit c.args.self.now.meter.now.limit
     c.find_extent.new.meter.steps c.args.self.now.meter.now.steps c.find_element.new.self.meter.now.steps n
     (search_of (bits_of bytes) (ArrayOf (type_of nodes array.element) (bound_of array.bound.now)) array.order before
-    array.start) left left c.find_element.result (λ d. d) c.in-Ok.ensures.limit (omega (arith, took, least))
+    array.start) left left c.find_element.result (λ d. d) c.in-Ok.ensures.meter.limit (omega (arith, took, least))
     (λ site. omega arith) (c.find_element.ensures.spends bytes known)
 
 pub returns-in_ok-_fault-in-Err-clause-spends : goal.returns-in_ok-_fault-in-Err-clause-spends

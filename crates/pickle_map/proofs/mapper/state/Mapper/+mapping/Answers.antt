@@ -197,7 +197,7 @@ map_checked-returns-in_err-check-clause-is g t c =
     let h = c.in_ok-end.ensures.is in
     let checked = rw h.kept at c.in_err-check.ensures.is in
     rw (p.1, p.2) (checks_stop _ _ _ _ h.value h.follows c.in_ok-end.ensures.frame.left.limit
-    c.in_err-check.ensures.made _ (omega arith) checked)
+    c.in_err-check.ensures.meter.made _ (omega arith) checked)
 
 pub map_checked-returns-in_err-end-clause-level : goal.map_checked-returns-in_err-end-clause-level
 map_checked-returns-in_err-end-clause-level g t c = stopped_stays c.args.self.now.nodes.now _ _ _ _
@@ -220,7 +220,7 @@ map_checked-returns-clause-is g t c =
       kept = h.kept;
       ends = h.ends;
       follows = checks_ok _ _ _ _ h.value h.follows c.in_ok-end.ensures.frame.left.limit
-          c.in_ok-check.ensures.made tt checked;
+          c.in_ok-check.ensures.meter.made tt checked;
     }
 
 pub map_struct-returns-in_err-tick-clause-is : goal.map_struct-returns-in_err-tick-clause-is
@@ -312,10 +312,10 @@ map_array-returns-clause-is g t c =
     let o = c.open_level.ensures in
     let left = c.leave_level.ensures in
     let h = rw (o.levels c.args.self.now.nodes.now) at c.array_body-mapped.ensures.is in
-    let extent = settles_ok _ _ _ refl (rw c.from.ensures at found.is) found.made in
+    let extent = settles_ok _ _ _ refl (rw c.from.ensures at found.is) found.meter.made in
     rw array_is (left_keeps c.args.self.now.nodes.now o.room c.array_body-mapped.ensures.frame.left.room left.room _
     o.moves o.within (λ _ h. inside_ticks _ _ _ c.requires.inside e.limit e.ok e.made
-    (follow_then_ok _ _ extent (follow_at found.limit refl refl h))) (λ end. end) _ left.left h)
+    (follow_then_ok _ _ extent (follow_at found.meter.limit refl refl h))) (λ end. end) _ left.left h)
 
 pub map_array-returns-clause-level : goal.map_array-returns-clause-level
 map_array-returns-clause-level g t c =
@@ -329,7 +329,7 @@ map_array-returns-in_err-extent-clause-is g t c =
     let p = err_from_is_err_and c.from_residual-in_err-extent.result c.from_residual-in_err-extent.ensures.1 in
     let e = c.in_ok-tick.ensures in
     rw (p.1, p.2, array_is) (inside_ticks _ _ _ c.requires.inside e.limit e.ok e.made (follow_stop _ _ _ (settles_stop _
-    _ _ refl (omega arith) (rw c.from.ensures at c.in_err-extent.ensures.is) c.in_err-extent.ensures.made)))
+    _ _ refl (omega arith) (rw c.from.ensures at c.in_err-extent.ensures.is) c.in_err-extent.ensures.meter.made)))
 
 pub map_array-array_body-mapped-requires : goal.map_array-array_body-mapped-requires
 map_array-array_body-mapped-requires g t c =
@@ -541,7 +541,7 @@ map_fields-returns-in_err-is_there-clause-is g t c =
     let next = rw (← c.field-item.is) at next in
     let there = c.in_err-is_there.ensures in
     rw (p.1, p.2) (follow_on i.so_far (condition_stops _ _ _ _ _ _ _ _ _ _ _ next (e.limit ∙ i.frame.limit) e.ok e.made
-    there.made _ (omega arith) (rw c.from-origin.ensures at there.is)))
+    there.meter.made _ (omega arith) (rw c.from-origin.ensures at there.is)))
 
 pub map_fields-returns-in_err-place-clause-is : goal.map_fields-returns-in_err-place-clause-is
 map_fields-returns-in_err-place-clause-is g t c =
@@ -554,7 +554,7 @@ map_fields-returns-in_err-place-clause-is g t c =
     let there_is = rw (c.if-branch.true, c.from-origin.ensures) at there.is in
     let start = c.in_err-place.ensures in
     rw (p.1, p.2) (follow_on i.so_far (start_stops _ _ _ _ _ _ _ _ _ _ _ next (e.limit ∙ i.frame.limit) e.ok e.made
-    there.made there_is there.limit start.made _ (omega arith) start.is))
+    there.meter.made there_is there.meter.limit start.meter.made _ (omega arith) start.is))
 
 pub map_fields-map_checked-requires : goal.map_fields-map_checked-requires
 map_fields-map_checked-requires g t c =
@@ -580,7 +580,8 @@ map_fields-returns-in_err-behind-clause-is g t c =
     c.in_err-behind.ensures.frame.left.room h in
     rw (p.1, p.2)
     (follow_on (in_later i.frame.room c.in_err-behind.ensures.frame.left.room i.so_far) (field_stops _ _ _ _ _ _ _ _ _ _
-    _ next (e.limit ∙ i.frame.limit) e.ok e.made there.made there_is there.limit start.made _ start.is start.limit _ h))
+    _ next (e.limit ∙ i.frame.limit) e.ok e.made there.meter.made there_is there.meter.limit start.meter.made _ start.is
+    start.meter.limit _ h))
 
 pub map_fields-returns-in_err-behind-clause-level : goal.map_fields-returns-in_err-behind-clause-level
 map_fields-returns-in_err-behind-clause-level g t c =
@@ -598,8 +599,9 @@ map_fields-returns-in_err-push_absent-clause-is g t c =
     let there = c.in_ok-is_there.ensures in
     let there_is = rw (c.if-branch.false, c.from-origin.ensures) at there.is in
     rw (p.1, p.2) (follow_on (in_later i.frame.room c.in_err-push_absent.ensures.room i.so_far)
-    (absent_no_room _ _ _ _ _ _ _ _ _ _ _ next (e.limit ∙ i.frame.limit) e.ok e.made there.made there_is (lacks_these
-    i.frame.room tt (c.in_err-push_absent.ensures.full c.args.self.now.nodes.now) c.in_err-push_absent.ensures.lacks)))
+    (absent_no_room _ _ _ _ _ _ _ _ _ _ _ next (e.limit ∙ i.frame.limit) e.ok e.made there.meter.made there_is
+    (lacks_these i.frame.room tt (c.in_err-push_absent.ensures.full c.args.self.now.nodes.now)
+    c.in_err-push_absent.ensures.lacks)))
 
 pub map_fields-returns-in_err-push_absent-clause-level : goal.map_fields-returns-in_err-push_absent-clause-level
 map_fields-returns-in_err-push_absent-clause-level g t c =
@@ -628,8 +630,9 @@ map_fields-loop-field-preserved g t c =
             level = stays_then c.args.self.now.nodes.now _ _ _ i.level
                 (rw i.lent.nodes at w.in_ok-behind.ensures.level);
             so_far = rw m.kept (follow_on (in_later i.frame.room w.in_ok-behind.ensures.frame.left.room i.so_far)
-                (field_goes _ _ _ _ _ _ _ _ _ _ _ next (e.limit ∙ i.frame.limit) e.ok e.made there.made there_is
-                there.limit start.made _ start.is start.limit m.value _ _ m.ends w.max-top.ensures h));
+                (field_goes _ _ _ _ _ _ _ _ _ _ _ next (e.limit ∙ i.frame.limit) e.ok e.made there.meter.made there_is
+                there.meter.limit start.meter.made _ start.is start.meter.limit m.value _ _ m.ends w.max-top.ensures
+                h));
           })
       | map_fields-else-branch+in_ok-push_absent w ↦
           let there_is = rw (w.if-branch.false, c.from-origin.ensures) at there.is in
@@ -645,7 +648,7 @@ map_fields-loop-field-preserved g t c =
             level = pushed_stays c.args.self.now.nodes.now _ _ _ _ i.level keeps w.in_ok-push_absent.ensures.depth
                 (ap (λ (s : State). s.frames) w.in_ok-push_absent.ensures.moves) w.in_ok-push_absent.ensures.extends;
             so_far = rw keeps (follow_on (in_later i.frame.room room i.so_far) (absent_goes _ _ _ _ _ _ _ _ _ _ _ next
-                (e.limit ∙ i.frame.limit) e.ok e.made there.made there_is moves));
+                (e.limit ∙ i.frame.limit) e.ok e.made there.meter.made there_is moves));
           })
     ]
 

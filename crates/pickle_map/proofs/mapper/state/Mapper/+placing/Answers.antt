@@ -299,7 +299,7 @@ place_part-returns-clause-is g t c =
       kept = h.kept;
       ends = h.ends;
       follows = checks_ok _ _ _ _ h.value (follow_tick e.limit e.ok e.made h.follows)
-          (c.in_ok-place_number.ensures.frame.left.limit ∙ e.limit) c.in_ok-check.ensures.made tt checked;
+          (c.in_ok-place_number.ensures.frame.left.limit ∙ e.limit) c.in_ok-check.ensures.meter.made tt checked;
     }
 
 pub place_part-returns-in_err-check-clause-is : goal.place_part-returns-in_err-check-clause-is
@@ -310,7 +310,7 @@ place_part-returns-in_err-check-clause-is g t c =
     let h = c.in_ok-place_number.ensures.is known in
     let checked = rw (h.kept, c.from.ensures) at c.in_err-check.ensures.is in
     checks_stop _ _ _ _ h.value (follow_tick e.limit e.ok e.made h.follows)
-    (c.in_ok-place_number.ensures.frame.left.limit ∙ e.limit) c.in_err-check.ensures.made _ (omega arith) checked)
+    (c.in_ok-place_number.ensures.frame.left.limit ∙ e.limit) c.in_err-check.ensures.meter.made _ (omega arith) checked)
 
 pub place_part-returns-clause-level : goal.place_part-returns-clause-level
 place_part-returns-clause-level g t c = added_stays c.args.self.now.nodes.now _ _ _ _ _ (same_stays _ _)

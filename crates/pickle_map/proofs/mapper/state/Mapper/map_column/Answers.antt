@@ -16,7 +16,7 @@ returns-in_err-check-clause-is g c =
     let h = c.in_ok-end.ensures.is in
     let checked = rw (h.kept, c.from.ensures) at c.in_err-check.ensures.is in
     rw (p.1, p.2) (checks_stop _ _ _ _ h.value h.follows c.in_ok-end.ensures.frame.left.limit
-    c.in_err-check.ensures.made _ (omega arith) checked)
+    c.in_err-check.ensures.meter.made _ (omega arith) checked)
 
 pub returns-clause-is : goal.returns-clause-is
 returns-clause-is g c =
@@ -27,7 +27,7 @@ returns-clause-is g c =
       kept = h.kept;
       ends = h.ends;
       follows = checks_ok _ _ _ _ h.value h.follows c.in_ok-end.ensures.frame.left.limit
-          c.in_ok-check.ensures.made tt checked;
+          c.in_ok-check.ensures.meter.made tt checked;
     }
 
 pub returns-in_err-end-clause-level : goal.returns-in_err-end-clause-level
