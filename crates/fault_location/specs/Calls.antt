@@ -1,12 +1,11 @@
 -- What the calls on a path say of a table's types, on bits, from the store before the call and the store after it.
 use Rattle.std.specs.Prelude.{◌≡◌, ℕ, Bool, List, Option, Box, Result, Err}
 use Rattle.std.specs.declared.alloc.Global.{Global}
-use Rattle.bit_space.specs.declared.order.Order.{Order}
 use Rattle.pickle_types.specs.declared.node.Field.{Field}
 use Rattle.pickle_types.specs.declared.node.Node.{Node}
 use Rattle.pickle_types.specs.declared.node.Part.{Part as Alternative}
 use Rattle.pickle_types.specs.declared.node.Resolved.{Resolved}
-use Rattle.pickle_types.specs.Types.{PokeType, Term}
+use Rattle.pickle_types.specs.Types.{Term}
 use Rattle.pickle_types.specs.Table.{type_of, open_fields, open_parts, optional_term}
 use Rattle.pickle_meaning.specs.declared.faults.MapFault.{MapFault}
 use Rattle.pickle_meaning.specs.Clauses.{constraint, condition, field_start}
@@ -14,21 +13,24 @@ use Rattle.pickle_meaning.specs.Means.{Means}
 use Rattle.pickle_meaning.specs.Values.{no_values}
 use Rattle.pickle_map.specs.declared.mapper.stop.Stop.{Stop}
 use Rattle.fault_location.specs.declared.checker.Checker.{Checker}
+use Rattle.fault_location.specs.declared.part.Claim.{Claim}
 use Rattle.fault_location.specs.declared.part.Part.{Part}
 use Rattle.fault_location.specs.declared.part.Entered.{Entered}
 use Rattle.fault_location.specs.declared.part.StructStart.{StructStart}
+use Rattle.fault_location.specs.declared.part.TypeStart.{TypeStart}
 use Rattle.fault_location.specs.declared.part.UnionStart.{UnionStart}
 use Rattle.fault_location.specs.declared.site.Cut.{Cut}
 use Rattle.fault_location.specs.declared.site.Inner.{Inner}
 use Rattle.fault_location.specs.Frames.{frames_after, frames_of}
 use Rattle.fault_location.specs.Digits.{ReachesNumber}
-use Rattle.fault_location.specs.Ways.{Comes, Settled, Enters, EntersField, InPart, InType, HasFault, constraint_of, fault_of}
+use Rattle.fault_location.specs.Ways.{Comes, Settled, Enters, EntersField, InPart, InType, HasFault, constraint_of, fault_of, start_type}
 use Rattle.fault_parts.specs.Arises.{Path, Arises, FieldsArise, AlternativesArise, NumberArises}
 use Rattle.value_store.specs.Slots.{Held, levels}
 
--- the fault of a type arises at the end of a path
-abbrev pub ArisesFrom : PokeType → Order → (start : ℕ) → MapFault → Path → (bits : List ℕ) → Type 0
-ArisesFrom type order start fault path bits = Arises bits type order no_values start (fault_of fault) path
+-- the fault of a type arises at the end of the path, as is claimed
+abbrev pub ArisesFrom : TypeStart → Claim → (bits : List ℕ) → Type 0
+ArisesFrom whole claim bits =
+    Arises bits (start_type whole) whole.order no_values whole.start (fault_of claim.fault) claim.path.now
 
 -- the constraint of a part refuses it with the fault
 abbrev pub Refuses : Part → MapFault → Held → Type 0

@@ -27,6 +27,7 @@ use Rattle.fault_location.specs.declared.part.Array.{Array}
 use Rattle.fault_location.specs.declared.part.Elements.{Elements}
 use Rattle.fault_location.specs.declared.part.Part.{Part}
 use Rattle.fault_location.specs.declared.part.StructStart.{StructStart}
+use Rattle.fault_location.specs.declared.part.TypeStart.{TypeStart}
 use Rattle.fault_location.specs.declared.part.UnionStart.{UnionStart}
 use Rattle.fault_location.specs.declared.site.Attempt.{Attempt}
 use Rattle.fault_location.specs.declared.site.Attempt.TheVariants as attempt
@@ -43,7 +44,7 @@ use Rattle.fault_location.specs.declared.site.Tried.TheVariants as tried
 use Rattle.fault_location.specs.Frames.{frames_after, frames_of}
 use Rattle.fault_location.specs.AtWork.{AddsToLevel, LevelStays, MapFrame}
 use Rattle.fault_location.specs.Calls.{MapsType}
-use Rattle.fault_location.specs.Ways.{OnBits, constraint_of, field_then, part_then}
+use Rattle.fault_location.specs.Ways.{OnBits, constraint_of, field_then, part_then, start_type}
 
 -- ---- how many steps a search takes
 
@@ -374,12 +375,12 @@ module _ (old new : Checker) where
   SearchesCut cut result =
       SearchesAlone old.meter.now new.meter.now (search_cut old.nodes.now (frames_of old) cut) none_left result
 
--- Why a search ended for the part of a type, from the bit `start` on: where the bytes are known, fewer steps were left
--- than it takes, a read failed, or an allocation did.
-abbrev pub EndsSearch : PokeType → Order → (start : ℕ) → (space space' : SpaceView) → Meter → Ended → Type 0
-EndsSearch type order start space space' meter e =
+-- Why a search ended for the part of a type: where the bytes are known, fewer steps were left than it takes, a read
+-- failed, or an allocation did.
+abbrev pub EndsSearch : TypeStart → (space space' : SpaceView) → Meter → Ended → Type 0
+EndsSearch whole space space' meter e =
     OnBits space (λ bits. Ends (HasRisen space.failures space'.failures) meter.limit meter.steps
-    (search_of bits type order no_values start) e)
+    (search_of bits (start_type whole) whole.order no_values whole.start) e)
 
 -- the stop of a fault, or of a search that ended
 abbrev pub IsFaultIn : Stop → Result MapFault Ended → Type 0

@@ -25,6 +25,7 @@ use Rattle.fault_location.specs.declared.part.Array.{Array}
 use Rattle.fault_location.specs.declared.part.Elements.{Elements}
 use Rattle.fault_location.specs.declared.part.Part.{Part}
 use Rattle.fault_location.specs.declared.part.StructStart.{StructStart}
+use Rattle.fault_location.specs.declared.part.TypeStart.{TypeStart}
 use Rattle.fault_location.specs.declared.part.UnionStart.{UnionStart}
 use Rattle.fault_location.specs.declared.site.Attempt.{Attempt}
 use Rattle.fault_location.specs.declared.site.Attempt.TheVariants as attempt
@@ -38,12 +39,13 @@ use Rattle.fault_location.specs.declared.site.Tried.{Tried}
 use Rattle.fault_location.specs.declared.site.Tried.TheVariants as tried
 use Rattle.fault_location.specs.Frames.{frames_after, frames_of}
 use Rattle.fault_location.specs.Digits.{KeepsNumber, PassesNumber, RefusesNumber}
-use Rattle.fault_location.specs.Ways.{OnBits, PassesField, Misses, constraint_of, fault_of, field_then, part_then}
+use Rattle.fault_location.specs.Ways.{OnBits, PassesField, Misses, constraint_of, fault_of, field_then, part_then, start_type}
 
 -- if a type means a fault on these bits, it arises at the end of the path
-abbrev pub FindsPart : PokeType → Order → (start : ℕ) → Path → (bits : List ℕ) → Type 0
-FindsPart type order start path bits = (f : FaultAt) → Somehow (Means bits type order no_values start (Err f)) →
-    Arises bits type order no_values start f path
+abbrev pub FindsPart : TypeStart → Path → (bits : List ℕ) → Type 0
+FindsPart whole path bits =
+    (f : FaultAt) → Somehow (Means bits (start_type whole) whole.order no_values whole.start (Err f)) →
+    Arises bits (start_type whole) whole.order no_values whole.start f path
 
 -- the path from a part to where its fault arises, and from a number
 abbrev pub path_in : (bits : List ℕ) → List Node → Levels → Inner → Path

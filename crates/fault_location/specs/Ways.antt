@@ -9,9 +9,10 @@ use Rattle.pickle_types.specs.declared.node.Field.{Field}
 use Rattle.pickle_types.specs.declared.node.Part.{Part as Alternative}
 use Rattle.pickle_types.specs.declared.node.Node.{Node}
 use Rattle.pickle_types.specs.declared.node.Resolved.{Resolved}
-use Rattle.pickle_types.specs.Types.{Term, Fields, FieldThen, Parts, PartThen, depth}
+use Rattle.pickle_types.specs.Types.{PokeType, Term, Fields, FieldThen, Parts, PartThen, depth}
 use Rattle.pickle_types.specs.Sound.{IsSoundClause}
 use Rattle.pickle_types.specs.Table.{type_of, optional_term, name_of}
+use Rattle.pickle_types.specs.TypeTable.{type_named}
 use Rattle.pickle_meaning.specs.declared.faults.MapFault.{MapFault}
 use Rattle.pickle_map.specs.declared.mapper.stop.Stop.{Stop}
 use Rattle.pickle_map.specs.Mappable.{IsPartOf}
@@ -24,6 +25,7 @@ use Rattle.fault_parts.specs.Arises.{Path, FieldsBefore, MissesBefore, Arises, P
 use Rattle.fault_location.specs.declared.part.Part.{Part}
 use Rattle.fault_location.specs.declared.part.Entered.{Entered}
 use Rattle.fault_location.specs.declared.part.Entered.TheVariants as entered
+use Rattle.fault_location.specs.declared.part.TypeStart.{TypeStart}
 use Rattle.fault_location.specs.declared.site.Inner.{Inner}
 
 -- a fact about the bits of a space, where its bytes are known
@@ -70,6 +72,10 @@ Settled (Err Memory) o = Unit {0}
 
 abbrev pub fault_of : MapFault → FaultAt
 fault_of told = (told.kind, told.at)
+
+-- the type of a table that is mapped from a bit on
+abbrev pub start_type : TypeStart → PokeType
+start_type whole = type_named whole.table.now whole.id
 
 -- the constraint of a part, as a term
 abbrev pub beside : Option (Option (Box Resolved Global)) → Option Term

@@ -1,7 +1,7 @@
 //! Checks a whole path.
 
 ghost use Rattle.std.specs.Prelude.{◌≡◌, ◌<◌, [], length, IsTrue};
-ghost use Rattle.pickle_types.specs.TypeTable.{type_named, IsInTable};
+ghost use Rattle.pickle_types.specs.TypeTable.{IsInTable};
 ghost use Rattle.pickle_types.specs.Sound.{IsSoundClause};
 ghost use Rattle.value_store.specs.Slots.{emptied, level_count};
 ghost use Rattle.fault_location.specs.AtWork.{Frame, MayMap, MayTry};
@@ -10,51 +10,34 @@ ghost use Rattle.fault_location.specs.Ways.{OnBits, Leaves, GoesOn, constraint_o
 
 use crate::checker::Checker;
 use crate::mapped::{check_part, is_fault};
-use crate::part::{Entered, Part, Target, array_at, bare_part, struct_at, union_at};
+use crate::part::{
+    Claim, Entered, Part, Target, TypeStart, array_at, bare_part, struct_at, union_at,
+};
 use crate::site::{Inner, stop_of};
-use bit_space::{Meter, Order, Space};
+use bit_space::{Meter, Space};
 use pickle_map::mapper::watch::{Unwatched, Watch};
 use pickle_meaning::faults::MapFault;
-use pickle_types::table::{Table, TypeId};
 use pickle_types::view::{Node, Shape};
 use value_store::store::Store;
 
-/// Whether the fault of a type, which is mapped from the bit `start` on, arises in the part to which a path leads. A
-/// path has a place for each step, from 0: the number of an element, or of a field or an alternative among the declared
-/// ones.
+/// Whether the fault of a type arises in the part to which the path of the claim leads.
 ///
 /// It maps again what is before that part. After `false` the fault may still arise there: the run may have ended before
 /// that was found.
 pub fn arises<S: Space>(
-    table: &Table,
-    id: TypeId,
-    order: Order,
-    start: u64,
-    fault: MapFault,
-    path: &[usize],
+    whole: TypeStart<'_>,
+    claim: Claim<'_>,
     space: &mut S,
     meter: &mut Meter,
     store: &mut Store,
 ) -> bool
-    requires known { IsInTable table.now id }
+    requires known { IsInTable whole.table.now whole.id }
     requires empty { store.old ≡ emptied store.old }
     ensures leaves { Leaves (S.view space.old) (S.view space.new) meter.old meter.new }
-    ensures is { IsTrue result →
-        OnBits (S.view space.old) (ArisesFrom (type_named table.now id) order start fault path.now) }
+    ensures is { IsTrue result → OnBits (S.view space.old) (ArisesFrom whole.entry claim.entry) }
     ensures emptied { store.new ≡ emptied store.new }
 {
-    let found = find_there(
-        table,
-        id,
-        order,
-        start,
-        fault,
-        path,
-        space,
-        meter,
-        store,
-        &mut Unwatched,
-    );
+    let found = find_there(whole, claim, space, meter, store, &mut Unwatched);
     store.clear();
     found
 }
@@ -66,34 +49,29 @@ pub fn arises<S: Space>(
 /// label of each field on it. Their stop has the kind of the fault, and the bit from which the bound or label counts.
 /// Then it gets what the part itself does when it is mapped.
 pub fn find_there<S: Space, W: Watch>(
-    table: &Table,
-    id: TypeId,
-    order: Order,
-    start: u64,
-    fault: MapFault,
-    path: &[usize],
+    whole: TypeStart<'_>,
+    claim: Claim<'_>,
     space: &mut S,
     meter: &mut Meter,
     store: &mut Store,
     watch: &mut W,
 ) -> bool
-    requires known { IsInTable table.now id }
+    requires known { IsInTable whole.table.now whole.id }
     requires empty { store.old ≡ emptied store.old }
     ensures leaves { Leaves (S.view space.old) (S.view space.new) meter.old meter.new }
-    ensures is { IsTrue result →
-        OnBits (S.view space.old) (ArisesFrom (type_named table.now id) order start fault path.now) }
+    ensures is { IsTrue result → OnBits (S.view space.old) (ArisesFrom whole.entry claim.entry) }
 {
-    let whole = Inner {
-        node: id.node,
-        order,
-        start: u128::from(start),
+    let inner = Inner {
+        node: whole.id.node,
+        order: whole.order,
+        start: u128::from(whole.start),
     };
     let mut checker = Checker {
-        nodes: table.nodes(),
+        nodes: whole.table.nodes(),
         meter,
         store,
     };
-    checker.follow(bare_part(whole), fault, path, space, watch)
+    checker.follow(bare_part(inner), claim.fault, claim.path, space, watch)
 }
 
 impl<'a> Checker<'a> {

@@ -2,7 +2,7 @@
 
 ghost use Rattle.std.specs.Prelude.{◌≡◌, ◌*◌, ◌≤◌, IfErr, IfOk};
 ghost use Rattle.pickle_types.specs.Table.{IsWidth};
-ghost use Rattle.pickle_types.specs.TypeTable.{type_named, IsInTable};
+ghost use Rattle.pickle_types.specs.TypeTable.{IsInTable};
 ghost use Rattle.value_store.specs.Slots.{emptied};
 ghost use Rattle.fault_location.specs.AtWork.{Frame, MayMap};
 ghost use Rattle.fault_location.specs.Searched.{EndsSearch, SearchesIn, SearchesRead, SearchesSite};
@@ -10,52 +10,45 @@ ghost use Rattle.fault_location.specs.Sites.{FindsPart, FindsSite, GoesAlong, Ha
 ghost use Rattle.fault_location.specs.Ways.{OnBits, IfFound, Leaves};
 
 use crate::checker::Checker;
-use crate::part::{array_at, struct_at, union_at};
+use crate::part::{TypeStart, array_at, struct_at, union_at};
 use crate::site::{Cut, Ended, Inner, Site, fault_in, keep};
-use bit_space::{Meter, Order, Space};
+use bit_space::{Meter, Space};
 use pickle_map::mapper::read::read_digits;
 use pickle_types::integer::IntegerType;
-use pickle_types::table::{Table, TypeId};
 use pickle_types::view::Shape;
 use std::alloc::Global;
 use value_store::store::Store;
 
-/// The path to the part in which the fault of a type arises, which is mapped from the bit `start` on: the place of the
-/// part at each step, from 0. It is empty if the fault arises in the type itself, and says nothing of a type that has a
-/// value.
+/// The path to the part in which the fault of a type arises: the place of the part at each step, from 0. It is empty if
+/// the fault arises in the type itself, and says nothing of a type that has a value.
 ///
 /// It maps again what is before that part. An error if the run ends before it is found.
 pub fn find_part<S: Space>(
     alloc: Global,
-    table: &Table,
-    id: TypeId,
-    order: Order,
-    start: u64,
+    whole: TypeStart<'_>,
     space: &mut S,
     meter: &mut Meter,
     store: &mut Store,
 ) -> Result<Vec<usize>, Ended>
-    requires known { IsInTable table.now id }
+    requires known { IsInTable whole.table.now whole.id }
     requires empty { store.old ≡ emptied store.old }
     ensures leaves { Leaves (S.view space.old) (S.view space.new) meter.old meter.new }
-    ensures is { IfOk result
-        (λ path. OnBits (S.view space.old) (FindsPart (type_named table.now id) order start path.items)) }
-    ensures ended { IfErr result
-        (EndsSearch (type_named table.now id) order start (S.view space.old) (S.view space.new) meter.old) }
+    ensures is { IfOk result (λ path. OnBits (S.view space.old) (FindsPart whole.entry path.items)) }
+    ensures ended { IfErr result (EndsSearch whole.entry (S.view space.old) (S.view space.new) meter.old) }
     ensures emptied { store.new ≡ emptied store.new }
 {
     let mut path = Vec::new(alloc);
-    let whole = Inner {
-        node: id.node,
-        order,
-        start: u128::from(start),
+    let inner = Inner {
+        node: whole.id.node,
+        order: whole.order,
+        start: u128::from(whole.start),
     };
     let mut checker = Checker {
-        nodes: table.nodes(),
+        nodes: whole.table.nodes(),
         meter,
         store,
     };
-    let located = checker.locate(whole, &mut path, space);
+    let located = checker.locate(inner, &mut path, space);
     checker.store.clear();
     located?;
     Ok(path)

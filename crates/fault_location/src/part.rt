@@ -9,6 +9,7 @@ use bit_space::Order;
 use pickle_map::mapper::walk::ordered;
 use pickle_meaning::extent::Extent;
 use pickle_meaning::faults::MapFault;
+use pickle_types::table::{Table, TypeId};
 use pickle_types::view::{Extent as Bound, Field, Part as Alternative, Resolved};
 
 /// A type, and its constraint, if any.
@@ -16,6 +17,23 @@ use pickle_types::view::{Extent as Bound, Field, Part as Alternative, Resolved};
 pub struct Part<'a> {
     pub inner: Inner,
     pub constraint: Option<&'a Option<Box<Resolved>>>,
+}
+
+/// A type of a table, which is mapped from the bit `start` on, in this byte order.
+#[derive(Clone, Copy)]
+pub struct TypeStart<'a> {
+    pub table: &'a Table,
+    pub id: TypeId,
+    pub order: Order,
+    pub start: u64,
+}
+
+/// A fault, and the path to the part in which it is said to arise. A path has a place for each step, from 0: the number
+/// of an element, or of a field or an alternative among the declared ones.
+#[derive(Clone, Copy)]
+pub struct Claim<'a> {
+    pub fault: MapFault,
+    pub path: &'a [usize],
 }
 
 /// A struct that starts at a bit, in the byte order around it.

@@ -9,8 +9,9 @@ use Rattle.fault_location.proofs.arises.find_there.Goals as goal
 pub follow-requires : goal.follow-requires
 follow-requires g c =
     let one = ap level_count c.requires.empty in
-    let deep = c.args.table.now.sound.deep c.args.id.node c.requires.known in
-    let held : level_count c.args.store.now + depth (type_of c.args.table.now.nodes.items c.args.id.node) ≤ 65 =
+    let nodes = c.args.whole.table.now.nodes.items in
+    let deep = c.args.whole.table.now.sound.deep c.args.whole.id.node c.requires.known in
+    let held : level_count c.args.store.now + depth (type_of nodes c.args.whole.id.node) ≤ 65 =
     omega (arith, one, deep) in
     let bare = c.bare_part.ensures in
     record {
@@ -24,7 +25,7 @@ follow-requires g c =
 pub returns-clause-is : goal.returns-clause-is
 returns-clause-is g c =
     λ yes bytes e.
-    let none = none_kept c.args.table.now.nodes.items c.args.store.now c.requires.empty in
+    let none = none_kept c.args.whole.table.now.nodes.items c.args.store.now c.requires.empty in
     let found =
     rw (c.bare_part.ensures.inner_is, c.nodes.ensures, none, c.from.ensures) at (c.follow.ensures.is yes bytes e) in
     of_bare c.bare_part.ensures.clause_is found
