@@ -16,6 +16,7 @@ use crate::way::Way;
 use bit_space::{Meter, Order, Space};
 use fault_location::arises::find_there;
 use fault_location::locate::find_part;
+use fault_location::part::{Claim, TypeStart};
 use fault_location::site::Ended;
 use pickle_map::mapper::stop::Stop;
 use pickle_map::mapper::told;
@@ -131,9 +132,13 @@ impl TypeMapping<'_> {
             ask,
         } = self;
         let mut meter = Meter::new(ask.limit.saturating_mul(MOST_TIMES));
-        match find_part(
-            alloc, table, id, ask.order, ask.start, space, &mut meter, store,
-        ) {
+        let whole = TypeStart {
+            table,
+            id,
+            order: ask.order,
+            start: ask.start,
+        };
+        match find_part(alloc, whole, space, &mut meter, store) {
             Ok(places) => {
                 let way = Way::along(alloc, table.nodes(), id.node, places.as_slice())?;
                 let stop = Stop::Fault(fault.kind, fault.at);
@@ -162,9 +167,17 @@ impl TypeMapping<'_> {
     {
         let TypeMapping { table, id, ask, .. } = self;
         let mut meter = Meter::new(ask.limit.saturating_mul(MOST_TIMES));
-        find_there(
-            table, id, ask.order, ask.start, fault, places, space, &mut meter, store, watch,
-        )
+        let whole = TypeStart {
+            table,
+            id,
+            order: ask.order,
+            start: ask.start,
+        };
+        let claim = Claim {
+            fault,
+            path: places,
+        };
+        find_there(whole, claim, space, &mut meter, store, watch)
     }
 }
 

@@ -6,6 +6,7 @@ ghost use Rattle.pickle_types.specs.TypeTable.{IsInTable};
 use bit_space::{MemSpace, Meter, Order};
 use fault_location::arises::arises;
 use fault_location::locate::find_part;
+use fault_location::part::{Claim, TypeStart};
 use pickle_map::{MapFault, Store, map};
 use pickle_types::{Table, TypeId};
 use run_parts::accept::accept;
@@ -107,17 +108,14 @@ fn is_at(
     let mut space = MemSpace::new(row.bytes.as_slice().to_vec(alloc)?)?;
     let mut store = Store::new(alloc);
     let mut meter = Meter::new(LIMIT);
-    Ok(arises(
+    let whole = TypeStart {
         table,
         id,
-        Order::Big,
-        0,
-        fault,
-        path,
-        &mut space,
-        &mut meter,
-        &mut store,
-    ))
+        order: Order::Big,
+        start: 0,
+    };
+    let claim = Claim { fault, path };
+    Ok(arises(whole, claim, &mut space, &mut meter, &mut store))
 }
 
 /// The path to the part with the fault, by the search.
@@ -127,16 +125,13 @@ fn found_path(alloc: Global, table: &Table, id: TypeId, row: &Row) -> Result<Vec
     let mut space = MemSpace::new(row.bytes.as_slice().to_vec(alloc)?)?;
     let mut store = Store::new(alloc);
     let mut meter = Meter::new(LIMIT);
-    match find_part(
-        alloc,
+    let whole = TypeStart {
         table,
         id,
-        Order::Big,
-        0,
-        &mut space,
-        &mut meter,
-        &mut store,
-    ) {
+        order: Order::Big,
+        start: 0,
+    };
+    match find_part(alloc, whole, &mut space, &mut meter, &mut store) {
         Ok(path) => Ok(path),
         Err(_) => Err(Fail::from("no part")),
     }
