@@ -5,6 +5,7 @@ use Rattle.jobs.specs.Jobs.{FailsMap, DumpsOver, StopsDump, MapsOver, MapsEach, 
 use Rattle.jobs.specs.Gives.{Gives}
 use Rattle.jobs.specs.Aims.{aim_of}
 use Rattle.jobs.specs.declared.each.Many.{Many}
+use Rattle.jobs.specs.declared.each.ReadPickle.{ReadPickle}
 use Rattle.jobs.specs.declared.fault.FileFault.{FileFault}
 use Rattle.jobs.specs.declared.ending.Ending.{Ending}
 use Rattle.jobs.specs.declared.one_file.Target.{Target}
@@ -38,8 +39,10 @@ MapsTarget gives target =
 abbrev pub MapsMany : Gives → (why : Bool) → (out out' : Option (List ℕ)) → Many → Ending → Type 0
 MapsMany gives why out out' many = MapsEach gives why out out' many.request.now many.names.now
 
-abbrev pub EndsMany : Gives → (why : Bool) → (out out' : Option (List ℕ)) → Many → (pickle : List ℕ) → Ending → Type 0
-EndsMany gives why out out' many pickle = EndsOfEach gives why out out' many.request.now many.names.now pickle
+-- the same with the pickle that was read
+abbrev pub EndsMany : Gives → (out out' : Option (List ℕ)) → Many → ReadPickle → Ending → Type 0
+EndsMany gives out out' many read =
+    EndsOfEach gives read.explains out out' many.request.now many.names.now read.pickle.now.bytes.items
 
 abbrev pub FailsTarget : Gives → Target → FileFault → Type 0
 FailsTarget gives target = FailsMap gives target.pickle.now target.file.now target.mapping.spool

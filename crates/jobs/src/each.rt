@@ -30,6 +30,13 @@ pub struct Many<'a> {
     pub flush: bool,
 }
 
+/// A pickle that was read, and whether reasons are requested.
+#[derive(Clone, Copy)]
+struct ReadPickle<'a> {
+    pickle: &'a NamedPickle,
+    explains: bool,
+}
+
 /// Maps a type of a pickle over many files, and writes a line for each. Ends with the greatest exit status of all.
 #[inline(never)]
 pub fn map_files<P: Opener, A: Aside, O: Write>(
@@ -47,7 +54,11 @@ pub fn map_files<P: Opener, A: Aside, O: Write>(
 {
     let mapping = Mapping::of_request(many.request);
     let pickle = opener.read_pickle(&many.request.pickle)?;
-    let ending = many.run(alloc, opener, &pickle, why.asked, out, aside);
+    let read = ReadPickle {
+        pickle: &pickle,
+        explains: why.asked,
+    };
+    let ending = many.run(alloc, opener, read, out, aside);
     aside.clear();
     explain(alloc, why, ending.status(), &pickle, Some(mapping.name));
     Ok(ending)
@@ -59,15 +70,13 @@ impl Many<'_> {
         self,
         alloc: Global,
         opener: &P,
-        pickle: &NamedPickle,
-        explains: bool,
+        read: ReadPickle<'_>,
         out: &mut O,
         aside: &mut A,
     ) -> Ending
-        ensures { EndsMany (P.gives opener.now) explains (O.contents out.old) (O.contents out.new) self.entry
-            pickle.now.bytes.items result }
+        ensures { EndsMany (P.gives opener.now) (O.contents out.old) (O.contents out.new) self.entry read.entry result }
     {
-        let table = match accept(alloc, &pickle.bytes) {
+        let table = match accept(alloc, &read.pickle.bytes) {
             Ok(table) => table,
             Err(refusal) => return Ending::Run(Outcome::Refused(refusal)),
         };
@@ -77,14 +86,14 @@ impl Many<'_> {
         };
         let typed = Typed {
             alloc,
-            pickle,
+            pickle: read.pickle,
             table: &table,
             id,
             mapping,
             terms: &self.request.terms,
             form: FileForm::of(mapping.mode, self.request.faults()),
             flush: self.flush,
-            explains,
+            explains: read.explains,
         };
         match run_files(opener, typed, self.names, out, aside) {
             Ok(status) => Ending::Silent(status),

@@ -23,7 +23,7 @@ returns-in-Ok-run_files g c =
     let modes = ap (λ (aim : Aim). file_form aim.mode c.faults.result) c.of_request-mapping.ensures.aim in
     each_done (subst (λ (every : Every). AppendsFiles (WritesRuns gives every) (AreNamesOf gives c.args.self.names.now)
     (g.O.Write.contents c.args.out.now) (g.O.Write.contents c.run_files.new.out) c.in-Ok-run_files.status)
-    (every_same c.args.self.request.now c.args.explains c.args.pickle.now.bytes.items _ _ _
+    (every_same c.args.self.request.now c.args.read.explains c.args.read.pickle.now.bytes.items _ _ _
     c.of_request-mapping.ensures.aim c.of_request-mapping.ensures.reads.0
     (c.of.ensures ∙ modes ∙ ap (file_form _) c.faults.ensures))
     c.in-Ok-run_files.ensures.ok)
