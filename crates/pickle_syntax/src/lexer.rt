@@ -106,7 +106,7 @@ fn tokens_from(alloc: Global, bytes: &[u8]) -> Result<Tokens<'_>, LexFault>
 
 /// The tokens, or the first fault. More than 1,048,576 bytes are too long.
 #[tactic(auto, unfolding(crate::specs::Lexing::lexed))]
-fn cut(alloc: Global, bytes: &[u8]) -> Result<Tokens<'_>, LexFault>
+fn tokenize(alloc: Global, bytes: &[u8]) -> Result<Tokens<'_>, LexFault>
     ensures { Gives (λ t. (tokens_of t.kinds.items, t.spans.items)) result (lexed bytes.now) }
 {
     if MOST_BYTES < bytes.len() {
@@ -127,5 +127,5 @@ pub fn lex(alloc: Global, bytes: &[u8]) -> Result<Tokens<'_>, LexFault>
     ensures fault { IfErr result (λ f. f.kind ≢ Memory → IsLexFault bytes.now (f.kind, f.at)) }
     ensures memory { IfErr result (λ f. f.kind ≡ Memory → f.at ≡ 0) }
 {
-    cut(alloc, bytes)
+    tokenize(alloc, bytes)
 }

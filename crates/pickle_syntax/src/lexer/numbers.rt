@@ -146,7 +146,7 @@ fn has_value(signed: bool, width: u8, value: u64) -> bool
 }
 
 /// The width of the number's type.
-fn typed(value: u64, suffix: Suffix) -> u8
+fn number_width(value: u64, suffix: Suffix) -> u8
     requires { suffix.width ≤ 64 }
     ensures value { result ≡ typed value suffix }
     ensures low { result ≤ 64 }
@@ -169,13 +169,19 @@ fn start_of(base: u8) -> usize
     if base == 10 { 0 } else { 2 }
 }
 
-fn checked(at: usize, value: u64, suffix: Suffix, end: usize, next: u8) -> Result<Found, LexFault>
+fn check_number(
+    at: usize,
+    value: u64,
+    suffix: Suffix,
+    end: usize,
+    next: u8,
+) -> Result<Found, LexFault>
     requires width { suffix.width ≤ 64 }
     requires len { end + suffix.len < 2 ^ 64 }
     ensures value { Gives number_of result (checked at value suffix end next) }
     ensures len { IfOk result (λ f. f.len ≡ end + suffix.len) }
 {
-    let width = typed(value, suffix);
+    let width = number_width(value, suffix);
     if is_in(Class::Word, next) {
         return Err(LexFault {
             kind: LexFaultKind::BadNumber,
@@ -219,5 +225,5 @@ pub fn number_at(at: usize, bytes: &[u8]) -> Result<Found, LexFault>
             at,
         }),
     };
-    checked(at, value, suffix, start + len, byte_at(after, suffix.len))
+    check_number(at, value, suffix, start + len, byte_at(after, suffix.len))
 }

@@ -22,7 +22,7 @@ const PREFIX_LEVEL: u8 = 13;
 
 /// What follows `(`.
 #[cycle(expressions)]
-fn bracketed<'a, 't>(
+fn bracket<'a, 't>(
     alloc: Global,
     room: u8,
     tokens: &'a [Kind<'t>],
@@ -40,7 +40,7 @@ fn bracketed<'a, 't>(
 
 /// What follows a prefix.
 #[cycle(expressions)]
-fn prefixed<'a, 't>(
+fn prefix<'a, 't>(
     alloc: Global,
     room: u8,
     op: Prefix,
@@ -101,8 +101,8 @@ fn operand<'a, 't>(
                 Ok((leaf(expression), rest))
             }
             Kind::Sign(sign) => match start_of(*sign) {
-                Start::Bracket => bracketed(alloc, room, rest),
-                Start::Prefix(op) => prefixed(alloc, room, op, rest),
+                Start::Bracket => bracket(alloc, room, rest),
+                Start::Prefix(op) => prefix(alloc, room, op, rest),
                 Start::Nothing => Err(Stop::Syntax(tokens.len())),
             },
             _ => Err(Stop::Syntax(tokens.len())),

@@ -13,7 +13,7 @@ returns-clause-value c =
     c.skip-digits.result.now c.skip-after.result.now c.run_len-len.result c.in-Some.value c.suffix_at-suffix.result
     c.byte_at.result c.base_of-base.ensures.value c.start_of-start.ensures.value c.skip-digits.ensures
     c.run_len-len.ensures.len c.skip-after.ensures c.suffix_at-suffix.ensures.value v c.byte_at.ensures.value in
-    subst (λ (r : Result Read Fault). Gives number_of c.checked.result r) same c.checked.ensures.value
+    subst (λ (r : Result Read Fault). Gives number_of c.check_number.result r) same c.check_number.ensures.value
 
 pub returns-clause-within : goal.returns-clause-within
 returns-clause-within c =
@@ -24,6 +24,7 @@ returns-clause-within c =
     c.start_of-start.result c.run_len-len.result c.suffix_at-suffix.result.len c.skip-digits.ensures
     c.run_len-len.ensures.within c.skip-after.ensures c.base_of-base.ensures.there c.start_of-start.ensures.none
     c.start_of-start.ensures.low c.suffix_at-suffix.ensures.within in
-    IfOk-weaker c.checked.result
+    IfOk-weaker c.check_number.result
     (λ f. f.len ≡ c.start_of-start.result + c.run_len-len.result + c.suffix_at-suffix.result.len) (λ f. (1 ≤ f.len)
-    × (f.len ≤ length c.args.bytes.now)) (λ f e. (omega (arith, e, long), omega (arith, e, room))) c.checked.ensures.len
+    × (f.len ≤ length c.args.bytes.now)) (λ f e. (omega (arith, e, long), omega (arith, e, room)))
+    c.check_number.ensures.len

@@ -7,11 +7,11 @@ use Rattle.pickle_syntax.proofs.parser.expressions.+expressions.Given as goal
 abbrev pub decreases-expression : goal.decreases-expression
 decreases-expression l = 4 * l.room
 
-abbrev pub decreases-bracketed : goal.decreases-bracketed
-decreases-bracketed l = 4 * l.room + 1
+abbrev pub decreases-bracket : goal.decreases-bracket
+decreases-bracket l = 4 * l.room + 1
 
-abbrev pub decreases-prefixed : goal.decreases-prefixed
-decreases-prefixed l = 4 * l.room + 1
+abbrev pub decreases-prefix : goal.decreases-prefix
+decreases-prefix l = 4 * l.room + 1
 
 abbrev pub decreases-operand : goal.decreases-operand
 decreases-operand l = 4 * l.room + 2
