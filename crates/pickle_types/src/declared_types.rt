@@ -67,12 +67,12 @@ fn tell<'t>(nodes: &[Node], roots: &[usize], known: &[Bounds], named: &'t Named)
     DeclaredType {
         name: named.word.as_slice(),
         kind: kind_of(&nodes[node].shape),
-        least: held(bounds.least),
+        least: stored_width(bounds.least),
     }
 }
 
 // A width is reported as it is stored.
-fn held(least: Option<u64>) -> Option<u64>
+fn stored_width(least: Option<u64>) -> Option<u64>
     ensures { (width : ℕ) → HoldsWidth least width → result ≡ held_width width }
 {
     match least {

@@ -17,11 +17,11 @@ ghost use Rattle.pickle_types.specs.Building.{known_types, visible_in, after_its
 ghost use Rattle.pickle_types.specs.Calls.{constraint_meaning, BuildsForm, AddsField, BuildsField, BuildsFields, AddsDeclaration};
 
 use crate::check::enclosing::Enclosing;
-use crate::check::expressions::{Context, integer, typed};
+use crate::check::expressions::{Context, integer, resolve_expression};
 use crate::check::field_list::{FieldList, FieldPlaces};
 use crate::check::fields::{
-    condition_in, constraint_in, copied, form_in, fresh, label_in, lent, name_in, order_in,
-    parts_from, place_in, stand, struct_place, total_width,
+    borrow_expression, condition_in, constraint_in, copy_name, form_in, fresh, label_in, name_in,
+    order_in, parts_from, place_in, stand, struct_place, total_width,
 };
 use crate::check::nodes::Nodes;
 use crate::check::operators::Scalar;
@@ -246,7 +246,7 @@ impl<'n> Builder<'n> {
         let Some(e) = e else {
             return Ok(None);
         };
-        let x = typed(&self.context(levels), trail, e)?;
+        let x = resolve_expression(&self.context(levels), trail, e)?;
         integer(&self.nodes, x.sort)?;
         Ok(Some(Box::new(self.alloc, x.term)?))
     }
@@ -269,7 +269,7 @@ impl<'n> Builder<'n> {
         let Some(e) = e else {
             return Ok(None);
         };
-        let x = typed(&self.context(levels), trail, e)?;
+        let x = resolve_expression(&self.context(levels), trail, e)?;
         match operand_of(&self.nodes, x.sort).number() {
             Some(Scalar::Offset(_, _)) => Ok(Some(Box::new(self.alloc, x.term)?)),
             _ => Err(FaultKind::Mismatch),
@@ -294,7 +294,7 @@ impl<'n> Builder<'n> {
         let Some(e) = e else {
             return Ok(Extent::Unbounded);
         };
-        let x = typed(&self.context(levels), trail, e)?;
+        let x = resolve_expression(&self.context(levels), trail, e)?;
         match operand_of(&self.nodes, x.sort).number() {
             Some(Scalar::Integer(_)) => Ok(Extent::Count(Box::new(self.alloc, x.term)?)),
             Some(Scalar::Offset(_, _)) => Ok(Extent::Size(Box::new(self.alloc, x.term)?)),
@@ -427,7 +427,7 @@ impl<'n> Builder<'n> {
             node: found.node,
         };
         let constraint = self.constraint(place, itself, constraint_in(written))?;
-        let name = copied(self.alloc, word)?;
+        let name = copy_name(self.alloc, word)?;
         Ok(Field {
             name,
             order: order_in(written),
@@ -622,7 +622,7 @@ impl<'n> Builder<'n> {
         let bound = match self.bound_expression(levels, &mut trail, bound) {
             Ok(bound) => bound,
             Err(kind) => {
-                self.refuse_clause(RefusedPart::Bound, levels, trail, lent(bound));
+                self.refuse_clause(RefusedPart::Bound, levels, trail, borrow_expression(bound));
                 return Err(kind);
             }
         };
@@ -659,7 +659,7 @@ impl<'n> Builder<'n> {
     {
         let (fields, depth) = self.fields_at(struct_place(pinned), levels, room - 1, written)?;
         let (fields, places) = fields.into_parts();
-        let name = copied(self.alloc, title.name)?;
+        let name = copy_name(self.alloc, title.name)?;
         self.push(
             title.slot,
             Shape::Struct {
@@ -706,7 +706,7 @@ impl<'n> Builder<'n> {
             return Err(FaultKind::IntegralWidths);
         }
         let fields = parts_from(self.alloc, fields)?;
-        let name = copied(self.alloc, title.name)?;
+        let name = copy_name(self.alloc, title.name)?;
         self.push(
             title.slot,
             Shape::Integral {
@@ -746,7 +746,7 @@ impl<'n> Builder<'n> {
         let (fields, depth) = self.fields_at(Enclosing::Union, levels, room - 1, written)?;
         let (fields, places) = fields.into_parts();
         let alternatives = parts_from(self.alloc, fields)?;
-        let name = copied(self.alloc, title.name)?;
+        let name = copy_name(self.alloc, title.name)?;
         self.push(
             title.slot,
             Shape::Union { name, alternatives },

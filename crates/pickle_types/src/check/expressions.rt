@@ -376,7 +376,7 @@ fn operand(
     ensures sound { IfOk result (IsSoundMeant context.now.nodes.now) }
 {
     trail.enter(number);
-    let x = typed(context, trail, e)?;
+    let x = resolve_expression(context, trail, e)?;
     trail.leave();
     Ok(x)
 }
@@ -384,7 +384,7 @@ fn operand(
 /// An expression with its names resolved, and its sort. With a fault the trail leads to the operand that has it.
 #[cycle(expressions)]
 #[tactic(auto, unfolding(crate::specs::Expressions::typed))]
-pub fn typed(
+pub fn resolve_expression(
     context: &Context<'_, '_>,
     trail: &mut Trail,
     e: &Expression<'_>,

@@ -42,7 +42,7 @@ pub fn order_in(field: &tree::Field<'_>) -> Option<ByteOrder>
 }
 
 /// An expression that may be there.
-pub fn lent<'a, 't>(e: &'a Option<Box<Expression<'t>>>) -> Option<&'a Expression<'t>>
+pub fn borrow_expression<'a, 't>(e: &'a Option<Box<Expression<'t>>>) -> Option<&'a Expression<'t>>
     ensures { borrowed_tree result ≡ boxed_tree e.now }
 {
     match e {
@@ -56,7 +56,7 @@ pub fn label_in<'a, 't>(field: &'a tree::Field<'t>) -> Option<&'a Expression<'t>
     ensures { borrowed_tree result ≡ (field_tree field.now).parts.label }
 {
     match &field.clauses {
-        Clauses::Several(clauses) => lent(&clauses.label),
+        Clauses::Several(clauses) => borrow_expression(&clauses.label),
         Clauses::Nothing | Clauses::Constraint(_) => None,
     }
 }
@@ -66,7 +66,7 @@ pub fn condition_in<'a, 't>(field: &'a tree::Field<'t>) -> Option<&'a Expression
     ensures { borrowed_tree result ≡ (field_tree field.now).parts.condition }
 {
     match &field.clauses {
-        Clauses::Several(clauses) => lent(&clauses.condition),
+        Clauses::Several(clauses) => borrow_expression(&clauses.condition),
         Clauses::Nothing | Clauses::Constraint(_) => None,
     }
 }
@@ -78,7 +78,7 @@ pub fn constraint_in<'a, 't>(field: &'a tree::Field<'t>) -> Option<&'a Expressio
     match &field.clauses {
         Clauses::Nothing => None,
         Clauses::Constraint(constraint) => Some(constraint),
-        Clauses::Several(clauses) => lent(&clauses.constraint),
+        Clauses::Several(clauses) => borrow_expression(&clauses.constraint),
     }
 }
 
@@ -151,7 +151,7 @@ pub fn place_in(place: Enclosing, before: usize) -> usize
 }
 
 /// A copy of a name, if there is one.
-pub fn copied(alloc: Global, name: Option<&[u8]>) -> Result<Option<Name>, FaultKind>
+pub fn copy_name(alloc: Global, name: Option<&[u8]>) -> Result<Option<Name>, FaultKind>
     ensures ok { IfOk result (λ x. name_of x ≡ bytes_now name.entry) }
     ensures err { IfErr result (λ e. e ≡ FaultKind.Memory) }
 {

@@ -6,7 +6,7 @@ ghost use Rattle.pickle_types.specs.Table.{IsTable};
 ghost use Rattle.pickle_types.specs.Built.{AreNamed, AreBelow, IsInside, sort_of};
 ghost use Rattle.pickle_types.specs.Sites.{operands, operand_along, TellsSort, TellsType, TellsOperand, TellsRefused};
 
-use crate::check::expressions::{Context, typed};
+use crate::check::expressions::{Context, resolve_expression};
 use crate::check::nodes::Nodes;
 use crate::check::operators::Scalar;
 use crate::check::sorts::{Sort, shape_at};
@@ -145,7 +145,7 @@ fn type_in(context: &Context<'_, '_>, e: &Expression<'_>) -> Option<OperandType>
     ensures { TellsType context.now (expression_tree e.now) result }
 {
     let mut trail = Trail::new();
-    match typed(context, &mut trail, e) {
+    match resolve_expression(context, &mut trail, e) {
         Ok(x) => Some(operand_type(context.nodes, x.sort)),
         Err(_) => None,
     }

@@ -6,4 +6,4 @@ pub returns : goal.returns
 returns c = told_same _ _ _ _ _ _ c.as_slice.ensures.value
     (c.kind_of.ensures ∙ sym (kind_at c.args.nodes.now c.requires.table c.args.named.now.declared.node
     c.index-nodes-node.result c.requires.inside))
-    (c.held.ensures _ c.node_bounds-bounds.ensures.least)
+    (c.stored_width.ensures _ c.node_bounds-bounds.ensures.least)
