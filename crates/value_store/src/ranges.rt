@@ -51,7 +51,7 @@ pub fn with_sign(number: IntegerType, n: u64) -> i128
 
 /// `z` converted to a type of N bits: modulo 2^N into the range of the type. A conversion never fails.
 #[tactic(auto, unfolding(pickle_meaning::specs::Arithmetic::converted))]
-pub fn converted(number: IntegerType, z: i128) -> i128
+pub fn convert(number: IntegerType, z: i128) -> i128
     requires width { IsWidth number }
     ensures is { result ≡ converted number z }
     ensures small { IsSmall number.signed result }

@@ -95,7 +95,7 @@ impl Store {
         ensures empty { IfOk result (λ s. s ≡ empty (growing room) s.capacity) }
         ensures levels { IfOk result (λ s. (names : Names) → levels names s ≡ no_values) }
     {
-        Store::reserved(
+        Store::allocate(
             alloc,
             Room {
                 least: room,
@@ -110,7 +110,7 @@ impl Store {
         ensures empty { IfOk result (λ s. s ≡ empty (fixed most) s.capacity) }
         ensures levels { IfOk result (λ s. (names : Names) → levels names s ≡ no_values) }
     {
-        Store::reserved(
+        Store::allocate(
             alloc,
             Room {
                 least: most,
@@ -120,7 +120,7 @@ impl Store {
     }
 
     // An empty store that has reserved all its capacity.
-    fn reserved(alloc: Global, room: Room) -> Result<Store, Memory>
+    fn allocate(alloc: Global, room: Room) -> Result<Store, Memory>
         ensures empty { IfOk result (λ s. s ≡ empty room s.capacity) }
     {
         let nodes = Vec::with_capacity(alloc, room.least)?;

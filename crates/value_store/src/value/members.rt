@@ -72,7 +72,7 @@ impl<'a> Members<'a> {
 
     // The member at a place, without the names of its type.
     #[inline(always)]
-    fn stored(&self, i: usize) -> Option<StoredValue<'a>>
+    fn stored_member(&self, i: usize) -> Option<StoredValue<'a>>
         ensures part { (names : Names) → option_map (value_of names) result
             ≡ member_at (members_of (value_of names (owner_of self.now).stored)) i }
         ensures below { IfSome result (λ c. place_rank c.place < rank_of (owner_of self.now)) }
@@ -87,7 +87,7 @@ impl<'a> Members<'a> {
         ensures { option_map scalar_label result
             ≡ scalar_if (member_at (members_of (value_shown (owner_of self.now))) i) }
     {
-        match self.stored(i) {
+        match self.stored_member(i) {
             Some(stored) => stored.scalar(),
             None => None,
         }
@@ -98,7 +98,7 @@ impl<'a> Members<'a> {
         ensures member { option_map value_shown result ≡ member_at (members_of (value_shown (owner_of self.now))) i }
         ensures below { IfSome result (λ c. rank_of c < rank_of (owner_of self.now)) }
     {
-        match self.stored(i) {
+        match self.stored_member(i) {
             Some(stored) => Some(ValueRef {
                 stored,
                 nodes: self.value.nodes,

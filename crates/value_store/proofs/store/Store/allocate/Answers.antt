@@ -1,6 +1,6 @@
 use Rattle.std.proofs.Common.{rules}
 use Rattle.value_store.proofs.Empty.{empty-levels}
-use Rattle.value_store.proofs.store.Store.reserved.Goals as goal
+use Rattle.value_store.proofs.store.Store.allocate.Goals as goal
 
 pub invariant_of-result : goal.invariant_of-result
 invariant_of-result c =

@@ -4,7 +4,7 @@ use Rattle.std.proofs.lemmas.Nat.{one_shl}
 use mir.Syntax.{w128}
 use mir.Val.{SFits}
 use Rattle.value_store.proofs.Moduli.{lower_half}
-use Rattle.value_store.proofs.ranges.converted.Goals as goal
+use Rattle.value_store.proofs.ranges.convert.Goals as goal
 
 pub returns-then-z-from-clause-is : goal.returns-then-z-from-clause-is
 returns-then-z-from-clause-is c =
