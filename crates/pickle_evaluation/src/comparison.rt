@@ -13,7 +13,7 @@ use crate::integers::common;
 use pickle_tree::tree::Infix;
 use pickle_types::integer::IntegerType;
 use pickle_types::view::Resolved;
-use value_store::ranges::converted;
+use value_store::ranges::convert;
 use value_store::scalar::Scalar;
 use value_store::store::Store;
 
@@ -44,7 +44,7 @@ pub fn comparison(e: &Resolved, store: &Store) -> Option<bool>
         return None;
     }
     match (leaf(a, store), leaf(b, store)) {
-        (Some(x), Some(y)) => Some(compared(*op, x, y)),
+        (Some(x), Some(y)) => Some(compare(*op, x, y)),
         _ => None,
     }
 }
@@ -100,15 +100,15 @@ fn named(level: usize, place: usize, store: &Store) -> Option<Typed>
 /// The truth of a comparison of two integers, in their common type.
 #[tactic(auto, using(crate::proofs::Comparisons::common_order))]
 #[inline(always)]
-fn compared(op: Infix, a: Typed, b: Typed) -> bool
+fn compare(op: Infix, a: Typed, b: Typed) -> bool
     requires comparison { is_comparison op ≡ true }
     requires left { IsWidth a.of × IsSmall a.of.signed a.number }
     requires right { IsWidth b.of × IsSmall b.of.signed b.number }
     ensures { truth result ≡ on_integers op a.number a.of b.number b.of }
 {
     let number = common(a.of, b.of);
-    let x = converted(number, a.number);
-    let y = converted(number, b.number);
+    let x = convert(number, a.number);
+    let y = convert(number, b.number);
     in_order(op, x, y)
 }
 

@@ -62,35 +62,35 @@ pub fn truth_of(content: Content<'_>) -> Result<bool, MapFaultKind>
 
 /// The result of a prefix before an operand.
 #[tactic(auto, unfolding(pickle_meaning::specs::Arithmetic::prefixed))]
-pub fn prefixed(op: Prefix, content: Content<'_>) -> Result<Scalar, MapFaultKind>
+pub fn apply_prefix(op: Prefix, content: Content<'_>) -> Result<Scalar, MapFaultKind>
     requires { IsSoundContent content }
     ensures is { (x : Label) → IsHeld content.entry x → computed_of result ≡ prefixed op x }
     ensures scalar { IfOk result IsScalar }
 {
     match content {
-        Content::Scalar(scalar) => offsets::prefixed(op, scalar),
+        Content::Scalar(scalar) => offsets::apply_prefix(op, scalar),
         Content::Text(_) | Content::Other => Err(MapFaultKind::Absent),
     }
 }
 
 /// The result of an operator between two operands. `&&` and `||` that their left side settles aren't computed here.
 #[tactic(auto, unfolding(pickle_meaning::specs::Arithmetic::combined, pickle_meaning::specs::Arithmetic::on_texts))]
-pub fn combined(op: Infix, a: Content<'_>, b: Content<'_>) -> Result<Scalar, MapFaultKind>
+pub fn combine(op: Infix, a: Content<'_>, b: Content<'_>) -> Result<Scalar, MapFaultKind>
     requires left { IsSoundContent a }
     requires right { IsSoundContent b }
     ensures is { (x y : Label) → IsHeld a.entry x → IsHeld b.entry y → computed_of result ≡ combined op x y }
     ensures scalar { IfOk result IsScalar }
 {
     match (a, b) {
-        (Content::Scalar(x), Content::Scalar(y)) => offsets::combined(op, x, y),
-        (Content::Text(x), Content::Text(y)) => compared(op, x, y),
+        (Content::Scalar(x), Content::Scalar(y)) => offsets::combine(op, x, y),
+        (Content::Text(x), Content::Text(y)) => compare_texts(op, x, y),
         _ => Err(MapFaultKind::Absent),
     }
 }
 
 /// The result of a comparison of two texts.
 #[tactic(auto, unfolding(pickle_meaning::specs::Arithmetic::on_texts))]
-fn compared(op: Infix, x: &[u8], y: &[u8]) -> Result<Scalar, MapFaultKind>
+fn compare_texts(op: Infix, x: &[u8], y: &[u8]) -> Result<Scalar, MapFaultKind>
     ensures is { computed_of result ≡ on_texts op x.now y.now }
     ensures scalar { IfOk result IsScalar }
 {

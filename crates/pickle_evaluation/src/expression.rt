@@ -18,7 +18,9 @@ ghost use Rattle.pickle_evaluation.specs.Spending.{SpendsSteps};
 ghost use Rattle.value_store.specs.Scalars.{computed_of, IsScalar};
 
 use crate::comparison::{COMPARISON_STEPS, comparison, leaf};
-use crate::content::{Content, combined, in_unit, prefixed, seen, to_integer, to_offset, truth_of};
+use crate::content::{
+    Content, apply_prefix, combine, in_unit, seen, to_integer, to_offset, truth_of,
+};
 use crate::integers::truth;
 use crate::operand::{Operand, Unvalued};
 use crate::paths;
@@ -59,18 +61,14 @@ pub fn evaluate<'a>(
         Resolved::Infix(op, a, b) => { Ok(Operand::Scalar(infix(*op, a, b, store, meter)?)) }
         Resolved::Choice(common, c, x, y) => choice(common, c, x, y, store, meter),
         Resolved::Index(e, i) => index(e, i, store, meter),
-        _ => applied(e, store, meter),
+        _ => apply(e, store, meter),
     }
 }
 
 /// The result of a prefix or a suffix, from its operand, after its own step.
 #[cycle(evaluate)]
 #[inline(never)]
-fn applied<'a>(
-    e: &'a Resolved,
-    store: &'a Store,
-    meter: &mut Meter,
-) -> Result<Operand<'a>, Unvalued>
+fn apply<'a>(e: &'a Resolved, store: &'a Store, meter: &mut Meter) -> Result<Operand<'a>, Unvalued>
     requires sound { IsSoundTerm (term_of e.now) }
     requires applies { IsApplied (term_of e.now) }
     ensures meter { SpendsSteps meter.old meter.new }
@@ -80,11 +78,11 @@ fn applied<'a>(
     match e {
         Resolved::Prefix(op, e) => {
             let x = look(e, store, meter)?;
-            Ok(Operand::Scalar(prefixed(*op, x)?))
+            Ok(Operand::Scalar(apply_prefix(*op, x)?))
         }
         Resolved::Select(e, place) => {
             let x = evaluate(e, store, meter)?;
-            Ok(selected(x, *place)?)
+            Ok(select(x, *place)?)
         }
         Resolved::Attribute(attribute, e) => {
             let x = evaluate(e, store, meter)?;
@@ -161,7 +159,7 @@ fn infix(
     ensures scalar { IfOk result IsScalar }
 {
     let left = look(a, store, meter)?;
-    if let Some(holds) = settled(op, truth_of(left)) {
+    if let Some(holds) = settled_truth(op, truth_of(left)) {
         return Ok(truth(holds));
     }
     let right = look(b, store, meter)?;
@@ -247,7 +245,7 @@ fn between(
     if let (Content::Text(_), Content::Text(_)) = (x, y) {
         take_steps(literal, meter)?;
     }
-    Ok(combined(op, x, y)?)
+    Ok(combine(op, x, y)?)
 }
 
 /// Takes `count` steps. Where fewer are left it takes those, and fails.
@@ -263,7 +261,7 @@ pub fn take_steps(count: u64, meter: &mut Meter) -> Result<(), LimitPassed>
 }
 
 /// The truth of `&&` or `||` where the left side settles it; None otherwise.
-pub fn settled(op: Infix, left: Result<bool, MapFaultKind>) -> Option<bool>
+pub fn settled_truth(op: Infix, left: Result<bool, MapFaultKind>) -> Option<bool>
     ensures { result ≡ settled op left }
 {
     match (op, left) {
@@ -285,13 +283,13 @@ pub fn literal_length(e: &Resolved) -> u64
 }
 
 /// The field or alternative of the value at a path.
-fn selected(x: Operand<'_>, place: usize) -> Result<Operand<'_>, MapFaultKind>
+fn select(x: Operand<'_>, place: usize) -> Result<Operand<'_>, MapFaultKind>
     ensures is { (nodes : List TableNode) →
         Comes nodes result (leads_to (present (selected (operand_of nodes x.entry) place))).outcome }
     ensures operand { IfOk result IsOperand }
 {
     match x {
-        Operand::Value(value) => match paths::selected(value, place) {
+        Operand::Value(value) => match paths::select(value, place) {
             Some(field) => Ok(Operand::Value(field)),
             None => Err(MapFaultKind::Absent),
         },

@@ -11,7 +11,7 @@ ghost use Rattle.pickle_meaning.specs.Values.{IntegerLabel};
 use pickle_meaning::faults::MapFaultKind;
 use pickle_tree::tree::Infix;
 use pickle_types::integer::IntegerType;
-use value_store::ranges::{brought, converted, low_digits, modulo, with_sign};
+use value_store::ranges::{brought, convert, low_digits, modulo, with_sign};
 use value_store::scalar::Scalar;
 
 const TRUTH: IntegerType = IntegerType {
@@ -179,7 +179,7 @@ fn power_of_two(n: u32) -> i128
 
 /// `x` shifted to the left, brought to its type.
 #[tactic(auto, unfolding(pickle_meaning::specs::Arithmetic::shifted_left))]
-fn shifted_left(x: i128, number: IntegerType, count: i128) -> Result<Scalar, MapFaultKind>
+fn shift_left(x: i128, number: IntegerType, count: i128) -> Result<Scalar, MapFaultKind>
     requires width { IsWidth number }
     requires small { IsSmall number.signed x }
     ensures is { computed_of result ≡ shifted_left x number count }
@@ -196,7 +196,7 @@ fn shifted_left(x: i128, number: IntegerType, count: i128) -> Result<Scalar, Map
 
 /// `x` shifted to the right, rounded down.
 #[tactic(auto, unfolding(pickle_meaning::specs::Arithmetic::shifted_right))]
-fn shifted_right(x: i128, number: IntegerType, count: i128) -> Result<Scalar, MapFaultKind>
+fn shift_right(x: i128, number: IntegerType, count: i128) -> Result<Scalar, MapFaultKind>
     requires width { IsWidth number }
     requires small { IsSmall number.signed x }
     ensures is { computed_of result ≡ shifted_right x number count }
@@ -236,8 +236,8 @@ fn on_both(
     ensures scalar { IfOk result IsScalar }
 {
     let number = common(t, u);
-    let a = converted(number, x);
-    let b = converted(number, y);
+    let a = convert(number, x);
+    let b = convert(number, y);
     on_common(op, number, a, b)
 }
 
@@ -258,8 +258,8 @@ pub fn on_integers(
     match op {
         Infix::LogicalOr => Ok(truth(is_true(x) || is_true(y))),
         Infix::LogicalAnd => Ok(truth(is_true(x) && is_true(y))),
-        Infix::ShiftLeft => shifted_left(x, t, y),
-        Infix::ShiftRight => shifted_right(x, t, y),
+        Infix::ShiftLeft => shift_left(x, t, y),
+        Infix::ShiftRight => shift_right(x, t, y),
         Infix::BitOr
         | Infix::BitXor
         | Infix::BitAnd

@@ -13,7 +13,7 @@ use pickle_meaning::faults::MapFaultKind;
 use pickle_tree::tree::{Infix, Prefix};
 use pickle_types::check::operators::greatest_divisor;
 use pickle_types::integer::IntegerType;
-use value_store::ranges::{brought, converted, low_digits};
+use value_store::ranges::{brought, convert, low_digits};
 use value_store::scalar::Scalar;
 
 /// An offset whose magnitude is brought to a type.
@@ -28,7 +28,7 @@ fn brought_offset(number: IntegerType, unit: u32, z: i128) -> Result<Scalar, Map
 
 /// The result of a prefix before an integer or an offset.
 #[tactic(auto, unfolding(pickle_meaning::specs::Arithmetic::prefixed))]
-pub fn prefixed(op: Prefix, operand: Scalar) -> Result<Scalar, MapFaultKind>
+pub fn apply_prefix(op: Prefix, operand: Scalar) -> Result<Scalar, MapFaultKind>
     requires { IsScalar operand }
     ensures is { computed_of result ≡ prefixed op (scalar_label operand) }
     ensures scalar { IfOk result IsScalar }
@@ -39,7 +39,7 @@ pub fn prefixed(op: Prefix, operand: Scalar) -> Result<Scalar, MapFaultKind>
         (Prefix::Minus, Scalar::Integer(x, number)) => brought_integer(number, -x),
         (Prefix::Minus, Scalar::Offset(x, number, unit)) => brought_offset(number, unit, -x),
         (Prefix::Complement, Scalar::Integer(x, number)) => {
-            Ok(Scalar::Integer(converted(number, -x - 1), number))
+            Ok(Scalar::Integer(convert(number, -x - 1), number))
         }
         (Prefix::Not, Scalar::Integer(x, _)) => Ok(truth(!is_true(x))),
         (Prefix::Complement | Prefix::Not, Scalar::Offset(_, _, _)) => Err(MapFaultKind::Absent),
@@ -55,7 +55,7 @@ pub fn to_integer(number: IntegerType, operand: Scalar) -> Result<Scalar, MapFau
     ensures scalar { IfOk result IsScalar }
 {
     match operand {
-        Scalar::Integer(x, _) => Ok(Scalar::Integer(converted(number, x), number)),
+        Scalar::Integer(x, _) => Ok(Scalar::Integer(convert(number, x), number)),
         Scalar::Offset(_, _, _) => Err(MapFaultKind::Absent),
     }
 }
@@ -82,8 +82,8 @@ pub fn to_offset(number: IntegerType, unit: u32, operand: Scalar) -> Result<Scal
         Scalar::Integer(_, _) => Err(MapFaultKind::Absent),
         Scalar::Offset(x, old, n) => {
             let bits = bits_in(x, old.signed, n);
-            let whole = divided(bits, i128::from(unit));
-            Ok(Scalar::Offset(converted(number, whole), number, unit))
+            let whole = quotient(bits, i128::from(unit));
+            Ok(Scalar::Offset(convert(number, whole), number, unit))
         }
     }
 }
@@ -103,7 +103,7 @@ pub fn in_unit(unit: u32, operand: Scalar) -> Result<Scalar, MapFaultKind>
 }
 
 /// The quotient of two numbers of bits, rounded toward 0.
-fn divided(x: i128, y: i128) -> i128
+fn quotient(x: i128, y: i128) -> i128
     requires some { is_zero y ≡ false }
     requires left { IsWide x }
     ensures is { result ≡ int_div x y }
@@ -161,7 +161,7 @@ fn units_of(number: IntegerType, unit: u32, bits: i128) -> Result<Scalar, MapFau
     ensures is { computed_of result ≡ brought_offset number unit (int_div bits (pos unit)) }
     ensures scalar { IfOk result IsScalar }
 {
-    let whole = divided(bits, i128::from(unit));
+    let whole = quotient(bits, i128::from(unit));
     brought_offset(number, unit, whole)
 }
 
@@ -175,7 +175,7 @@ fn quotient_of_bits(number: IntegerType, x: i128, y: i128) -> Result<Scalar, Map
     if !is_true(y) {
         return Err(MapFaultKind::Zero);
     }
-    let whole = divided(x, y);
+    let whole = quotient(x, y);
     brought_integer(number, whole)
 }
 
@@ -200,7 +200,7 @@ fn remainder_of_bits(
 }
 
 /// The product of a number and a magnitude, of types of at most 64 bits, brought to their common type.
-fn scaled(
+fn product(
     number: IntegerType,
     unit: u32,
     x: i128,
@@ -225,7 +225,7 @@ fn scaled(
 
 /// The result of an operator on two integers or offsets.
 #[tactic(auto, unfolding(pickle_meaning::specs::Arithmetic::combined, pickle_meaning::specs::Arithmetic::on_scaled))]
-pub fn combined(op: Infix, a: Scalar, b: Scalar) -> Result<Scalar, MapFaultKind>
+pub fn combine(op: Infix, a: Scalar, b: Scalar) -> Result<Scalar, MapFaultKind>
     requires left { IsScalar a }
     requires right { IsScalar b }
     ensures is { computed_of result ≡ combined op (scalar_label a) (scalar_label b) }
@@ -265,7 +265,7 @@ fn on_scaled(
     ensures scalar { IfOk result IsScalar }
 {
     match op {
-        Infix::Multiply => scaled(common(t, u), unit, x, t.signed, y, u.signed),
+        Infix::Multiply => product(common(t, u), unit, x, t.signed, y, u.signed),
         _ => Err(MapFaultKind::Absent),
     }
 }

@@ -13,7 +13,7 @@ use value_store::stored::StoredValue;
 use value_store::value::Kind;
 
 /// The field of a struct, or the alternative of a union if it matched. None for an absent field and for other values.
-pub fn selected(value: StoredValue<'_>, place: usize) -> Option<StoredValue<'_>>
+pub fn select(value: StoredValue<'_>, place: usize) -> Option<StoredValue<'_>>
     ensures { (nodes : List Node) →
         option_map (value_of nodes) result ≡ selected (AtPath (value_of nodes value.entry)) place }
 {

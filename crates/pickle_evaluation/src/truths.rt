@@ -13,7 +13,7 @@ ghost use Rattle.pickle_evaluation.specs.Spending.{SpendsSteps};
 
 use crate::comparison::{COMPARISON_STEPS, comparison};
 use crate::content::truth_of;
-use crate::expression::{literal_length, look, settled, take_steps};
+use crate::expression::{literal_length, look, settled_truth, take_steps};
 use crate::operand::Unvalued;
 use bit_space::Meter;
 use pickle_meaning::faults::MapFaultKind;
@@ -72,7 +72,7 @@ fn logic(
     ensures is { EvaluatesTruth meter.old meter.new store.now result (infix_part op (term_of a.now) (term_of b.now)) }
 {
     let left = operand_truth(a, store, meter)?;
-    if let Some(holds) = settled(op, left) {
+    if let Some(holds) = settled_truth(op, left) {
         return Ok(Ok(holds));
     }
     let right = operand_truth(b, store, meter)?;

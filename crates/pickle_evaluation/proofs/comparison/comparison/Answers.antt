@@ -11,5 +11,5 @@ returns-in-Some-Some c nodes =
     let compare : is_comparison c.in-Infix.op ≡ true = sym c.is_comparison.ensures ∙ cc in
     rw (c.in-Infix.is, ← c.deref.ensures, ← c.deref-2.ensures)
     (compares c.in-Infix.op (term_of c.deref.result.now) (term_of c.deref-2.result.now) (levels nodes c.args.store.now)
-    c.in-Some-Some.x.number c.in-Some-Some.x.of c.in-Some-Some.y.number c.in-Some-Some.y.of c.compared.result compare
-    (c.in-Some-Some.ensures.is nodes) (c.in-Some-Some.ensures'.is nodes) c.compared.ensures)
+    c.in-Some-Some.x.number c.in-Some-Some.x.of c.in-Some-Some.y.number c.in-Some-Some.y.of c.compare.result compare
+    (c.in-Some-Some.ensures.is nodes) (c.in-Some-Some.ensures'.is nodes) c.compare.ensures)

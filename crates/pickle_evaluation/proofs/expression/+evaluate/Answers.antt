@@ -27,38 +27,38 @@ evaluate-returns-in_err-tick-clause-is t c nodes =
     (levels nodes c.args.store.now) c.in_err-tick.ensures.err
     (c.in_err-tick.ensures.err ∙ c.in_err-tick.ensures.refused.0 refl))
 
-pub applied-returns-in_err-x-in-Prefix-clause-is : goal.applied-returns-in_err-x-in-Prefix-clause-is
+pub apply-returns-in_err-x-in-Prefix-clause-is : goal.apply-returns-in_err-x-in-Prefix-clause-is
 unfolding evaluation
-applied-returns-in_err-x-in-Prefix-clause-is t c nodes before after_step =
+apply-returns-in_err-x-in-Prefix-clause-is t c nodes before after_step =
     let p = err_from_is_err_and c.from_residual.result c.from_residual.ensures.1 in
     rw (p.1, p.2, c.in-Prefix.is, ← c.deref.ensures)
     (seen_arm_stops nodes c.args.meter.now.limit before c.args.meter.now.steps c.look.new.meter.steps
     c.in_err-x-in-Prefix.field-0.0 (evaluation (term_of c.deref.result.now) (levels nodes c.args.store.now))
     (λ x. gives (prefixed c.in-Prefix.op (operand_label x))) after_step (c.in_err-x-in-Prefix.ensures.is nodes))
 
-pub applied-returns-in_err-prefixed-in-Prefix-clause-is : goal.applied-returns-in_err-prefixed-in-Prefix-clause-is
+pub apply-returns-in_err-apply_prefix-in-Prefix-clause-is : goal.apply-returns-in_err-apply_prefix-in-Prefix-clause-is
 unfolding evaluation
-applied-returns-in_err-prefixed-in-Prefix-clause-is t c nodes before after_step =
-    let p = err_from_is_err_and c.from_residual-in_err-prefixed-in-Prefix.result
-    c.from_residual-in_err-prefixed-in-Prefix.ensures.1 in
+apply-returns-in_err-apply_prefix-in-Prefix-clause-is t c nodes before after_step =
+    let p = err_from_is_err_and c.from_residual-in_err-apply_prefix-in-Prefix.result
+    c.from_residual-in_err-apply_prefix-in-Prefix.ensures.1 in
     rw (p.1, p.2, c.in-Prefix.is, ← c.deref.ensures)
     (seen_arm_faults nodes c.args.meter.now.limit before c.args.meter.now.steps c.look.new.meter.steps
-    c.in_ok-x-in-Prefix.x c.in_err-prefixed-in-Prefix.field-0.0
+    c.in_ok-x-in-Prefix.x c.in_err-apply_prefix-in-Prefix.field-0.0
     (evaluation (term_of c.deref.result.now) (levels nodes c.args.store.now)) (prefixed c.in-Prefix.op) after_step
-    (c.in_ok-x-in-Prefix.ensures.is nodes) c.in_err-prefixed-in-Prefix.ensures.is)
+    (c.in_ok-x-in-Prefix.ensures.is nodes) c.in_err-apply_prefix-in-Prefix.ensures.is)
 
-pub applied-returns-in_ok-prefixed-in-Prefix-clause-is : goal.applied-returns-in_ok-prefixed-in-Prefix-clause-is
+pub apply-returns-in_ok-apply_prefix-in-Prefix-clause-is : goal.apply-returns-in_ok-apply_prefix-in-Prefix-clause-is
 unfolding evaluation
-applied-returns-in_ok-prefixed-in-Prefix-clause-is t c nodes before after_step =
+apply-returns-in_ok-apply_prefix-in-Prefix-clause-is t c nodes before after_step =
     rw (c.in-Prefix.is, ← c.deref.ensures)
     (seen_arm_computes nodes c.args.meter.now.limit before c.args.meter.now.steps c.look.new.meter.steps
-    c.in_ok-x-in-Prefix.x c.in_ok-prefixed-in-Prefix.field-0
+    c.in_ok-x-in-Prefix.x c.in_ok-apply_prefix-in-Prefix.field-0
     (evaluation (term_of c.deref.result.now) (levels nodes c.args.store.now)) (prefixed c.in-Prefix.op) after_step
-    (c.in_ok-x-in-Prefix.ensures.is nodes) c.in_ok-prefixed-in-Prefix.ensures.is)
+    (c.in_ok-x-in-Prefix.ensures.is nodes) c.in_ok-apply_prefix-in-Prefix.ensures.is)
 
-pub applied-returns-in_err-x-in-ToInteger-clause-is : goal.applied-returns-in_err-x-in-ToInteger-clause-is
+pub apply-returns-in_err-x-in-ToInteger-clause-is : goal.apply-returns-in_err-x-in-ToInteger-clause-is
 unfolding evaluation
-applied-returns-in_err-x-in-ToInteger-clause-is t c nodes before after_step =
+apply-returns-in_err-x-in-ToInteger-clause-is t c nodes before after_step =
     let p =
     err_from_is_err_and c.from_residual-in_err-x-in-ToInteger.result c.from_residual-in_err-x-in-ToInteger.ensures.1 in
     rw (p.1, p.2, c.in-ToInteger.is, ← c.deref-in-ToInteger.ensures)
@@ -68,10 +68,10 @@ applied-returns-in_err-x-in-ToInteger-clause-is t c nodes before after_step =
     (λ x. gives (to_integer c.in-ToInteger.number (operand_label x))) after_step
     (c.in_err-x-in-ToInteger.ensures.is nodes))
 
-pub applied-returns-in_err-to_integer-in-ToInteger-clause-is :
-    goal.applied-returns-in_err-to_integer-in-ToInteger-clause-is
+pub apply-returns-in_err-to_integer-in-ToInteger-clause-is :
+    goal.apply-returns-in_err-to_integer-in-ToInteger-clause-is
 unfolding evaluation
-applied-returns-in_err-to_integer-in-ToInteger-clause-is t c nodes before after_step =
+apply-returns-in_err-to_integer-in-ToInteger-clause-is t c nodes before after_step =
     let p = err_from_is_err_and c.from_residual-in_err-to_integer-in-ToInteger.result
     c.from_residual-in_err-to_integer-in-ToInteger.ensures.1 in
     rw (p.1, p.2, c.in-ToInteger.is, ← c.deref-in-ToInteger.ensures)
@@ -81,10 +81,10 @@ applied-returns-in_err-to_integer-in-ToInteger-clause-is t c nodes before after_
     (to_integer c.in-ToInteger.number) after_step (c.in_ok-x-in-ToInteger.ensures.is nodes)
     c.in_err-to_integer-in-ToInteger.ensures.is)
 
-pub applied-returns-in_ok-to_integer-in-ToInteger-clause-is :
-    goal.applied-returns-in_ok-to_integer-in-ToInteger-clause-is
+pub apply-returns-in_ok-to_integer-in-ToInteger-clause-is :
+    goal.apply-returns-in_ok-to_integer-in-ToInteger-clause-is
 unfolding evaluation
-applied-returns-in_ok-to_integer-in-ToInteger-clause-is t c nodes before after_step =
+apply-returns-in_ok-to_integer-in-ToInteger-clause-is t c nodes before after_step =
     rw (c.in-ToInteger.is, ← c.deref-in-ToInteger.ensures)
     (seen_arm_computes nodes c.args.meter.now.limit before c.args.meter.now.steps c.look-in-ToInteger.new.meter.steps
     c.in_ok-x-in-ToInteger.x c.in_ok-to_integer-in-ToInteger.field-0
@@ -92,9 +92,9 @@ applied-returns-in_ok-to_integer-in-ToInteger-clause-is t c nodes before after_s
     (to_integer c.in-ToInteger.number) after_step (c.in_ok-x-in-ToInteger.ensures.is nodes)
     c.in_ok-to_integer-in-ToInteger.ensures.is)
 
-pub applied-returns-in_err-x-in-ToOffset-clause-is : goal.applied-returns-in_err-x-in-ToOffset-clause-is
+pub apply-returns-in_err-x-in-ToOffset-clause-is : goal.apply-returns-in_err-x-in-ToOffset-clause-is
 unfolding evaluation
-applied-returns-in_err-x-in-ToOffset-clause-is t c nodes before after_step =
+apply-returns-in_err-x-in-ToOffset-clause-is t c nodes before after_step =
     let p =
     err_from_is_err_and c.from_residual-in_err-x-in-ToOffset.result c.from_residual-in_err-x-in-ToOffset.ensures.1 in
     rw (p.1, p.2, c.in-ToOffset.is, ← c.deref-in-ToOffset.ensures)
@@ -104,9 +104,9 @@ applied-returns-in_err-x-in-ToOffset-clause-is t c nodes before after_step =
     (λ x. gives (to_offset c.in-ToOffset.number c.in-ToOffset.unit (operand_label x))) after_step
     (c.in_err-x-in-ToOffset.ensures.is nodes))
 
-pub applied-returns-in_err-to_offset-in-ToOffset-clause-is : goal.applied-returns-in_err-to_offset-in-ToOffset-clause-is
+pub apply-returns-in_err-to_offset-in-ToOffset-clause-is : goal.apply-returns-in_err-to_offset-in-ToOffset-clause-is
 unfolding evaluation
-applied-returns-in_err-to_offset-in-ToOffset-clause-is t c nodes before after_step =
+apply-returns-in_err-to_offset-in-ToOffset-clause-is t c nodes before after_step =
     let p = err_from_is_err_and c.from_residual-in_err-to_offset-in-ToOffset.result
     c.from_residual-in_err-to_offset-in-ToOffset.ensures.1 in
     rw (p.1, p.2, c.in-ToOffset.is, ← c.deref-in-ToOffset.ensures)
@@ -116,9 +116,9 @@ applied-returns-in_err-to_offset-in-ToOffset-clause-is t c nodes before after_st
     (to_offset c.in-ToOffset.number c.in-ToOffset.unit) after_step (c.in_ok-x-in-ToOffset.ensures.is nodes)
     c.in_err-to_offset-in-ToOffset.ensures.is)
 
-pub applied-returns-in_ok-to_offset-in-ToOffset-clause-is : goal.applied-returns-in_ok-to_offset-in-ToOffset-clause-is
+pub apply-returns-in_ok-to_offset-in-ToOffset-clause-is : goal.apply-returns-in_ok-to_offset-in-ToOffset-clause-is
 unfolding evaluation
-applied-returns-in_ok-to_offset-in-ToOffset-clause-is t c nodes before after_step =
+apply-returns-in_ok-to_offset-in-ToOffset-clause-is t c nodes before after_step =
     rw (c.in-ToOffset.is, ← c.deref-in-ToOffset.ensures)
     (seen_arm_computes nodes c.args.meter.now.limit before c.args.meter.now.steps c.look-in-ToOffset.new.meter.steps
     c.in_ok-x-in-ToOffset.x c.in_ok-to_offset-in-ToOffset.field-0
@@ -126,9 +126,9 @@ applied-returns-in_ok-to_offset-in-ToOffset-clause-is t c nodes before after_ste
     (to_offset c.in-ToOffset.number c.in-ToOffset.unit) after_step (c.in_ok-x-in-ToOffset.ensures.is nodes)
     c.in_ok-to_offset-in-ToOffset.ensures.is)
 
-pub applied-returns-in_err-x-in-InUnit-clause-is : goal.applied-returns-in_err-x-in-InUnit-clause-is
+pub apply-returns-in_err-x-in-InUnit-clause-is : goal.apply-returns-in_err-x-in-InUnit-clause-is
 unfolding evaluation
-applied-returns-in_err-x-in-InUnit-clause-is t c nodes before after_step =
+apply-returns-in_err-x-in-InUnit-clause-is t c nodes before after_step =
     let p =
     err_from_is_err_and c.from_residual-in_err-x-in-InUnit.result c.from_residual-in_err-x-in-InUnit.ensures.1 in
     rw (p.1, p.2, c.in-InUnit.is, ← c.deref-in-InUnit.ensures)
@@ -136,9 +136,9 @@ applied-returns-in_err-x-in-InUnit-clause-is t c nodes before after_step =
     c.in_err-x-in-InUnit.field-0.0 (evaluation (term_of c.deref-in-InUnit.result.now) (levels nodes c.args.store.now))
     (λ x. gives (in_unit c.in-InUnit.unit (operand_label x))) after_step (c.in_err-x-in-InUnit.ensures.is nodes))
 
-pub applied-returns-in_err-in_unit-in-InUnit-clause-is : goal.applied-returns-in_err-in_unit-in-InUnit-clause-is
+pub apply-returns-in_err-in_unit-in-InUnit-clause-is : goal.apply-returns-in_err-in_unit-in-InUnit-clause-is
 unfolding evaluation
-applied-returns-in_err-in_unit-in-InUnit-clause-is t c nodes before after_step =
+apply-returns-in_err-in_unit-in-InUnit-clause-is t c nodes before after_step =
     let p = err_from_is_err_and c.from_residual-in_err-in_unit-in-InUnit.result
     c.from_residual-in_err-in_unit-in-InUnit.ensures.1 in
     rw (p.1, p.2, c.in-InUnit.is, ← c.deref-in-InUnit.ensures)
@@ -147,18 +147,18 @@ applied-returns-in_err-in_unit-in-InUnit-clause-is t c nodes before after_step =
     (evaluation (term_of c.deref-in-InUnit.result.now) (levels nodes c.args.store.now)) (in_unit c.in-InUnit.unit)
     after_step (c.in_ok-x-in-InUnit.ensures.is nodes) c.in_err-in_unit-in-InUnit.ensures.is)
 
-pub applied-returns-in_ok-in_unit-in-InUnit-clause-is : goal.applied-returns-in_ok-in_unit-in-InUnit-clause-is
+pub apply-returns-in_ok-in_unit-in-InUnit-clause-is : goal.apply-returns-in_ok-in_unit-in-InUnit-clause-is
 unfolding evaluation
-applied-returns-in_ok-in_unit-in-InUnit-clause-is t c nodes before after_step =
+apply-returns-in_ok-in_unit-in-InUnit-clause-is t c nodes before after_step =
     rw (c.in-InUnit.is, ← c.deref-in-InUnit.ensures)
     (seen_arm_computes nodes c.args.meter.now.limit before c.args.meter.now.steps c.look-in-InUnit.new.meter.steps
     c.in_ok-x-in-InUnit.x c.in_ok-in_unit-in-InUnit.field-0
     (evaluation (term_of c.deref-in-InUnit.result.now) (levels nodes c.args.store.now)) (in_unit c.in-InUnit.unit)
     after_step (c.in_ok-x-in-InUnit.ensures.is nodes) c.in_ok-in_unit-in-InUnit.ensures.is)
 
-pub applied-returns-in_err-x-in-Attribute-clause-is : goal.applied-returns-in_err-x-in-Attribute-clause-is
+pub apply-returns-in_err-x-in-Attribute-clause-is : goal.apply-returns-in_err-x-in-Attribute-clause-is
 unfolding evaluation
-applied-returns-in_err-x-in-Attribute-clause-is t c nodes before after_step =
+apply-returns-in_err-x-in-Attribute-clause-is t c nodes before after_step =
     let p =
     err_from_is_err_and c.from_residual-in_err-x-in-Attribute.result c.from_residual-in_err-x-in-Attribute.ensures.1 in
     rw (p.1, p.2, c.in-Attribute.is, ← c.deref-in-Attribute.ensures)
@@ -167,10 +167,10 @@ applied-returns-in_err-x-in-Attribute-clause-is t c nodes before after_step =
     (evaluation (term_of c.deref-in-Attribute.result.now) (levels nodes c.args.store.now))
     (λ p. gives (attribute_of c.in-Attribute.attribute p)) refl after_step (c.in_err-x-in-Attribute.ensures.is nodes))
 
-pub applied-returns-in_err-attribute_of-in-Attribute-clause-is :
-    goal.applied-returns-in_err-attribute_of-in-Attribute-clause-is
+pub apply-returns-in_err-attribute_of-in-Attribute-clause-is :
+    goal.apply-returns-in_err-attribute_of-in-Attribute-clause-is
 unfolding evaluation
-applied-returns-in_err-attribute_of-in-Attribute-clause-is t c nodes before after_step =
+apply-returns-in_err-attribute_of-in-Attribute-clause-is t c nodes before after_step =
     let p = err_from_is_err_and c.from_residual-in_err-attribute_of-in-Attribute.result
     c.from_residual-in_err-attribute_of-in-Attribute.ensures.1 in
     rw (p.1, p.2, c.in-Attribute.is, ← c.deref-in-Attribute.ensures)
@@ -180,10 +180,10 @@ applied-returns-in_err-attribute_of-in-Attribute-clause-is t c nodes before afte
     (λ p. attribute_of c.in-Attribute.attribute p) refl after_step (c.in_ok-x-in-Attribute.ensures.is nodes)
     (c.in_err-attribute_of-in-Attribute.ensures.is nodes))
 
-pub applied-returns-in_ok-attribute_of-in-Attribute-clause-is :
-    goal.applied-returns-in_ok-attribute_of-in-Attribute-clause-is
+pub apply-returns-in_ok-attribute_of-in-Attribute-clause-is :
+    goal.apply-returns-in_ok-attribute_of-in-Attribute-clause-is
 unfolding evaluation
-applied-returns-in_ok-attribute_of-in-Attribute-clause-is t c nodes before after_step =
+apply-returns-in_ok-attribute_of-in-Attribute-clause-is t c nodes before after_step =
     rw (c.in-Attribute.is, ← c.deref-in-Attribute.ensures)
     (arm_computes nodes c.args.meter.now.limit c.args.meter.now.limit before c.args.meter.now.steps
     c.evaluate-in-Attribute.new.meter.steps c.in_ok-x-in-Attribute.x c.in_ok-attribute_of-in-Attribute.field-0
@@ -191,9 +191,9 @@ applied-returns-in_ok-attribute_of-in-Attribute-clause-is t c nodes before after
     (λ p. attribute_of c.in-Attribute.attribute p) refl after_step (c.in_ok-x-in-Attribute.ensures.is nodes)
     (c.in_ok-attribute_of-in-Attribute.ensures.is nodes))
 
-pub applied-returns-in_err-x-in-Select-clause-is : goal.applied-returns-in_err-x-in-Select-clause-is
+pub apply-returns-in_err-x-in-Select-clause-is : goal.apply-returns-in_err-x-in-Select-clause-is
 unfolding evaluation
-applied-returns-in_err-x-in-Select-clause-is t c nodes before after_step =
+apply-returns-in_err-x-in-Select-clause-is t c nodes before after_step =
     let p =
     err_from_is_err_and c.from_residual-in_err-x-in-Select.result c.from_residual-in_err-x-in-Select.ensures.1 in
     rw (p.1, p.2, c.in-Select.is, ← c.deref-in-Select.ensures)
@@ -202,27 +202,27 @@ applied-returns-in_err-x-in-Select-clause-is t c nodes before after_step =
     (evaluation (term_of c.deref-in-Select.result.now) (levels nodes c.args.store.now))
     (λ p. leads_to (present (selected p c.in-Select.place))) refl after_step (c.in_err-x-in-Select.ensures.is nodes))
 
-pub applied-returns-in_err-selected-in-Select-clause-is : goal.applied-returns-in_err-selected-in-Select-clause-is
+pub apply-returns-in_err-select-in-Select-clause-is : goal.apply-returns-in_err-select-in-Select-clause-is
 unfolding evaluation
-applied-returns-in_err-selected-in-Select-clause-is t c nodes before after_step =
-    let p = err_from_is_err_and c.from_residual-in_err-selected-in-Select.result
-    c.from_residual-in_err-selected-in-Select.ensures.1 in
+apply-returns-in_err-select-in-Select-clause-is t c nodes before after_step =
+    let p = err_from_is_err_and c.from_residual-in_err-select-in-Select.result
+    c.from_residual-in_err-select-in-Select.ensures.1 in
     rw (p.1, p.2, c.in-Select.is, ← c.deref-in-Select.ensures)
     (arm_leads_not nodes c.args.meter.now.limit c.args.meter.now.limit before c.args.meter.now.steps
-    c.evaluate.new.meter.steps c.in_ok-x-in-Select.x c.in_err-selected-in-Select.field-0.0
+    c.evaluate.new.meter.steps c.in_ok-x-in-Select.x c.in_err-select-in-Select.field-0.0
     (evaluation (term_of c.deref-in-Select.result.now) (levels nodes c.args.store.now))
     (λ p. present (selected p c.in-Select.place)) refl after_step (c.in_ok-x-in-Select.ensures.is nodes)
-    (c.in_err-selected-in-Select.ensures.is nodes))
+    (c.in_err-select-in-Select.ensures.is nodes))
 
-pub applied-returns-in_ok-selected-in-Select-clause-is : goal.applied-returns-in_ok-selected-in-Select-clause-is
+pub apply-returns-in_ok-select-in-Select-clause-is : goal.apply-returns-in_ok-select-in-Select-clause-is
 unfolding evaluation
-applied-returns-in_ok-selected-in-Select-clause-is t c nodes before after_step =
+apply-returns-in_ok-select-in-Select-clause-is t c nodes before after_step =
     rw (c.in-Select.is, ← c.deref-in-Select.ensures)
     (arm_leads nodes c.args.meter.now.limit c.args.meter.now.limit before c.args.meter.now.steps
-    c.evaluate.new.meter.steps c.in_ok-x-in-Select.x c.in_ok-selected-in-Select.field-0
+    c.evaluate.new.meter.steps c.in_ok-x-in-Select.x c.in_ok-select-in-Select.field-0
     (evaluation (term_of c.deref-in-Select.result.now) (levels nodes c.args.store.now))
     (λ p. present (selected p c.in-Select.place)) refl after_step (c.in_ok-x-in-Select.ensures.is nodes)
-    (c.in_ok-selected-in-Select.ensures.is nodes))
+    (c.in_ok-select-in-Select.ensures.is nodes))
 
 pub evaluate-returns-in-Number-clause-is : goal.evaluate-returns-in-Number-clause-is
 unfolding evaluation
@@ -454,7 +454,8 @@ infix-returns-in-Some-clause-is t c nodes =
     c.in-Some.holds c.truth.result (and_operand (evaluation (term_of c.args.b.now) (levels nodes c.args.store.now))
     (λ y. between c.args.op (literal_length (term_of c.args.a.now) + literal_length (term_of c.args.b.now))
     (operand_label x) (operand_label y)))
-    (ap (settled c.args.op) (sym (c.truth_of.ensures (operand_label x) held)) ∙ sym c.settled.ensures ∙ c.in-Some.is)
+    (ap (settled c.args.op) (sym (c.truth_of.ensures (operand_label x) held))
+    ∙ sym c.settled_truth.ensures ∙ c.in-Some.is)
     c.truth.ensures.is)
 
 pub infix-returns-in_err-right-clause-is : goal.infix-returns-in_err-right-clause-is
@@ -473,7 +474,8 @@ infix-returns-in_err-right-clause-is t c nodes =
     (and_operand (evaluation (term_of c.args.b.now) (levels nodes c.args.store.now)) (λ y.
     between c.args.op (literal_length (term_of c.args.a.now) + literal_length (term_of c.args.b.now)) (operand_label x)
     (operand_label y)))
-    (ap (settled c.args.op) (sym (c.truth_of.ensures (operand_label x) held)) ∙ sym c.settled.ensures ∙ c.in_default.is)
+    (ap (settled c.args.op) (sym (c.truth_of.ensures (operand_label x) held))
+    ∙ sym c.settled_truth.ensures ∙ c.in_default.is)
     (seen_stops nodes c.args.meter.now.limit c.look.new.meter.steps c.look-2.new.meter.steps c.in_err-right.field-0.0
     (evaluation (term_of c.args.b.now) (levels nodes c.args.store.now)) (λ y. between c.args.op
     (literal_length (term_of c.args.a.now) + literal_length (term_of c.args.b.now)) (operand_label x) (operand_label y))
@@ -501,7 +503,8 @@ infix-returns-clause-is t c nodes =
     (and_operand (evaluation (term_of c.args.b.now) (levels nodes c.args.store.now)) (λ y.
     between c.args.op (literal_length (term_of c.args.a.now) + literal_length (term_of c.args.b.now)) (operand_label x)
     (operand_label y)))
-    (ap (settled c.args.op) (sym (c.truth_of.ensures (operand_label x) held)) ∙ sym c.settled.ensures ∙ c.in_default.is)
+    (ap (settled c.args.op) (sym (c.truth_of.ensures (operand_label x) held))
+    ∙ sym c.settled_truth.ensures ∙ c.in_default.is)
     (seen_goes_on nodes c.args.meter.now.limit c.look.new.meter.steps c.look-2.new.meter.steps c.between.new.meter.steps
     c.in_ok-right.right (computed_operand c.between.result)
     (evaluation (term_of c.args.b.now) (levels nodes c.args.store.now)) (λ y. between c.args.op

@@ -9,8 +9,8 @@ decreases-evaluate l = 3 * term_size (term_of l.e.now) + 1
 abbrev pub decreases-look : goal.decreases-look
 decreases-look l = 3 * term_size (term_of l.e.now) + 2
 
-abbrev pub decreases-applied : goal.decreases-applied
-decreases-applied l = 3 * term_size (term_of l.e.now)
+abbrev pub decreases-apply : goal.decreases-apply
+decreases-apply l = 3 * term_size (term_of l.e.now)
 
 abbrev pub decreases-infix : goal.decreases-infix
 decreases-infix l = 3 * (term_size (term_of l.a.now) + term_size (term_of l.b.now)) + 3

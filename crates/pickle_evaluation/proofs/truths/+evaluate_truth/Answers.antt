@@ -142,7 +142,7 @@ logic-returns-in-Some-clause-is t c nodes =
     truth_goes_on c.args.meter.now.limit c.args.meter.now.steps mid mid c.in_ok-left.left (Ok (Ok c.in-Some.holds))
     (evaluation (term_of c.args.a.now) (levels nodes c.args.store.now)) _ (c.in_ok-left.ensures.is nodes)
     (λ x held. truth_settles c.args.meter.now.limit mid (settled c.args.op (truth_of (operand_label x)))
-    c.in-Some.holds _ (ap (settled c.args.op) held ∙ sym c.settled.ensures ∙ c.in-Some.is))
+    c.in-Some.holds _ (ap (settled c.args.op) held ∙ sym c.settled_truth.ensures ∙ c.in-Some.is))
 
 pub logic-returns-in_err-right-clause-is : goal.logic-returns-in_err-right-clause-is
 logic-returns-in_err-right-clause-is t c nodes =
@@ -155,7 +155,7 @@ logic-returns-in_err-right-clause-is t c nodes =
     (c.in_ok-left.ensures.is nodes)
     (λ x held. truth_settles_not c.args.meter.now.limit mid after (Err c.in_err-right.field-0.0)
     (settled c.args.op (truth_of (operand_label x))) _
-    (ap (settled c.args.op) held ∙ sym c.settled.ensures ∙ c.in_default.is)
+    (ap (settled c.args.op) held ∙ sym c.settled_truth.ensures ∙ c.in_default.is)
     (truth_stops c.args.meter.now.limit mid after c.in_err-right.field-0.0 right _
     (truth_at c.args.meter.now.limit c.operand_truth.new.meter.limit mid after (Err c.in_err-right.field-0.0) right
     c.operand_truth.ensures.meter.limit (c.in_err-right.ensures.is nodes)))))
@@ -173,7 +173,7 @@ logic-returns-in_err-left-2-clause-is t c nodes =
     (evaluation (term_of c.args.a.now) (levels nodes c.args.store.now)) _ (c.in_ok-left.ensures.is nodes)
     (λ x held. truth_settles_not c.args.meter.now.limit mid after (Err (Fault kind))
     (settled c.args.op (truth_of (operand_label x))) _
-    (ap (settled c.args.op) held ∙ sym c.settled.ensures ∙ c.in_default.is)
+    (ap (settled c.args.op) held ∙ sym c.settled_truth.ensures ∙ c.in_default.is)
     (truth_goes_on c.args.meter.now.limit mid after after c.in_ok-right.right (Err (Fault kind)) right _
     (truth_at c.args.meter.now.limit c.operand_truth.new.meter.limit mid after (Ok c.in_ok-right.right) right
     c.operand_truth.ensures.meter.limit (c.in_ok-right.ensures.is nodes))
@@ -193,7 +193,7 @@ logic-returns-in_err-right-2-clause-is t c nodes =
     (evaluation (term_of c.args.a.now) (levels nodes c.args.store.now)) _ (c.in_ok-left.ensures.is nodes)
     (λ x held. truth_settles_not c.args.meter.now.limit mid after (Err (Fault kind))
     (settled c.args.op (truth_of (operand_label x))) _
-    (ap (settled c.args.op) held ∙ sym c.settled.ensures ∙ c.in_default.is)
+    (ap (settled c.args.op) held ∙ sym c.settled_truth.ensures ∙ c.in_default.is)
     (truth_goes_on c.args.meter.now.limit mid after after c.in_ok-right.right (Err (Fault kind)) right _
     (truth_at c.args.meter.now.limit c.operand_truth.new.meter.limit mid after (Ok c.in_ok-right.right) right
     c.operand_truth.ensures.meter.limit (c.in_ok-right.ensures.is nodes))
@@ -212,13 +212,13 @@ logic-returns-clause-is t c nodes =
     (evaluation (term_of c.args.a.now) (levels nodes c.args.store.now)) _ (c.in_ok-left.ensures.is nodes)
     (λ x held.
     truth_settles_not c.args.meter.now.limit mid after (Ok (Ok q)) (settled c.args.op (truth_of (operand_label x))) _
-    (ap (settled c.args.op) held ∙ sym c.settled.ensures ∙ c.in_default.is)
+    (ap (settled c.args.op) held ∙ sym c.settled_truth.ensures ∙ c.in_default.is)
     (truth_goes_on c.args.meter.now.limit mid after after c.in_ok-right.right (Ok (Ok q)) right _
     (truth_at c.args.meter.now.limit c.operand_truth.new.meter.limit mid after (Ok c.in_ok-right.right) right
     c.operand_truth.ensures.meter.limit (c.in_ok-right.ensures.is nodes))
     (λ y is_y. joins c.args.meter.now.limit after c.args.op literal (operand_label x) (operand_label y) p q
     c.requires.logical c.requires.literal (held ∙ c.in_ok-left-2.was) (is_y ∙ c.in_ok-right-2.was)
-    (ap (settled c.args.op) (sym c.in_ok-left-2.was) ∙ sym c.settled.ensures ∙ c.in_default.is))))
+    (ap (settled c.args.op) (sym c.in_ok-left-2.was) ∙ sym c.settled_truth.ensures ∙ c.in_default.is))))
 
 pub operand_truth-returns-in_err-take_steps-clause-is : goal.operand_truth-returns-in_err-take_steps-clause-is
 operand_truth-returns-in_err-take_steps-clause-is t c nodes =

@@ -1,6 +1,6 @@
 use Rattle.std.proofs.Common.{sym}
 use Rattle.pickle_evaluation.proofs.Arms.{is_led, is_not_led}
-use Rattle.pickle_evaluation.proofs.expression.selected.Goals as goal
+use Rattle.pickle_evaluation.proofs.expression.select.Goals as goal
 
 pub returns-in-Some-clause-is : goal.returns-in-Some-clause-is
 returns-in-Some-clause-is c nodes =

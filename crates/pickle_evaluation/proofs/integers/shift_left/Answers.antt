@@ -6,7 +6,7 @@ use mir.Syntax.{w128}
 use mir.Val.{SFits}
 use Rattle.pickle_meaning.specs.Arithmetic.{brought_integer, shifted_left}
 use Rattle.pickle_evaluation.proofs.Signed.{shift_fits, passed_product}
-use Rattle.pickle_evaluation.proofs.integers.shifted_left.Goals as goal
+use Rattle.pickle_evaluation.proofs.integers.shift_left.Goals as goal
 
 pub overflow_mul-x : goal.overflow_mul-x
 overflow_mul-x c =

@@ -6,8 +6,8 @@ use mir.Val.{SFits}
 use Rattle.pickle_meaning.specs.Values.{OffsetLabel}
 use Rattle.pickle_meaning.specs.Arithmetic.{brought_offset}
 use Rattle.pickle_evaluation.proofs.Signed.{passed_product, mixed_fits, unsigned_scaled}
-use Rattle.pickle_evaluation.proofs.offsets.scaled.Goals as goal
-use Rattle.pickle_evaluation.proofs.offsets.scaled.Goals.{then-left-via-then-left, then-left-via-else-left+then-right}
+use Rattle.pickle_evaluation.proofs.offsets.product.Goals as goal
+use Rattle.pickle_evaluation.proofs.offsets.product.Goals.{then-left-via-then-left, then-left-via-else-left+then-right}
 
 pub returns-then-left-clause-is : goal.returns-then-left-clause-is
 returns-then-left-clause-is c =
