@@ -6,7 +6,7 @@ ghost use Rattle.fault_location.specs.Parts.{IsFieldPart, IsAlternativePart, IsA
 
 use crate::site::Inner;
 use bit_space::Order;
-use pickle_map::mapper::walk::ordered;
+use pickle_map::mapper::walk::byte_order;
 use pickle_meaning::extent::Extent;
 use pickle_meaning::faults::MapFault;
 use pickle_types::table::{Table, TypeId};
@@ -93,7 +93,7 @@ pub fn field_part<'a>(field: &'a Field, order: Order, start: u128) -> Part<'a>
     Part {
         inner: Inner {
             node: field.node,
-            order: ordered(field.order, order),
+            order: byte_order(field.order, order),
             start,
         },
         constraint: Some(&field.constraint),
@@ -107,7 +107,7 @@ pub fn alternative_part<'a>(alternative: &'a Alternative, whole: UnionStart) -> 
     Part {
         inner: Inner {
             node: alternative.node,
-            order: ordered(alternative.order, whole.order),
+            order: byte_order(alternative.order, whole.order),
             start: u128::from(whole.start),
         },
         constraint: Some(&alternative.constraint),

@@ -18,8 +18,8 @@ use fault_location::arises::find_there;
 use fault_location::locate::find_part;
 use fault_location::part::{Claim, TypeStart};
 use fault_location::site::Ended;
+use pickle_map::mapper::fault_of;
 use pickle_map::mapper::stop::Stop;
-use pickle_map::mapper::told;
 use pickle_map::{MapFault, MapFaultKind, Store};
 use pickle_types::table::Table;
 use poke_batch::ask::Ask;
@@ -83,7 +83,7 @@ impl TypeMapping<'_> {
         ensures keeps { Keeps (S.view space.old) (S.view space.new) }
     {
         let TypeMapping { alloc, table, .. } = self;
-        if told(part.stop, self.ask.start) != fault {
+        if fault_of(part.stop, self.ask.start) != fault {
             return Ok(None);
         }
         let places = part.way.places(alloc)?;
@@ -183,7 +183,7 @@ impl TypeMapping<'_> {
 
 /// A part, if its stop is the one that ended the mapping.
 fn with_stop(part: Fault, ask: &Ask<'_>, fault: MapFault) -> Option<Fault> {
-    if told(part.stop, ask.start) == fault {
+    if fault_of(part.stop, ask.start) == fault {
         Some(part)
     } else {
         None

@@ -18,7 +18,7 @@ use Rattle.pickle_map.specs.declared.mapper.stop.Stop.TheVariants.{Fault, Limit,
 use Rattle.pickle_meaning.specs.Answer.{Answer}
 use Rattle.pickle_map.specs.FaultKinds.{IsMeant}
 use Rattle.pickle_map.specs.Follows.{World, Finish, Done, HasRoom, Follows}
-use Rattle.pickle_map.specs.Mapped.{told, fault_finish, RunsTo, FaultMeans, UnlessBreaks, EndsRun}
+use Rattle.pickle_map.specs.Mapped.{fault_of, fault_finish, RunsTo, FaultMeans, UnlessBreaks, EndsRun}
 use Rattle.mapping_plans.specs.Mapping.{plan}
 use Rattle.pickle_map.specs.Stops.{stop_finish}
 use Rattle.pickle_meaning.specs.Clauses.{FaultAt}
@@ -74,65 +74,65 @@ meant_counts space meter meter' store store' p fault.Memory at m h = absurd m
 module _ {world : World} {limit : ℕ} (m : ℕ) (ty : PokeType) (order : Order) (s : ℕ) {k j k' j' : ℕ}
     {state state' : State} where
   -- a fault that ends a run has the mapping's start as its place
-  pub told_there : (stop : Stop) →
+  pub fault_of_there : (stop : Stop) →
       Follows world limit (plan m ty order no_values s) k j state k' j' state' (stop_finish stop) →
-      EndsRun (told stop s).kind → (told stop s).at ≡ s
-  told_there (Fault kind place) h r = absurd (no_run kind (followed_kind m ty order no_values s h) r)
-  told_there Limit h r = refl
-  told_there Device h r = refl
-  told_there Memory h r = refl
+      EndsRun (fault_of stop s).kind → (fault_of stop s).at ≡ s
+  fault_of_there (Fault kind place) h r = absurd (no_run kind (followed_kind m ty order no_values s h) r)
+  fault_of_there Limit h r = refl
+  fault_of_there Device h r = refl
+  fault_of_there Memory h r = refl
 
   -- a limit that was reached is less than the bound
-  pub told_limit : (stop : Stop) →
+  pub fault_of_limit : (stop : Stop) →
       Follows world limit (plan m ty order no_values s) k j state k' j' state' (stop_finish stop) →
-      (told stop s).kind ≡ fault.Limit → (k' ≡ limit) × (limit < k + cost ty m)
-  told_limit (Fault kind place) h e = absurd (no_run kind (followed_kind m ty order no_values s h) (rw e tt))
-  told_limit Limit h e = followed_limit m ty order no_values s h
-  told_limit Device h e = cc
-  told_limit Memory h e = cc
+      (fault_of stop s).kind ≡ fault.Limit → (k' ≡ limit) × (limit < k + cost ty m)
+  fault_of_limit (Fault kind place) h e = absurd (no_run kind (followed_kind m ty order no_values s h) (rw e tt))
+  fault_of_limit Limit h e = followed_limit m ty order no_values s h
+  fault_of_limit Device h e = cc
+  fault_of_limit Memory h e = cc
 
   -- a request for capacity fails only where there is less than the type's bound
-  pub told_memory : (stop : Stop) →
+  pub fault_of_memory : (stop : Stop) →
       Follows world limit (plan m ty order no_values s) k j state k' j' state' (stop_finish stop) →
-      (told stop s).kind ≡ fault.Memory → world.room.least < room ty m
-  told_memory (Fault kind place) h e = absurd (no_run kind (followed_kind m ty order no_values s h) (rw e tt))
-  told_memory Limit h e = cc
-  told_memory Device h e = cc
-  told_memory Memory h e =
+      (fault_of stop s).kind ≡ fault.Memory → world.room.least < room ty m
+  fault_of_memory (Fault kind place) h e = absurd (no_run kind (followed_kind m ty order no_values s h) (rw e tt))
+  fault_of_memory Limit h e = cc
+  fault_of_memory Device h e = cc
+  fault_of_memory Memory h e =
       let f = followed_room m ty order no_values s h in
       let less : world.room.least < 0 + 0 + room ty m = f.1 in omega (arith, less)
 
-  pub told_device : (stop : Stop) →
+  pub fault_of_device : (stop : Stop) →
       Follows world limit (plan m ty order no_values s) k j state k' j' state' (stop_finish stop) →
-      (told stop s).kind ≡ fault.Device → stop ≡ Device
-  told_device (Fault kind place) h e = absurd (no_run kind (followed_kind m ty order no_values s h) (rw e tt))
-  told_device Limit h e = cc
-  told_device Device h e = refl
-  told_device Memory h e = cc
+      (fault_of stop s).kind ≡ fault.Device → stop ≡ Device
+  fault_of_device (Fault kind place) h e = absurd (no_run kind (followed_kind m ty order no_values s h) (rw e tt))
+  fault_of_device Limit h e = cc
+  fault_of_device Device h e = refl
+  fault_of_device Memory h e = cc
 
 -- the run along the plan, to the fault
 module _ (m : ℕ) (ty : PokeType) (order : Order) (s : ℕ) (space : SpaceView) (meter meter' : Meter)
     (store store' : Held) where
-  pub told_counts : (stop : Stop) →
+  pub fault_of_counts : (stop : Stop) →
       RunsTo space meter meter' store store' (plan m ty order no_values s) (stop_finish stop) →
       RunsTo space meter meter' store store' (plan m ty order no_values s)
-      (fault_finish (told stop s).kind (told stop s).at)
-  told_counts (Fault kind place) h =
+      (fault_finish (fault_of stop s).kind (fault_of stop s).at)
+  fault_of_counts (Fault kind place) h =
       meant_counts space meter meter' store store' _ kind place (followed_kind m ty order no_values s h.follows) h
-  told_counts Limit h = h
-  told_counts Device h = h
-  told_counts Memory h = h
+  fault_of_counts Limit h = h
+  fault_of_counts Device h = h
+  fault_of_counts Memory h = h
 
 module _ {world : World} {limit : ℕ} (bits : List ℕ) (ty : PokeType) (order : Order) (s : ℕ) {k j k' j' : ℕ}
     {state state' : State} (known : world.known ≡ Some bits) (within : k' ≤ limit) where
-  pub told_means : (stop : Stop) →
+  pub fault_of_means : (stop : Stop) →
       Follows world limit (plan (length bits) ty order no_values s) k j state k' j' state' (stop_finish stop) →
-      FaultMeans bits ty order s (limit - k) (told stop s).kind (told stop s).at (k' - k) (j' - j)
-  told_means (Fault kind place) h = answered bits ty order s (limit - k) kind place (k' - k) (j' - j)
+      FaultMeans bits ty order s (limit - k) (fault_of stop s).kind (fault_of stop s).at (k' - k) (j' - j)
+  fault_of_means (Fault kind place) h = answered bits ty order s (limit - k) kind place (k' - k) (j' - j)
       (followed_kind (length bits) ty order no_values s h) (followed_result bits ty order s known within h)
-  told_means Limit h = followed_too_long bits ty order s known within h
-  told_means Device h = followed_part bits ty order s known within h
-  told_means Memory h = followed_part bits ty order s known within h
+  fault_of_means Limit h = followed_too_long bits ty order s known within h
+  fault_of_means Device h = followed_part bits ty order s known within h
+  fault_of_means Memory h = followed_part bits ty order s known within h
 
 -- a fact about a fault, whatever its kind
 unless : (kind : MapFaultKind) {P : Type 0} → P → UnlessBreaks kind P
@@ -156,24 +156,25 @@ module _ {world : World} {limit : ℕ} (bits : List ℕ) (m : ℕ) (ty : PokeTyp
       KeepsBy (HasRoom world) (packs world.room) bits (plan m ty order no_values s) (limit - k) no_state
   done_kept h = room_when_done bits limit known h
 
-  pub told_kept : (stop : Stop) →
+  pub fault_of_kept : (stop : Stop) →
       Follows world limit (plan m ty order no_values s) k j no_state k' j' state' (stop_finish stop) →
-      UnlessBreaks (told stop s).kind
+      UnlessBreaks (fault_of stop s).kind
       (KeepsBy (HasRoom world) (packs world.room) bits (plan m ty order no_values s) (limit - k) no_state)
-  told_kept (Fault kind place) h = unless kind (done_kept h)
-  told_kept Limit h = room_when_limited bits limit known h
-  told_kept Device h = tt
-  told_kept Memory h = tt
+  fault_of_kept (Fault kind place) h = unless kind (done_kept h)
+  fault_of_kept Limit h = room_when_limited bits limit known h
+  fault_of_kept Device h = tt
+  fault_of_kept Memory h = tt
 
-  pub told_wanted : k' ≤ limit → (stop : Stop) →
+  pub fault_of_wanted : k' ≤ limit → (stop : Stop) →
       Follows world limit (plan m ty order no_values s) k j no_state k' j' state' (stop_finish stop) →
-      (told stop s).kind ≡ fault.Memory →
+      (fault_of stop s).kind ≡ fault.Memory →
       KeepsBy (λ now. IsWithin now world.before) (packs world.room) bits (plan m ty order no_values s)
       (limit - k) no_state → ⊥
-  told_wanted within (Fault kind place) h e = absurd (no_run kind (followed_kind m ty order no_values s h) (rw e tt))
-  told_wanted within Limit h e = cc
-  told_wanted within Device h e = cc
-  told_wanted within Memory h e = no_room_before bits limit known within h
+  fault_of_wanted within (Fault kind place) h e =
+      absurd (no_run kind (followed_kind m ty order no_values s h) (rw e tt))
+  fault_of_wanted within Limit h e = cc
+  fault_of_wanted within Device h e = cc
+  fault_of_wanted within Memory h e = no_room_before bits limit known within h
 
 -- an empty store has no values
 pub none_kept : (nodes : List Node) (store : Held) → store ≡ emptied store → levels nodes store ≡ no_values

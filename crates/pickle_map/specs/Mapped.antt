@@ -38,11 +38,11 @@ pub record Gives (nodes : List Node) (store : Held) (P : Value → Type 0) : Typ
   pub holds : P value
 
 -- a stop, as the fault of a mapping that began at s; a fault that ends a run has s as its place
-abbrev pub told : Stop → (s : ℕ) → MapFault
-told (Fault kind place) s = record { kind = kind; at = place }
-told Limit s = record { kind = faults.Limit; at = s }
-told Device s = record { kind = faults.Device; at = s }
-told Memory s = record { kind = faults.Memory; at = s }
+abbrev pub fault_of : Stop → (s : ℕ) → MapFault
+fault_of (Fault kind place) s = record { kind = kind; at = place }
+fault_of Limit s = record { kind = faults.Limit; at = s }
+fault_of Device s = record { kind = faults.Device; at = s }
+fault_of Memory s = record { kind = faults.Memory; at = s }
 
 -- What a fault says on these bits: it is the answer under the limit of steps, with the answer's steps and values made.
 -- Where a device or an allocation failure broke the mapping off, the steps and values made are at most the answer's.

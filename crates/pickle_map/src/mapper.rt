@@ -4,7 +4,7 @@ ghost use Rattle.std.specs.Prelude.{◌≡◌, ◌+◌, ◌*◌, ◌≤◌, IfEr
 ghost use Rattle.bit_space.specs.SpaceView.{HasRisen};
 ghost use Rattle.pickle_types.specs.Bounds.{cost, room};
 ghost use Rattle.pickle_types.specs.TypeTable.{nodes_of, type_named, IsInTable};
-ghost use Rattle.pickle_map.specs.Mapped.{MeansValue, MeansFault, FitsType, CountsParts, ReachesLimit, LacksBound, RunsNamed, KeptInRoom, WantedMore, EndsRun, HoldsAtMost, MapsNamed, told};
+ghost use Rattle.pickle_map.specs.Mapped.{MeansValue, MeansFault, FitsType, CountsParts, ReachesLimit, LacksBound, RunsNamed, KeptInRoom, WantedMore, EndsRun, HoldsAtMost, MapsNamed, fault_of};
 ghost use Rattle.value_store.specs.Slots.{emptied, HoldsInRoom, KeepsRoom};
 
 pub mod clauses;
@@ -120,14 +120,14 @@ pub fn map_watched<S: Space, W: Watch>(
         }
         Err(stop) => {
             mapper.store.clear();
-            Err(told(stop, start))
+            Err(fault_of(stop, start))
         }
     }
 }
 
 /// A stop, as the fault of a mapping that began at the bit `start`.
-pub fn told(stop: Stop, start: u64) -> MapFault
-    ensures { result ≡ told stop start }
+pub fn fault_of(stop: Stop, start: u64) -> MapFault
+    ensures { result ≡ fault_of stop start }
 {
     let (kind, at) = match stop {
         Stop::Fault(kind, at) => (kind, at),

@@ -21,7 +21,7 @@ use crate::mapper::read::read_digits;
 use crate::mapper::start::Start;
 use crate::mapper::state::Mapper;
 use crate::mapper::stop::Stop;
-use crate::mapper::walk::ordered;
+use crate::mapper::walk::byte_order;
 use crate::mapper::watch::Watch;
 use crate::mapper::watched_clauses::check;
 use arrayvec::ArrayVec;
@@ -286,7 +286,7 @@ impl<W: Watch> Mapper<'_, W> {
             self.watch.next();
             self.meter.tick()?;
             let next = Start {
-                order: ordered(field.order, start.order),
+                order: byte_order(field.order, start.order),
                 bit: place,
             };
             place = self.map_column(field.node, &field.constraint, next, row, space)?;

@@ -407,7 +407,7 @@ impl<W: Watch> Mapper<'_, W> {
                 behind = self.map_checked(
                     field.node,
                     &field.constraint,
-                    ordered(field.order, start.order),
+                    byte_order(field.order, start.order),
                     place,
                     space,
                 )?;
@@ -503,7 +503,7 @@ impl<W: Watch> Mapper<'_, W> {
         for (index, part) in alternatives.iter().enumerate() {
             self.watch.next();
             self.meter.tick()?;
-            let prefixed = ordered(part.order, start.order);
+            let prefixed = byte_order(part.order, start.order);
             let origin = u128::from(start.bit);
             match self.map_checked(part.node, &part.constraint, prefixed, origin, space) {
                 Ok(end) => return Ok((index, end)),
@@ -523,7 +523,7 @@ impl<W: Watch> Mapper<'_, W> {
 }
 
 /// The byte order of a field: its prefix's, or the one around it.
-pub fn ordered(prefix: Option<ByteOrder>, order: Order) -> Order
+pub fn byte_order(prefix: Option<ByteOrder>, order: Order) -> Order
     ensures { result ≡ ordered prefix order }
 {
     match prefix {

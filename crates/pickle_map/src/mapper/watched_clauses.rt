@@ -1,6 +1,5 @@
 //! Evaluates clauses under a watcher, and reports each clause that stops the mapping.
 
-ghost use Rattle.std.specs.Prelude.{◌<◌, ◌^◌};
 ghost use Rattle.pickle_types.specs.Table.{optional_term, bound_of};
 ghost use Rattle.pickle_types.specs.Sound.{IsSoundClause, IsSoundBound};
 ghost use Rattle.pickle_evaluation.specs.Spending.{SpendsSteps};

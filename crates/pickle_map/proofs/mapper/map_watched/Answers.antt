@@ -7,7 +7,7 @@ use Rattle.pickle_meaning.specs.Values.{no_values}
 use Rattle.pickle_map.proofs.Followed.{walk_rises, followed_steps, followed_made, followed_fits, followed_size, followed_result}
 use Rattle.pickle_map.proofs.Keeping.{kept_within}
 use Rattle.pickle_map.proofs.Lent.{given_back}
-use Rattle.pickle_map.proofs.Stopped.{told_there, told_limit, told_memory, told_device, told_counts, told_means, done_kept, told_kept, told_wanted, none_kept, none_stored, from_none}
+use Rattle.pickle_map.proofs.Stopped.{fault_of_there, fault_of_limit, fault_of_memory, fault_of_device, fault_of_counts, fault_of_means, done_kept, fault_of_kept, fault_of_wanted, none_kept, none_stored, from_none}
 use Rattle.pickle_map.proofs.mapper.map_watched.Goals as goal
 
 pub map_type-requires-clause-open : goal.map_type-requires-clause-open
@@ -90,25 +90,25 @@ returns-in-Err g c =
           let e =
           ap (λ n. 8 * n) (sym (g.met.S.Space.whole c.args.space.now bytes known)) ∙ sym (length-bits_of bytes) in
           let h = rw e at h in
-          rw c.told.ensures (told_means (bits_of bytes) ty order start (ap (option_map bits_of) known)
+          rw c.fault_of.ensures (fault_of_means (bits_of bytes) ty order start (ap (option_map bits_of) known)
           (omega (arith, within, limit)) c.in-Err.stop h);
       fits = tt;
       size = tt;
       rise = (walk_rises h.walk).0;
       steps = followed_steps bits ty order no_values start h;
       made = ((walk_rises h.walk).1, followed_made bits ty order no_values start h);
-      limit = rw c.told.ensures (told_limit bits ty order start c.in-Err.stop h);
-      memory = rw c.told.ensures (told_memory bits ty order start c.in-Err.stop h);
-      device = rw c.told.ensures
-          (λ e. c.in-Err.ensures.frame.left.device (told_device bits ty order start c.in-Err.stop h e));
-      counts = rw (c.told.ensures, c.clear.ensures.empty) (told_counts bits ty order start
+      limit = rw c.fault_of.ensures (fault_of_limit bits ty order start c.in-Err.stop h);
+      memory = rw c.fault_of.ensures (fault_of_memory bits ty order start c.in-Err.stop h);
+      device = rw c.fault_of.ensures
+          (λ e. c.in-Err.ensures.frame.left.device (fault_of_device bits ty order start c.in-Err.stop h e));
+      counts = rw (c.fault_of.ensures, c.clear.ensures.empty) (fault_of_counts bits ty order start
           (g.S.Space.view c.args.space.now) c.args.meter.now c.map_type.new.self.meter.now c.args.store.now
           (emptied c.map_type.new.self.store.now) c.in-Err.stop (record { last = _; follows = h }));
-      kept = λ bytes known. rw (c.told.ensures, c.clear.ensures.empty)
-          (told_kept (bits_of bytes) bits ty order start (ap (option_map bits_of) known) c.in-Err.stop h);
-      asked = λ bytes known. rw c.told.ensures (told_wanted (bits_of bytes) bits ty order start
+      kept = λ bytes known. rw (c.fault_of.ensures, c.clear.ensures.empty)
+          (fault_of_kept (bits_of bytes) bits ty order start (ap (option_map bits_of) known) c.in-Err.stop h);
+      asked = λ bytes known. rw c.fault_of.ensures (fault_of_wanted (bits_of bytes) bits ty order start
           (ap (option_map bits_of) known) (omega (arith, within, limit)) c.in-Err.stop h);
-      place = rw c.told.ensures (told_there bits ty order start c.in-Err.stop h);
+      place = rw c.fault_of.ensures (fault_of_there bits ty order start c.in-Err.stop h);
       emptied = rw c.clear.ensures.empty refl;
       holds = rw c.clear.ensures.empty (record {
         nodes = omega arith;

@@ -575,7 +575,7 @@ map_fields-returns-in_err-behind-clause-is g t c =
     let there = c.in_ok-is_there.ensures in
     let there_is = rw (c.if-branch.true, c.from-origin.ensures) at there.is in
     let start = c.in_ok-place.ensures in
-    let h = rw (i.lent.nodes, i.frame.len, c.ordered.ensures) at c.in_err-behind.ensures.is in
+    let h = rw (i.lent.nodes, i.frame.len, c.byte_order.ensures) at c.in_err-behind.ensures.is in
     let h = in_world (g.S.Space.view c.args.space.now) (g.S.Space.view c.loop-field.space) i.frame.bytes i.frame.room
     c.in_err-behind.ensures.frame.left.room h in
     rw (p.1, p.2)
@@ -619,7 +619,7 @@ map_fields-loop-field-preserved g t c =
           let there_is = rw (w.if-branch.true, c.from-origin.ensures) at there.is in
           let start = w.in_ok-place.ensures in
           let m = rw i.lent.nodes at w.in_ok-behind.ensures.is in
-          let h = rw (i.frame.len, w.ordered.ensures) at m.follows in
+          let h = rw (i.frame.len, w.byte_order.ensures) at m.follows in
           let h = in_world (g.S.Space.view c.args.space.now) (g.S.Space.view c.loop-field.space) i.frame.bytes
           i.frame.room w.in_ok-behind.ensures.frame.left.room h in
           rw (w.space-is, w.self-is, w.behind-is, w.top-is) (record {
@@ -845,7 +845,7 @@ map_alternatives-returns-in-Ok-clause-is g t c =
     let next = drop_more c.args.alternatives.now c.loop-index.index c.index-alternatives-index.result (omega arith) in
     let next = rw (← c.index-alternatives-index.is) at next in
     let m = rw i.lent.nodes at c.in-Ok.ensures.is in
-    let h = rw (i.frame.len, i.same, c.ordered-prefixed.ensures, c.from-origin.ensures) at m.follows in
+    let h = rw (i.frame.len, i.same, c.byte_order-prefixed.ensures, c.from-origin.ensures) at m.follows in
     let h = in_world (g.S.Space.view c.args.space.now) (g.S.Space.view c.loop-index.space) i.frame.bytes i.frame.room
     c.in-Ok.ensures.frame.left.room h in
     let keeps = m.kept ∙ ap (λ ls. pushed ls (Some m.value)) i.same in
@@ -866,7 +866,8 @@ map_alternatives-returns-then-not-misses-clause-is g t c =
     let next = drop_more c.args.alternatives.now c.loop-index.index c.index-alternatives-index.result (omega arith) in
     let next = rw (← c.index-alternatives-index.is) at next in
     let h =
-    rw (i.lent.nodes, i.frame.len, i.same, c.ordered-prefixed.ensures, c.from-origin.ensures) at c.in-Err.ensures.is in
+    rw (i.lent.nodes, i.frame.len, i.same, c.byte_order-prefixed.ensures, c.from-origin.ensures)
+    at c.in-Err.ensures.is in
     let h = in_world (g.S.Space.view c.args.space.now) (g.S.Space.view c.loop-index.space) i.frame.bytes i.frame.room
     c.in-Err.ensures.frame.left.room h in
     follow_on (in_later i.frame.room c.in-Err.ensures.frame.left.room i.so_far) (alternatives_stop _ _ _ _ _ _ _ _ _
@@ -889,7 +890,8 @@ map_alternatives-loop-index-preserved g t c =
     let next = drop_more c.args.alternatives.now c.loop-index.index c.index-alternatives-index.result (omega arith) in
     let next = rw (← c.index-alternatives-index.is) at next in
     let h =
-    rw (i.lent.nodes, i.frame.len, i.same, c.ordered-prefixed.ensures, c.from-origin.ensures) at c.in-Err.ensures.is in
+    rw (i.lent.nodes, i.frame.len, i.same, c.byte_order-prefixed.ensures, c.from-origin.ensures)
+    at c.in-Err.ensures.is in
     let h = in_world (g.S.Space.view c.args.space.now) (g.S.Space.view c.loop-index.space) i.frame.bytes i.frame.room
     c.in-Err.ensures.frame.left.room h in
     let h = in_later (room_then i.frame.room c.in-Err.ensures.frame.left.room) c.clear_level.ensures.room h in

@@ -60,7 +60,7 @@ returns-in_err-place-clause-is g c =
     let next = drop_more c.args.fields.now c.loop-field.field-index c.field-item.result (omega arith) in
     let next = rw (← c.field-item.is) at next in
     let first = first_column (type_of c.args.self.now.nodes.now) _ c.field-item.result _ next i.columns in
-    let h = rw (i.lent.nodes, i.frame.len, c.ordered.ensures) at c.in_err-place.ensures.is in
+    let h = rw (i.lent.nodes, i.frame.len, c.byte_order.ensures) at c.in_err-place.ensures.is in
     let h = in_world (g.S.Space.view c.args.space.now) (g.S.Space.view c.loop-field.space) i.frame.bytes i.frame.room
     c.in_err-place.ensures.frame.left.room h in
     rw (p.1, p.2) (follow_on (in_later i.frame.room c.in_err-place.ensures.frame.left.room i.so_far)
@@ -79,7 +79,7 @@ loop-field-preserved g c =
     let next = rw (← c.field-item.is) at next in
     let first = first_column (type_of c.args.self.now.nodes.now) _ c.field-item.result _ next i.columns in
     let m = rw i.lent.nodes at c.in_ok-place.ensures.is in
-    let h = rw (i.frame.len, c.ordered.ensures) at m.follows in
+    let h = rw (i.frame.len, c.byte_order.ensures) at m.follows in
     let h = in_world (g.S.Space.view c.args.space.now) (g.S.Space.view c.loop-field.space) i.frame.bytes i.frame.room
     c.in_ok-place.ensures.frame.left.room h in
     let ends = c.in_ok-place.ensures.ends in
