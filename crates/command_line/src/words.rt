@@ -172,7 +172,7 @@ pub fn read_asked(alloc: Global, words: Vec<String>) -> Result<Asked, WordFault>
     let words = without_help_of_help(words.as_slice());
     match matches_of(alloc, line.as_slice()) {
         Ok(matches) => read_matches(alloc, &matches, words),
-        Err(error) => Err(told(alloc, &error, words)?),
+        Err(error) => Err(word_fault(alloc, &error, words)?),
     }
 }
 
@@ -257,7 +257,7 @@ fn after_name<'a>(alloc: Global, words: &'a [String]) -> Result<Vec<&'a str>, Al
     Ok(named)
 }
 
-fn told(alloc: Global, error: &clap::Error, words: &[String]) -> Result<WordFault, AllocError>
+fn word_fault(alloc: Global, error: &clap::Error, words: &[String]) -> Result<WordFault, AllocError>
     ensures fault { IfOk result (λ fault. fault ≢ WordFault.Offset) }
     ensures refused { IfOk result (λ fault. (line : List (List ℕ)) → Fails line error.now → IsRefused line fault) }
 {

@@ -31,14 +31,16 @@ pub fn byte<'a>(alloc: Global, ties: Ties) -> Result<Arg<'a>, AllocError>
 pub fn endian<'a>(alloc: Global, choices: Choices<'a>) -> Arg<'a>
     ensures { IsArg (endian_rule choices.entry) result }
 {
-    defaulted(alloc, "endian", "ORDER", "The byte order", "big").value_parser(choices.orders)
+    option_with_default(alloc, "endian", "ORDER", "The byte order", "big").value_parser(
+        choices.orders,
+    )
 }
 
 /// The most steps.
 pub fn limit<'a>(alloc: Global) -> Arg<'a>
     ensures { IsArg (numbered (default_rule (codes "limit") (codes "1000000000"))) result }
 {
-    defaulted(
+    option_with_default(
         alloc,
         "limit",
         "N",
@@ -134,7 +136,7 @@ pub fn header<'a>(alloc: Global, ties: Ties) -> Result<Arg<'a>, AllocError>
 pub fn absent<'a>(alloc: Global, choices: Choices<'a>) -> Arg<'a>
     ensures { IsArg (absent_rule choices.entry) result }
 {
-    defaulted(
+    option_with_default(
         alloc,
         "absent",
         "WHAT",
@@ -149,13 +151,15 @@ pub fn absent<'a>(alloc: Global, choices: Choices<'a>) -> Arg<'a>
 pub fn mode<'a>(alloc: Global, modes: &'a [&'a str]) -> Arg<'a>
     ensures { IsArg (chosen (default_rule (codes "mode") (codes "flat")) modes.entry) result }
 {
-    defaulted(alloc, "mode", "MODE", "How the value is printed", "flat").value_parser(modes)
+    option_with_default(alloc, "mode", "MODE", "How the value is printed", "flat").value_parser(
+        modes,
+    )
 }
 
 pub fn numbers<'a>(alloc: Global, choices: Choices<'a>) -> Arg<'a>
     ensures { IsArg (numbers_rule choices.entry) result }
 {
-    defaulted(
+    option_with_default(
         alloc,
         "numbers",
         "FORM",
@@ -168,7 +172,7 @@ pub fn numbers<'a>(alloc: Global, choices: Choices<'a>) -> Arg<'a>
 pub fn chars<'a>(alloc: Global, choices: Choices<'a>) -> Arg<'a>
     ensures { IsArg (chars_rule choices.entry) result }
 {
-    defaulted(
+    option_with_default(
         alloc,
         "chars",
         "FORM",
@@ -183,13 +187,13 @@ pub fn elements<'a>(alloc: Global, default: &'a str) -> Arg<'a>
     ensures { IsArg (default_rule (codes "elements") default.entry.now) result }
 {
     let help = "The most elements that are printed of an array, or all";
-    defaulted(alloc, "elements", "N", help, default)
+    option_with_default(alloc, "elements", "N", help, default)
 }
 
 pub fn faults<'a>(alloc: Global, choices: Choices<'a>) -> Arg<'a>
     ensures { IsArg (faults_rule choices.entry) result }
 {
-    defaulted(
+    option_with_default(
         alloc,
         "faults",
         "FORM",
@@ -204,13 +208,15 @@ pub fn depth<'a>(alloc: Global) -> Arg<'a>
     ensures { IsArg (default_rule (codes "depth") (codes "6")) result }
 {
     let help = "The most levels of parts below the value that are shown, or all";
-    defaulted(alloc, "depth", "N", help, "6")
+    option_with_default(alloc, "depth", "N", help, "6")
 }
 
 pub fn color<'a>(alloc: Global, choices: Choices<'a>) -> Arg<'a>
     ensures { IsArg (color_rule choices.entry) result }
 {
-    defaulted(alloc, "color", "WHEN", "When colors are printed", "auto").value_parser(choices.times)
+    option_with_default(alloc, "color", "WHEN", "When colors are printed", "auto").value_parser(
+        choices.times,
+    )
 }
 
 /// The files of `each`.
@@ -310,7 +316,7 @@ pub fn bound_elements<'a>(alloc: Global, ties: Ties) -> Result<Arg<'a>, AllocErr
 pub fn answer<'a>(alloc: Global, choices: Choices<'a>) -> Arg<'a>
     ensures { IsArg (answer_rule choices.entry) result }
 {
-    defaulted(alloc, "mode", "MODE", "How the answer is printed", "text").value_parser(
+    option_with_default(alloc, "mode", "MODE", "How the answer is printed", "text").value_parser(
         choices.forms,
     )
 }
@@ -423,7 +429,7 @@ fn option<'a>(alloc: Global, name: &'a str, value: &'a str) -> Arg<'a>
     Arg::new(alloc, name).long(name).value_name(value)
 }
 
-fn defaulted<'a>(
+fn option_with_default<'a>(
     alloc: Global,
     name: &'a str,
     value: &'a str,
@@ -438,7 +444,7 @@ fn defaulted<'a>(
 fn offset<'a>(alloc: Global, name: &'a str, help: &'a str, default: &'a str) -> Arg<'a>
     ensures { IsArg (default_rule name.entry.now default.entry.now) result }
 {
-    defaulted(alloc, name, "OFFSET", help, default)
+    option_with_default(alloc, name, "OFFSET", help, default)
 }
 
 fn number<'a>(alloc: Global, name: &'a str, value: &'a str) -> Arg<'a>

@@ -248,7 +248,7 @@ fn without_commands<'a>(alloc: Global) -> Command<'a>
 }
 
 // A command without arguments.
-fn described<'a>(alloc: Global, name: &'a str, about: &'a str, help: &'a str) -> Command<'a>
+fn new_command<'a>(alloc: Global, name: &'a str, about: &'a str, help: &'a str) -> Command<'a>
     ensures { IsApp (new_app name.entry.now) result }
 {
     Command::new(alloc, name).about(about).after_long_help(help)
@@ -257,7 +257,7 @@ fn described<'a>(alloc: Global, name: &'a str, about: &'a str, help: &'a str) ->
 fn map<'a>(alloc: Global, choices: Choices<'a>, ties: Ties) -> Result<Command<'a>, AllocError>
     ensures { IfOk result (λ command. ties ≡ Ties.Without → IsApp (map_command choices.entry) command) }
 {
-    let command = described(
+    let command = new_command(
         alloc,
         "map",
         "Maps a type over a file and prints the value",
@@ -277,7 +277,7 @@ fn map<'a>(alloc: Global, choices: Choices<'a>, ties: Ties) -> Result<Command<'a
 fn show<'a>(alloc: Global, choices: Choices<'a>, ties: Ties) -> Result<Command<'a>, AllocError>
     ensures { IfOk result (λ command. ties ≡ Ties.Without → IsApp (show_command choices.entry) command) }
 {
-    let command = described(
+    let command = new_command(
         alloc,
         "show",
         "Maps a type over a file and shows the value, or what a fault is about, to the eye",
@@ -295,7 +295,7 @@ fn show<'a>(alloc: Global, choices: Choices<'a>, ties: Ties) -> Result<Command<'
 fn each<'a>(alloc: Global, choices: Choices<'a>, ties: Ties) -> Result<Command<'a>, AllocError>
     ensures { IfOk result (λ command. ties ≡ Ties.Without → IsApp (each_command choices.entry) command) }
 {
-    let command = described(
+    let command = new_command(
         alloc,
         "each",
         "Maps a type over many files, one after the other, and prints a line for each",
@@ -359,7 +359,7 @@ fn with_style<'a>(
 fn bound<'a>(alloc: Global, choices: Choices<'a>, ties: Ties) -> Result<Command<'a>, AllocError>
     ensures { IfOk result (λ command. ties ≡ Ties.Without → IsApp (bound_command choices.entry) command) }
 {
-    let command = described(
+    let command = new_command(
         alloc,
         "bound",
         "Prints the most steps and slots that mapping a type over so many bits takes",
@@ -393,7 +393,7 @@ fn with_bound_style<'a>(
 fn check<'a>(alloc: Global, choices: Choices<'a>) -> Result<Command<'a>, AllocError>
     ensures { IfOk result (IsApp (check_command choices.entry)) }
 {
-    described(
+    new_command(
         alloc,
         "check",
         "Checks a pickle and prints the number of its types",
@@ -407,7 +407,7 @@ fn check<'a>(alloc: Global, choices: Choices<'a>) -> Result<Command<'a>, AllocEr
 fn types<'a>(alloc: Global, choices: Choices<'a>) -> Result<Command<'a>, AllocError>
     ensures { IfOk result (IsApp (types_command choices.entry)) }
 {
-    described(
+    new_command(
         alloc,
         "types",
         "Prints the name, the kind and the least width of each type of a pickle",
@@ -421,7 +421,7 @@ fn types<'a>(alloc: Global, choices: Choices<'a>) -> Result<Command<'a>, AllocEr
 fn formats<'a>(alloc: Global) -> Command<'a>
     ensures { IsApp formats_command result }
 {
-    described(
+    new_command(
         alloc,
         "formats",
         "Prints the name, the type, the options and a sentence of each pickle that is installed",
@@ -432,7 +432,7 @@ fn formats<'a>(alloc: Global) -> Command<'a>
 fn dump<'a>(alloc: Global, ties: Ties) -> Result<Command<'a>, AllocError>
     ensures { IfOk result (λ command. ties ≡ Ties.Without → IsApp dump_command command) }
 {
-    described(
+    new_command(
         alloc,
         "dump",
         "Prints the bytes of a file in hexadecimal digits and as text",

@@ -4,7 +4,7 @@ use Rattle.command_line.proofs.words.commands.dump.Goals as goal
 
 pub returns : goal.returns
 returns c =
-    let start = c.described.ensures in
+    let start = c.new_command.ensures in
     IfOk-weaker c.arg-6.result _ _ (λ made last without.
     let b1 = added _ _ _ _ _ c.in_ok-arg.ensures start c.from.ensures in
     let b2 = added _ _ _ _ _ c.in_ok-arg-2.ensures b1 c.size.ensures in

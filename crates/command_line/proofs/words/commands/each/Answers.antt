@@ -7,7 +7,7 @@ use Rattle.command_line.proofs.words.commands.each.Goals as goal
 
 pub returns : goal.returns
 returns c =
-    let start = c.described-command.ensures in
+    let start = c.new_command-command.ensures in
     IfOk-weaker c.arg-7.result _ _ (λ made last without.
     let mapped =
     c.in_ok-with_mapping.ensures (new_app (codes "each")) (repeated get_rule) without start c.paths.ensures in

@@ -7,7 +7,7 @@ use Rattle.command_line.proofs.words.commands.map.Goals as goal
 
 pub returns : goal.returns
 returns c =
-    let start = c.described-command.ensures in
+    let start = c.new_command-command.ensures in
     IfOk-weaker c.arg-7.result _ _ (λ made last without.
     let mapped =
     c.in_ok-with_mapping.ensures (new_app (codes "map")) (repeated get_rule) without start c.parts.ensures in

@@ -7,7 +7,7 @@ use Rattle.command_line.proofs.words.commands.show.Goals as goal
 
 pub returns : goal.returns
 returns c =
-    let start = c.described-command.ensures in
+    let start = c.new_command-command.ensures in
     IfOk-weaker c.arg-6.result _ _ (λ made last without.
     let mapped = c.in_ok-with_mapping.ensures (new_app (codes "show")) get_rule without start c.part.ensures in
     let b1 = added _ _ _ _ _ c.in_ok-arg.ensures mapped c.elements.ensures in
