@@ -121,13 +121,13 @@ fn push_shown(line: &mut Line, start: usize, bytes: &[u8]) -> usize
 {
     let mut at = start;
     for byte in bytes {
-        at = push(line, at, shown(*byte));
+        at = push(line, at, character_of(*byte));
     }
     at
 }
 
 #[inline(always)]
-fn shown(byte: u8) -> u8
+fn character_of(byte: u8) -> u8
     ensures { result ≡ shown byte }
 {
     SHOWN[usize::from(byte)]
