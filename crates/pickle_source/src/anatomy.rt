@@ -56,12 +56,12 @@ pub fn braces(script: &Script<'_>, form: TokenRange) -> Option<TokenRange> {
     let brace = opening_brace(script, form)?;
     Some(TokenRange {
         first: brace.saturating_add(1),
-        end: closed(script, brace, form.end).saturating_sub(1),
+        end: bracket_end(script, brace, form.end).saturating_sub(1),
     })
 }
 
 /// The token after the bracket or brace that closes the one at `open`, or `end`.
-fn closed(script: &Script<'_>, open: usize, end: usize) -> usize {
+fn bracket_end(script: &Script<'_>, open: usize, end: usize) -> usize {
     let mut depth: usize = 0;
     for token in open..end {
         match script.text(token) {
@@ -77,7 +77,7 @@ fn closed(script: &Script<'_>, open: usize, end: usize) -> usize {
 }
 
 /// The token after the `>` that closes the opener at `open`, or `end`.
-fn angle_closed(script: &Script<'_>, open: usize, end: usize) -> usize {
+fn angle_end(script: &Script<'_>, open: usize, end: usize) -> usize {
     let mut depth: usize = 0;
     for token in open..end {
         match script.text(token) {
@@ -107,8 +107,8 @@ fn brace_from(script: &Script<'_>, form: TokenRange) -> Option<usize> {
 /// The tokens of a type without its array suffix.
 pub fn base(script: &Script<'_>, form: TokenRange) -> TokenRange {
     let end = match opening_brace(script, form) {
-        Some(brace) => closed(script, brace, form.end),
-        None => angle_closed(script, form.first, form.end),
+        Some(brace) => bracket_end(script, brace, form.end),
+        None => angle_end(script, form.first, form.end),
     };
     TokenRange {
         first: form.first,
@@ -130,7 +130,7 @@ pub fn form_from(script: &Script<'_>, first: usize, end: usize) -> TokenRange {
     let base = base(script, TokenRange { first, end });
     let suffix = script.text(base.end) == b"[".as_slice() && base.end < end;
     let end = if suffix {
-        closed(script, base.end, end)
+        bracket_end(script, base.end, end)
     } else {
         base.end
     };
@@ -146,7 +146,7 @@ pub fn fields(
 ) -> Result<Vec<TokenRange>, AllocError> {
     let mut fields = Vec::new(alloc);
     let mut first = brace.saturating_add(1);
-    let close = closed(script, brace, end).saturating_sub(1);
+    let close = bracket_end(script, brace, end).saturating_sub(1);
     for _ in 0..script.len() {
         if close <= first {
             break;
@@ -160,7 +160,7 @@ pub fn fields(
 
 /// The field at a place, counted from 0, between braces, the opening one at `brace`.
 pub fn field_at(script: &Script<'_>, brace: usize, end: usize, place: usize) -> Option<TokenRange> {
-    let close = closed(script, brace, end).saturating_sub(1);
+    let close = bracket_end(script, brace, end).saturating_sub(1);
     let mut first = brace.saturating_add(1);
     for _ in 0..place {
         if close <= first {

@@ -3,7 +3,7 @@
 ghost use Rattle.std.specs.Prelude.{◌≡◌, ◌≤◌, length, IfOk};
 ghost use Rattle.pickle_source.specs.Places.{IsPlain, shortened};
 
-use crate::script::{Script, TokenRange, cut};
+use crate::script::{Script, TokenRange, bytes_between};
 use crate::text::Text;
 use std::alloc::{AllocError, Global};
 
@@ -17,7 +17,7 @@ pub fn excerpt(alloc: Global, script: &Script<'_>, part: TokenRange) -> Result<V
     ensures short { IfOk result (λ text. length text.items ≤ 102) }
 {
     let text = say_tokens(Text::new(alloc), script, part)?;
-    shortened(alloc, text.into_bytes().as_slice())
+    shorten(alloc, text.into_bytes().as_slice())
 }
 
 /// Adds some tokens to the text, with one blank for whatever is between two of them. Stops when there are more columns
@@ -45,11 +45,11 @@ fn is_apart(script: &Script<'_>, token: usize) -> bool {
 
 /// As many bytes of a token as can be printed, and one more.
 fn front(bytes: &[u8]) -> &[u8] {
-    cut(bytes, 0, bytes.len().min(MOST_COLUMNS + 1))
+    bytes_between(bytes, 0, bytes.len().min(MOST_COLUMNS + 1))
 }
 
 /// What is printed of a text.
-pub fn shortened(alloc: Global, text: &[u8]) -> Result<Vec<u8>, AllocError>
+pub fn shorten(alloc: Global, text: &[u8]) -> Result<Vec<u8>, AllocError>
     ensures shown { IfOk result (λ shown. shown.items ≡ shortened text.now) }
     ensures plain { IsPlain text.now → IfOk result (λ shown. IsPlain shown.items) }
     ensures short { IfOk result (λ shown. length shown.items ≤ 102) }

@@ -1,6 +1,6 @@
 //! Words with few edits between them.
 
-use crate::script::cut;
+use crate::script::bytes_between;
 use std::alloc::{AllocError, Global};
 use strsim::generic_levenshtein;
 
@@ -61,11 +61,14 @@ struct Pair<'a> {
 impl<'a> Pair<'a> {
     fn of(word: &'a [u8], other: &'a [u8]) -> Pair<'a> {
         let same = same_count(word, other);
-        let (word, other) = (cut(word, same, word.len()), cut(other, same, other.len()));
+        let (word, other) = (
+            bytes_between(word, same, word.len()),
+            bytes_between(other, same, other.len()),
+        );
         let same = same_count_at_end(word, other);
         Pair {
-            word: cut(word, 0, word.len().saturating_sub(same)),
-            other: cut(other, 0, other.len().saturating_sub(same)),
+            word: bytes_between(word, 0, word.len().saturating_sub(same)),
+            other: bytes_between(other, 0, other.len().saturating_sub(same)),
         }
     }
 

@@ -4,7 +4,7 @@ ghost use Rattle.std.specs.Prelude.{◌≡◌, IfOk};
 ghost use Rattle.pickle_source.specs.Places.{TellsPlace, place_line};
 
 use crate::line_column::{LineColumn, place_behind};
-use crate::script::cut;
+use crate::script::bytes_between;
 use crate::shown::Shown;
 use crate::text::Text;
 use itoa::Buffer;
@@ -36,7 +36,11 @@ pub fn note_text(
     let place = place_behind(before);
     let mut text = place_line(alloc, called, place, note.sentence.as_slice())?;
     let first = before.len().saturating_sub(place.column.saturating_sub(1));
-    let shown = Shown::new(cut(before, first, before.len()), rest, note.length);
+    let shown = Shown::new(
+        bytes_between(before, first, before.len()),
+        rest,
+        note.length,
+    );
     let below = below(alloc, place.line, &shown, &note.help)?;
     text.extend_from_slice(below.as_slice())?;
     Ok(text)

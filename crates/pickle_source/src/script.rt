@@ -33,7 +33,7 @@ pub struct Script<'t> {
 }
 
 /// The bytes from one place to another. Empty if there are no such places.
-pub fn cut(bytes: &[u8], from: usize, to: usize) -> &[u8] {
+pub fn bytes_between(bytes: &[u8], from: usize, to: usize) -> &[u8] {
     match bytes.get(from..to) {
         Some(part) => part,
         None => &[],
@@ -93,7 +93,7 @@ impl<'t> Script<'t> {
 
     /// A token as the pickle has it. Empty after the last token.
     pub fn text(&self, token: usize) -> &'t [u8] {
-        cut(self.bytes, self.first(token), self.behind(token))
+        bytes_between(self.bytes, self.first(token), self.behind(token))
     }
 
     /// The token before another as the pickle has it. Empty before the first.
@@ -125,7 +125,7 @@ impl<'t> Script<'t> {
     /// Some tokens as the pickle has them, with what is between them.
     pub fn slice(&self, part: TokenRange) -> &'t [u8] {
         let (first, behind) = self.bounds(part);
-        cut(self.bytes, first, behind)
+        bytes_between(self.bytes, first, behind)
     }
 
     /// The first token that begins at a byte or after it.

@@ -4,7 +4,7 @@ ghost use Rattle.std.specs.Prelude.{◌≤◌, length, IfOk};
 ghost use Rattle.pickle_source.specs.Places.{IsPlaceIn, IsPlain};
 
 use crate::anatomy::{FieldParts, base, bound, field_at, field_parts, form_from, opening_brace};
-use crate::excerpt::{excerpt, say_tokens, shortened};
+use crate::excerpt::{excerpt, say_tokens, shorten};
 use crate::line_column::{LineColumn, place_behind};
 use crate::script::{Script, TokenRange};
 use crate::text::Text;
@@ -121,7 +121,7 @@ impl Site {
         };
         let text = say_tokens(Text::new(alloc), script, head)?.say(b" {..}")?;
         let text = say_tokens(text, script, suffix)?;
-        shortened(alloc, text.into_bytes().as_slice())
+        shorten(alloc, text.into_bytes().as_slice())
     }
 
     /// The tokens of an expression that it has: of a field the constraint, condition or label, of an array the bound,

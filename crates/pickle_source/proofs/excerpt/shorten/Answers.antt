@@ -1,7 +1,7 @@
 use Rattle.std.proofs.Common.{rules, ℕ, ◌≤◌}
 use Rattle.std.proofs.lemmas.List.Elements.{All-take}
 use Rattle.pickle_source.specs.Places.{IsPlain}
-use Rattle.pickle_source.proofs.excerpt.shortened.Goals as goal
+use Rattle.pickle_source.proofs.excerpt.shorten.Goals as goal
 
 pub returns-in_ok-say-in-Some-2-clause-plain : goal.returns-in_ok-say-in-Some-2-clause-plain
 returns-in_ok-say-in-Some-2-clause-plain c plain =
