@@ -819,7 +819,7 @@ fn behind_operand(around: Around<'_, '_>) -> Option<&'static str> {
     let labelled = (around.first..around.token).any(|before| {
         matches!(around.script.text(before), b"@" | b"if")
     });
-    match around.found() {
+    match around.token_text() {
         b":" | b"@" if labelled => {
             Some("the order is `TYPE NAME : CONSTRAINT @ LABEL if CONDITION;`")
         }
@@ -829,12 +829,12 @@ fn behind_operand(around: Around<'_, '_>) -> Option<&'static str> {
 
 /// The advice for a token after a type or a name, or where a type or a name must be.
 fn behind_form(around: Around<'_, '_>, expected: Expected) -> Option<&'static str> {
-    match around.found() {
+    match around.token_text() {
         b":" if around.opening() == b"type".as_slice() => Some(
             "a type has no constraint of its own: write it behind each field of the type, as `T x : x > 0;`",
         ),
         b"type" if expected.name => Some(TYPE_INSIDE),
-        _ if expected.form || expected.name || !is_reserved(around.found()) => {
+        _ if expected.form || expected.name || !is_reserved(around.token_text()) => {
             around.find(FORMS.as_slice())
         }
         _ => None,

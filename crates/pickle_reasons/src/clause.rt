@@ -5,7 +5,7 @@ use crate::offsets::Mixed;
 use crate::sorts::say_type;
 use crate::types::{name_of, rule_finding, unknown_type};
 use pickle_source::expressions::{PlacedExpression, is_path, token_count};
-use pickle_source::script::{Script, TokenRange, cut};
+use pickle_source::script::{Script, TokenRange, bytes_between};
 use pickle_source::site::Purpose;
 use pickle_source::text::Text;
 use pickle_syntax::token::Attribute;
@@ -118,7 +118,7 @@ fn label_help(alloc: Global, script: &Script<'_>, part: TokenRange) -> Result<Te
     let text = Text::new(alloc).say(b"write it with a unit, as ")?;
     match written {
         [b'0', b'x' | b'X', _, .., b'B' | b'b'] if part.end == part.first.saturating_add(1) => {
-            let front = cut(written, 0, written.len().saturating_sub(1));
+            let front = bytes_between(written, 0, written.len().saturating_sub(1));
             let meant = Text::new(alloc).say(front)?.say(b"#B")?.into_bytes();
             text.quote(meant.as_slice())?
                 .say(b": here the `B` is a digit")
@@ -133,13 +133,13 @@ pub fn with_unit(
     script: &Script<'_>,
     part: TokenRange,
 ) -> Result<Vec<u8>, AllocError> {
-    let mut text = grouped(alloc, script, part)?;
+    let mut text = group_operand(alloc, script, part)?;
     text.extend_from_slice(b"#B")?;
     Ok(text)
 }
 
 /// An operand as it is written, in brackets where it has operators outside of any.
-pub fn grouped(
+pub fn group_operand(
     alloc: Global,
     script: &Script<'_>,
     part: TokenRange,

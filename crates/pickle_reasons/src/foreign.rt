@@ -1,6 +1,6 @@
 //! Types of GNU poke, C or other languages, and what to write instead.
 
-use pickle_source::script::cut;
+use pickle_source::script::bytes_between;
 
 /// Names of types, with a blank between each two, and what to write instead of any of them.
 #[derive(Clone, Copy)]
@@ -138,10 +138,10 @@ fn has_word(words: &[u8], word: &[u8]) -> bool {
             .iter()
             .position(|byte| *byte == b' ')
             .unwrap_or(rest.len());
-        if cut(rest, 0, end) == word {
+        if bytes_between(rest, 0, end) == word {
             return true;
         }
-        rest = cut(rest, end.saturating_add(1), rest.len());
+        rest = bytes_between(rest, end.saturating_add(1), rest.len());
     }
     false
 }

@@ -2,7 +2,7 @@
 
 use crate::clause::{IllTypedExpression, Operands};
 use crate::lexical::say_hexadecimal;
-use pickle_source::script::{Script, TokenRange, cut};
+use pickle_source::script::{Script, TokenRange, bytes_between};
 use pickle_source::text::Text;
 use pickle_types::refused::{OperandType, OperandTypes};
 use std::alloc::AllocError;
@@ -107,7 +107,7 @@ fn opening_bracket(script: &Script<'_>, token: usize) -> usize {
 
 /// The letters of a text in quotes, if they are few and none is an escape or a quote.
 fn letters_in(written: &[u8]) -> Option<&[u8]> {
-    let letters = cut(written, 1, written.len().saturating_sub(1));
+    let letters = bytes_between(written, 1, written.len().saturating_sub(1));
     let plain = letters.iter().all(|letter| matches!(*letter, b' '..=b'~')
         && !matches!(*letter, b'\\' | b'\''));
     if plain && !letters.is_empty() && letters.len() <= MOST_LETTERS {

@@ -2,7 +2,7 @@
 
 use crate::digits::digits_help;
 use pickle_source::note::Note;
-use pickle_source::script::cut;
+use pickle_source::script::bytes_between;
 use pickle_source::text::{Text, is_shown};
 use pickle_syntax::lexer::fault::LexFaultKind;
 use pickle_syntax::lexer::lex;
@@ -22,18 +22,18 @@ pub fn lexical_note(
     kind: LexFaultKind,
     at: usize,
 ) -> Result<Note, AllocError> {
-    let rest = cut(pickle, at, pickle.len());
+    let rest = bytes_between(pickle, at, pickle.len());
     let text = Text::new(alloc);
     let text = match kind {
         LexFaultKind::BadByte => say_byte(text, rest)?,
-        LexFaultKind::Unclosed => text.say(unclosed(rest).as_bytes())?,
+        LexFaultKind::Unclosed => text.say(unclosed_sentence(rest).as_bytes())?,
         LexFaultKind::BadNumber => say_number(text, rest)?,
         LexFaultKind::TooLong => text.say(b"a pickle has at most 1048576 bytes")?,
         LexFaultKind::Memory => text.say(b"there was no memory")?,
     };
     let help = match kind {
         LexFaultKind::BadByte => help_byte(alloc, pickle, at)?,
-        LexFaultKind::Unclosed => fixed(alloc, help_unclosed(rest))?,
+        LexFaultKind::Unclosed => fixed_help(alloc, help_unclosed(rest))?,
         LexFaultKind::BadNumber => help_number(alloc, pickle, at)?,
         LexFaultKind::TooLong | LexFaultKind::Memory => None,
     };
@@ -46,7 +46,7 @@ pub fn lexical_note(
 }
 
 /// A help that is always the same.
-fn fixed(alloc: Global, help: &str) -> Result<Option<Vec<u8>>, AllocError> {
+fn fixed_help(alloc: Global, help: &str) -> Result<Option<Vec<u8>>, AllocError> {
     Ok(Some(Text::new(alloc).say(help.as_bytes())?.into_bytes()))
 }
 
@@ -55,7 +55,7 @@ fn mark_length(kind: LexFaultKind, rest: &[u8]) -> usize {
     match kind {
         LexFaultKind::BadNumber => word_length(rest),
         LexFaultKind::BadByte if is_quote(rest) => {
-            word_length(cut(rest, 1, rest.len())).saturating_add(1)
+            word_length(bytes_between(rest, 1, rest.len())).saturating_add(1)
         }
         LexFaultKind::Unclosed if !is_quote(rest) && rest.first() != Some(&b'"') => 2,
         _ => 1,
@@ -93,7 +93,7 @@ fn say_byte(text: Text, rest: &[u8]) -> Result<Text, AllocError> {
 
 /// What to write instead of a byte that begins no token.
 fn help_byte(alloc: Global, pickle: &[u8], at: usize) -> Result<Option<Vec<u8>>, AllocError> {
-    let help = match cut(pickle, at, pickle.len()) {
+    let help = match bytes_between(pickle, at, pickle.len()) {
         [b'\'', b'\\', escape @ ..] | [b'\\', escape @ ..] => {
             return help_escape(alloc, escape);
         }
@@ -112,12 +112,12 @@ fn help_byte(alloc: Global, pickle: &[u8], at: usize) -> Result<Option<Vec<u8>>,
         [byte, ..] if 0x80 <= *byte => "letters outside of ASCII stand only in comments",
         _ => return Ok(None),
     };
-    fixed(alloc, help)
+    fixed_help(alloc, help)
 }
 
 /// Whether a place is inside a text in quotes: up to there its closing quote isn't found.
 fn is_in_text(alloc: Global, pickle: &[u8], at: usize) -> Result<bool, AllocError> {
-    match lex(alloc, cut(pickle, 0, at)) {
+    match lex(alloc, bytes_between(pickle, 0, at)) {
         Ok(_) => Ok(false),
         Err(fault) if fault.kind == LexFaultKind::Memory => Err(AllocError),
         Err(fault) => Ok(fault.kind == LexFaultKind::Unclosed),
@@ -140,7 +140,7 @@ fn help_text(alloc: Global, rest: &[u8]) -> Result<Option<Vec<u8>>, AllocError> 
 
 /// Whether the byte at a place is near the front, and among bytes that no text has.
 fn is_binary(pickle: &[u8], at: usize) -> bool {
-    let front = cut(pickle, 0, FRONT.min(pickle.len()));
+    let front = bytes_between(pickle, 0, FRONT.min(pickle.len()));
     let is_text = matches!(front, [b't', b'y', b'p', b'e', ..] | [b'/', ..]);
     !is_text && at < FRONT && front.iter().any(|byte| is_control(*byte))
         || at == 0 && matches!(pickle, [0x80..=0xff, ..])
@@ -152,7 +152,7 @@ fn is_control(byte: u8) -> bool {
 
 /// What to write instead of an escape. `escape` is what stands behind its backslash.
 fn help_escape(alloc: Global, escape: &[u8]) -> Result<Option<Vec<u8>>, AllocError> {
-    let Some(byte) = escaped(escape) else {
+    let Some(byte) = escape_value(escape) else {
         return Ok(None);
     };
     let text = Text::new(alloc).say(b"write `")?;
@@ -161,7 +161,7 @@ fn help_escape(alloc: Global, escape: &[u8]) -> Result<Option<Vec<u8>>, AllocErr
 }
 
 /// The byte that an escape of C stands for.
-fn escaped(escape: &[u8]) -> Option<u8> {
+fn escape_value(escape: &[u8]) -> Option<u8> {
     match escape {
         [b'a', ..] => Some(7),
         [b'b', ..] => Some(8),
@@ -207,7 +207,7 @@ fn help_quoted(alloc: Global, quoted: &[u8]) -> Result<Option<Vec<u8>>, AllocErr
     let end = quoted
         .iter()
         .position(|byte| matches!(*byte, b'\'' | b'\n' | b'\\'));
-    let word = cut(quoted, 0, end.unwrap_or(0));
+    let word = bytes_between(quoted, 0, end.unwrap_or(0));
     let is_number = quoted.get(word.len()) == Some(&b'\'');
     if is_number && 1 < word.len() && word.len() <= 8 {
         let text = Text::new(alloc).say(b"a character is one byte: write these ")?;
@@ -215,7 +215,7 @@ fn help_quoted(alloc: Global, quoted: &[u8]) -> Result<Option<Vec<u8>>, AllocErr
         let text = say_hexadecimal(text, word)?;
         return Ok(Some(text.say(b"`")?.into_bytes()));
     }
-    fixed(
+    fixed_help(
         alloc,
         match quoted {
             [b'm', ..] | [b's', b't', ..] =>
@@ -226,7 +226,7 @@ fn help_quoted(alloc: Global, quoted: &[u8]) -> Result<Option<Vec<u8>>, AllocErr
     )
 }
 
-fn unclosed(rest: &[u8]) -> &'static str {
+fn unclosed_sentence(rest: &[u8]) -> &'static str {
     match rest {
         [b'"', ..] => "this text has no closing `\"` in its line",
         _ => "this comment has no closing `*/`",
@@ -241,7 +241,7 @@ fn help_unclosed(rest: &[u8]) -> &'static str {
 }
 
 fn say_number(text: Text, rest: &[u8]) -> Result<Text, AllocError> {
-    let word = cut(rest, 0, word_length(rest));
+    let word = bytes_between(rest, 0, word_length(rest));
     text.say(b"no number is written ")?.quote(word)?.say(
         b": no type holds it, or letters follow it that are no part of it",
     )
@@ -249,8 +249,8 @@ fn say_number(text: Text, rest: &[u8]) -> Result<Text, AllocError> {
 
 /// What to write instead of a number.
 fn help_number(alloc: Global, pickle: &[u8], at: usize) -> Result<Option<Vec<u8>>, AllocError> {
-    let rest = cut(pickle, at, pickle.len());
-    let word = cut(rest, 0, word_length(rest));
+    let rest = bytes_between(pickle, at, pickle.len());
+    let word = bytes_between(rest, 0, word_length(rest));
     let help = match word {
         [.., b'K' | b'M' | b'G', b'b' | b'B'] | [.., b'i', b'b' | b'B'] => {
             "units are `b`, `B` and whole numbers of bits behind `#`: write 4 KiB as `4#8192`"
@@ -262,12 +262,12 @@ fn help_number(alloc: Global, pickle: &[u8], at: usize) -> Result<Option<Vec<u8>
             None => return help_suffix(alloc, word, is_negated(pickle, at)),
         },
     };
-    fixed(alloc, help)
+    fixed_help(alloc, help)
 }
 
 /// Whether a number stands where the unit of an offset type does: behind a comma.
 fn is_unit(pickle: &[u8], at: usize) -> bool {
-    let mut before = cut(pickle, 0, at).iter().rev();
+    let mut before = bytes_between(pickle, 0, at).iter().rev();
     before.find(|byte| !byte.is_ascii_whitespace()) == Some(&b',')
 }
 
@@ -283,7 +283,7 @@ fn help_unit(alloc: Global, digits: &[u8]) -> Result<Option<Vec<u8>>, AllocError
                 .say(b" bytes")?;
             Ok(Some(text.into_bytes()))
         }
-        None => fixed(alloc, "a unit is a number of bits, `b` or `B`"),
+        None => fixed_help(alloc, "a unit is a number of bits, `b` or `B`"),
     }
 }
 
@@ -294,7 +294,7 @@ fn bits_in(bytes: &str) -> Option<usize> {
 
 /// Whether a minus sign stands before a number.
 fn is_negated(pickle: &[u8], at: usize) -> bool {
-    cut(pickle, at.saturating_sub(1), at) == b"-".as_slice()
+    bytes_between(pickle, at.saturating_sub(1), at) == b"-".as_slice()
 }
 
 /// The number with another suffix, if it is a number then.
@@ -307,8 +307,8 @@ fn help_suffix(alloc: Global, word: &[u8], negated: bool) -> Result<Option<Vec<u
             b'U' | b'u' | b'N' | b'n' | b'B' | b'b' | b'H' | b'h' | b'L' | b'l'
         ]
     );
-    let shorter = cut(word, 0, word.len().saturating_sub(1));
-    let shortest = cut(word, 0, word.len().saturating_sub(2));
+    let shorter = bytes_between(word, 0, word.len().saturating_sub(1));
+    let shortest = bytes_between(word, 0, word.len().saturating_sub(2));
     let first = if negated {
         shorter
     } else {
@@ -320,7 +320,7 @@ fn help_suffix(alloc: Global, word: &[u8], negated: bool) -> Result<Option<Vec<u
             return Ok(Some(text.into_bytes()));
         }
     }
-    fixed(
+    fixed_help(
         alloc,
         if is_digits(word) {
             "a number has at most 64 bits: the greatest is `18446744073709551615U`"

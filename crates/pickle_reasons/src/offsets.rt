@@ -1,6 +1,6 @@
 //! An operator between an offset and an integer, where it wants two offsets or two integers.
 
-use crate::clause::{IllTypedExpression, grouped, with_unit};
+use crate::clause::{IllTypedExpression, group_operand, with_unit};
 use pickle_source::script::{Script, TokenRange};
 use pickle_source::text::Text;
 use pickle_syntax::tree::{Expression, Infix};
@@ -74,7 +74,7 @@ impl<'a, 't> IllTypedExpression<'a, 't> {
                 None => self.number_of_bytes(mixed),
             },
             b"|" | b"^" | b"<<" | b">>" => self.number_of_bytes(mixed),
-            sign => match self.masked(mixed, sign) {
+            sign => match self.masked_offset(mixed, sign) {
                 Some((offset, mask)) => self.multiple_help(mixed, offset, mask),
                 None => self.unit_help(mixed.integer),
             },
@@ -82,7 +82,7 @@ impl<'a, 't> IllTypedExpression<'a, 't> {
     }
 
     /// The offset and the mask in `n & 3 == 0#B`, where the mask alone is compared. `None` for other operands.
-    fn masked(self, mixed: Mixed<'_, '_>, sign: &[u8]) -> Option<(TokenRange, Mask)> {
+    fn masked_offset(self, mixed: Mixed<'_, '_>, sign: &[u8]) -> Option<(TokenRange, Mask)> {
         let compares = matches!(sign, b"==" | b"!=") && mixed.integer.first == self.part.first;
         if !compares || self.script().text_before(self.part.first) != b"&".as_slice() {
             return None;
@@ -118,7 +118,7 @@ impl<'a, 't> IllTypedExpression<'a, 't> {
             b"for a multiple of `"
         };
         let sign: &[u8] = if mask.differs { b" != 0" } else { b" == 0" };
-        let offset = grouped(self.declared.alloc, self.script(), offset)?;
+        let offset = group_operand(self.declared.alloc, self.script(), offset)?;
         let text = self.text().say(b"`&` works on integers: ")?.say(lead)?;
         let text = say_unit(text.say_number(mask.multiple)?, mixed.unit)?;
         let text = text.say(b"` write `")?.show(offset.as_slice())?;
@@ -129,7 +129,7 @@ impl<'a, 't> IllTypedExpression<'a, 't> {
 
     /// The help for an offset whose number of bytes is wanted.
     fn number_of_bytes(self, mixed: Mixed<'_, '_>) -> Result<Text, AllocError> {
-        let offset = grouped(self.declared.alloc, self.script(), mixed.offset)?;
+        let offset = group_operand(self.declared.alloc, self.script(), mixed.offset)?;
         self.integers_only(mixed)?
             .say(b"write `")?
             .show(offset.as_slice())?

@@ -1,7 +1,7 @@
 //! Tokens in a row at which no pickle can go on, and sentences that have these tokens in them.
 
 use crate::types::is_predeclared;
-use pickle_source::script::{Script, TokenRange, cut};
+use pickle_source::script::{Script, TokenRange, bytes_between};
 use pickle_source::text::Text;
 use std::alloc::AllocError;
 
@@ -31,7 +31,7 @@ pub struct Around<'a, 't> {
 
 impl<'a, 't> Around<'a, 't> {
     /// The token that is refused, as the pickle has it. Empty at the pickle's end.
-    pub fn found(self) -> &'t [u8] {
+    pub fn token_text(self) -> &'t [u8] {
         self.script.text(self.token)
     }
 
@@ -130,7 +130,7 @@ fn say_part(text: Text, part: &[u8]) -> Result<Text, AllocError> {
     if part.len() <= MOST_SHOWN {
         return text.show(part);
     }
-    text.show(cut(part, 0, MOST_SHOWN))?.say(b"..")
+    text.show(bytes_between(part, 0, MOST_SHOWN))?.say(b"..")
 }
 
 /// Whether a token is a reserved word other than `type`.

@@ -7,7 +7,7 @@ use crate::pattern::Around;
 use pickle_source::budget::Budget;
 use pickle_source::near::nearest;
 use pickle_source::note::Note;
-use pickle_source::script::{Script, TokenRange, cut};
+use pickle_source::script::{Script, TokenRange, bytes_between};
 use pickle_source::text::Text;
 use std::alloc::{AllocError, Global};
 
@@ -39,7 +39,7 @@ pub fn syntax_note(alloc: Global, script: &Script<'_>, at: usize) -> Result<Note
         help,
     };
     if budget.is_spent() {
-        return unsearched(alloc, found, note);
+        return brief_note(alloc, found, note);
     }
     Ok(note)
 }
@@ -57,7 +57,7 @@ fn sentence(found: &[u8], front: &Front<'_>, expected: Expected) -> Result<Vec<u
 }
 
 /// A note at the same place, without what may be there.
-fn unsearched(alloc: Global, found: &[u8], note: Note) -> Result<Note, AllocError> {
+fn brief_note(alloc: Global, found: &[u8], note: Note) -> Result<Note, AllocError> {
     let text = Text::new(alloc);
     let text = if found.is_empty() {
         text.say(b"the pickle ends here, inside a declaration")?
@@ -131,10 +131,10 @@ fn is_behind_comments(script: &Script<'_>, token: usize) -> bool {
         Some(before) => script.behind(before),
         None => 0,
     };
-    let between = cut(script.bytes, from, script.first(token));
+    let between = bytes_between(script.bytes, from, script.first(token));
     let mut starts: usize = 0;
     for at in 0..between.len() {
-        if cut(between, at, at.saturating_add(2)) == b"/*".as_slice() {
+        if bytes_between(between, at, at.saturating_add(2)) == b"/*".as_slice() {
             starts = starts.saturating_add(1);
         }
     }
@@ -279,7 +279,7 @@ fn missing(
     let Some(before) = token.checked_sub(1) else {
         return Ok(None);
     };
-    let between = cut(script.bytes, script.behind(before), script.first(token));
+    let between = bytes_between(script.bytes, script.behind(before), script.first(token));
     let found = script.text(token);
     let closing = matches!(found, b"}" | b";" | b"{" | b")" | b"type" | b"");
     let unclosed = script.is_name(token) && front.goes_on(b"] n")?;

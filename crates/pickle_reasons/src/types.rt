@@ -9,7 +9,7 @@ use pickle_source::anatomy::{FieldParts, base, declaration, opening_brace};
 use pickle_source::line_column::place_behind;
 use pickle_source::near::nearest;
 use pickle_source::note::Note;
-use pickle_source::script::{Script, TokenRange, cut};
+use pickle_source::script::{Script, TokenRange, bytes_between};
 use pickle_source::site::Purpose;
 use pickle_source::text::Text;
 use pickle_syntax::tree::{Form, Pickle, Reference};
@@ -53,10 +53,10 @@ fn finding(
         return declared_twice(alloc, script, name);
     }
     let Some(tree) = script.tree(alloc) else {
-        return unlocated(alloc, kind, name);
+        return broken_rule(alloc, kind, name);
     };
     let Some(refused) = Refused::find(alloc, &tree)? else {
-        return unlocated(alloc, kind, name);
+        return broken_rule(alloc, kind, name);
     };
     refused_finding(alloc, script, &tree, &refused, whole)
 }
@@ -69,7 +69,7 @@ fn refused_finding<'a, 't>(
     refused: &'a Refused<'t>,
     whole: TokenRange,
 ) -> Result<Finding, AllocError> {
-    match located(script, tree, refused, whole) {
+    match locate_part(script, tree, refused, whole) {
         Some(located) => located_finding(Declared {
             alloc,
             script,
@@ -77,12 +77,12 @@ fn refused_finding<'a, 't>(
             whole,
             located,
         }),
-        None => unlocated(alloc, refused.fault.kind, whole),
+        None => broken_rule(alloc, refused.fault.kind, whole),
     }
 }
 
 /// The part of a declaration that is refused. `whole` has its tokens.
-fn located<'p, 't>(
+fn locate_part<'p, 't>(
     script: &Script<'_>,
     tree: &'p Pickle<'t>,
     refused: &Refused<'_>,
@@ -117,11 +117,11 @@ fn located_finding(declared: Declared<'_, '_>) -> Result<Finding, AllocError> {
 
 /// The finding for a part of which no more is told than the rule that it breaks.
 pub fn rule_finding(declared: Declared<'_, '_>, part: TokenRange) -> Result<Finding, AllocError> {
-    unlocated(declared.alloc, declared.kind(), part)
+    broken_rule(declared.alloc, declared.kind(), part)
 }
 
 /// The rule that some tokens break.
-fn unlocated(alloc: Global, kind: FaultKind, part: TokenRange) -> Result<Finding, AllocError> {
+fn broken_rule(alloc: Global, kind: FaultKind, part: TokenRange) -> Result<Finding, AllocError> {
     Ok(Finding {
         part,
         sentence: Text::new(alloc).say(rule_of(kind).as_bytes())?.into_bytes(),
@@ -155,7 +155,7 @@ fn declared_twice(
 }
 
 fn line_of(script: &Script<'_>, token: usize) -> usize {
-    place_behind(cut(script.bytes, 0, script.first(token))).line
+    place_behind(bytes_between(script.bytes, 0, script.first(token))).line
 }
 
 /// The earlier token that declares a name.
@@ -171,7 +171,7 @@ pub fn is_declared_as(script: &Script<'_>, token: usize, word: &[u8]) -> bool {
 /// What is wrong with a type, apart from its fields and expressions.
 fn of_type(declared: Declared<'_, '_>) -> Result<Finding, AllocError> {
     match declared.kind() {
-        FaultKind::TooDeep => unlocated(declared.alloc, FaultKind::TooDeep, deep_part(declared)),
+        FaultKind::TooDeep => broken_rule(declared.alloc, FaultKind::TooDeep, deep_part(declared)),
         FaultKind::NotHere => {
             let head = TokenRange::single(declared.located.tokens.first);
             let text = Text::new(declared.alloc).say(b"a union has at least one alternative")?;
@@ -267,7 +267,7 @@ fn of_base(declared: Declared<'_, '_>, base: TokenRange) -> Result<Finding, Allo
                 help: None,
             })
         }
-        kind => unlocated(declared.alloc, kind, base),
+        kind => broken_rule(declared.alloc, kind, base),
     }
 }
 
@@ -411,12 +411,12 @@ impl Width {
     /// The type that a word names so.
     fn of(word: &[u8]) -> Option<Width> {
         let first = word.iter().position(|byte| byte.is_ascii_digit())?;
-        let signed = match cut(word, 0, first) {
+        let signed = match bytes_between(word, 0, first) {
             b"uint" | b"unit" | b"Uint" | b"UInt" | b"UINT" | b"u" | b"U" | b"b" => false,
             b"int" | b"Int" | b"INT" | b"i" | b"s" => true,
             _ => return None,
         };
-        let digits = str::from_utf8(cut(word, first, word.len())).ok()?;
+        let digits = str::from_utf8(bytes_between(word, first, word.len())).ok()?;
         Some(Width {
             signed,
             bits: digits.parse().ok()?,
@@ -499,7 +499,7 @@ fn of_place(declared: Declared<'_, '_>, wide: bool) -> Result<Finding, AllocErro
     let Some(field) = declared.located.field else {
         return rule_finding(declared, declared.located.tokens);
     };
-    let (part, sentence) = misplaced(field, wide);
+    let (part, sentence) = misplaced_part(field, wide);
     let help = misplaced_help(alloc, script, &field.parts, part)?;
     Ok(Finding {
         part,
@@ -597,7 +597,7 @@ fn integral_order_help(
 }
 
 /// What may not be in a field. `wide` says whether its type has a width in bits.
-fn misplaced(field: LocatedField<'_, '_>, wide: bool) -> (TokenRange, &'static str) {
+fn misplaced_part(field: LocatedField<'_, '_>, wide: bool) -> (TokenRange, &'static str) {
     let parts = field.parts;
     let integral = matches!(field.around, Form::Integral(_, _));
     if integral && !wide {
