@@ -163,7 +163,11 @@ fn compare<'t>(
 ) -> Result<Option<Compared<'t>>, AllocError> {
     let (name, written, op) = match (&operation.left, &operation.right) {
         (Expression::Name(name), number) => (*name, Written::of(number), operation.op),
-        (number, Expression::Name(name)) => (*name, Written::of(number), turned(operation.op)),
+        (number, Expression::Name(name)) => (
+            *name,
+            Written::of(number),
+            exchange_sides(operation.op),
+        ),
         _ => return Ok(None),
     };
     let Some(written) = written else {
@@ -189,7 +193,7 @@ fn compare<'t>(
 }
 
 /// The operator with its sides exchanged.
-fn turned(op: Infix) -> Infix {
+fn exchange_sides(op: Infix) -> Infix {
     match op {
         Infix::Less => Infix::Greater,
         Infix::LessEqual => Infix::GreaterEqual,

@@ -79,7 +79,7 @@ pub fn integer_of(script: &Script<'_>, form: TokenRange) -> Option<IntegerType> 
     let signed = match script.text(form.first) {
         b"int<" => true,
         b"uint<" => false,
-        word if form.first.saturating_add(1) == form.end => return predeclared(word),
+        word if form.first.saturating_add(1) == form.end => return predeclared_type(word),
         _ => return None,
     };
     if form.first.saturating_add(3) != form.end {
@@ -103,7 +103,7 @@ fn width_of(digits: &[u8]) -> Option<u8> {
 }
 
 /// The type of a predeclared name.
-fn predeclared(word: &[u8]) -> Option<IntegerType> {
+fn predeclared_type(word: &[u8]) -> Option<IntegerType> {
     for (name, integer) in PREDECLARED {
         if name == word {
             return Some(integer);

@@ -1,6 +1,6 @@
 //! The fields and expressions of a pickle, each of which is looked at.
 
-use crate::arrays::{negative_bound, strings, swallowed};
+use crate::arrays::{negative_bound, strings, unbounded_array};
 use crate::bit_fields::literal_constraint;
 use crate::constants::constant_clause;
 use crate::fields::Seen;
@@ -141,7 +141,7 @@ impl<'a, 't> Walk<'a, 't> {
             form,
             at: whole.first,
         };
-        if let Some(note) = swallowed(&seen, &parts, place)? {
+        if let Some(note) = unbounded_array(&seen, &parts, place)? {
             self.notes.push(note)?;
         }
         if let Some(note) = strings(&seen, &parts)? {
