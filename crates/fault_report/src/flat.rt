@@ -3,7 +3,7 @@
 use itoa::Buffer;
 use pickle_map::known::Known;
 use pickle_map::{Kind, ValueRef};
-use pickle_source::script::cut;
+use pickle_source::script::bytes_between;
 use pickle_source::text::Text;
 use pickle_types::integer::IntegerType;
 use std::alloc::{AllocError, Global};
@@ -97,7 +97,7 @@ pub fn say_value(alloc: Global, text: Text, value: ValueRef<'_>) -> Result<Text,
         line => line,
     };
     if MOST_SHOWN < line.len() {
-        text.say(cut(line, 0, MOST_SHOWN))?.say(b"..")
+        text.say(bytes_between(line, 0, MOST_SHOWN))?.say(b"..")
     } else {
         text.say(line)
     }

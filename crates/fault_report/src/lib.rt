@@ -233,7 +233,7 @@ fn value_reasons(
     let Some(term) = term_text(scene.alloc, value, terms, mode, scene.bits, outcome)? else {
         return Ok(Vec::new(scene.alloc));
     };
-    let text = joined(term, arrays_text(scene, kept, outcome != Outcome::Done)?)?;
+    let text = join(term, arrays_text(scene, kept, outcome != Outcome::Done)?)?;
     Ok(text)
 }
 
@@ -256,7 +256,7 @@ fn fault_reasons(
         return none_stopped(scene.alloc, fault.kind);
     }
     let part = part_text(scene, &kept.fault)?;
-    let text = joined(part, arrays_text(scene, kept, true)?)?;
+    let text = join(part, arrays_text(scene, kept, true)?)?;
     Ok(text)
 }
 
@@ -299,7 +299,7 @@ fn is_outcome_of(outcome: Outcome, start: u64, most: Option<u64>, fault: MapFaul
     }
 }
 
-fn joined(front: Text, back: Text) -> Result<Vec<u8>, AllocError>
+fn join(front: Text, back: Text) -> Result<Vec<u8>, AllocError>
     ensures { IfOk result (λ text. text.items ≡ front.bytes.items ++ back.bytes.items) }
 {
     let back = back.into_bytes();

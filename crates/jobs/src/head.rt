@@ -24,7 +24,7 @@ pub fn wants_little(pickle: &[u8]) -> bool {
 pub fn head_of<'a>(name: &[u8], pickle: &'a [u8]) -> Head<'a> {
     let (first, rest) = line_of(pickle);
     let (second, _) = line_of(rest);
-    let (main, options) = parted(behind(second, b"// main: "), b", options: ");
+    let (main, options) = split_at_mark(behind(second, b"// main: "), b", options: ");
     let sentence = behind(behind(behind(first, b"// "), name), b": ");
     Head {
         main,
@@ -47,7 +47,7 @@ fn behind<'a>(text: &'a [u8], front: &[u8]) -> &'a [u8] {
 }
 
 // The text before a mark, and the text after it.
-fn parted<'a>(text: &'a [u8], mark: &[u8]) -> (&'a [u8], &'a [u8]) {
+fn split_at_mark<'a>(text: &'a [u8], mark: &[u8]) -> (&'a [u8], &'a [u8]) {
     for place in 0..text.len() {
         if let Some(rest) = text[place..].strip_prefix(mark) {
             return (&text[..place], rest);
