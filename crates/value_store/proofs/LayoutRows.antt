@@ -29,10 +29,19 @@ appended (Err e) old new bytes count w n is most room fits h =
     ap (take (bytes_for w)) is ∙ le_bytes-take (bytes_for w) n (omega (arith, most)) in
     absurd (false≢true (fits.1 (omega (arith, room, ap length own))))
 
+-- a value of fixed layout whose bytes fit a row that has so many
+pub record HasRoom (value : Names → Value) (count : ℕ) : Type 0 where
+  pub names : Names
+  pub fixed : IsFixed (value names)
+  pub few : count + row_length (value names) ≤ 512
+
+pub row-room : (value : StoredValue) (count : ℕ) → HasRow value count → HasRoom (λ names. value_of names value) count
+row-room value count h = record { names = h.names; fixed = h.fixed; few = h.few }
+
 -- a row has the bytes of a value itself, and of its first members
-abbrev pub HasRows : StoredValue → (before now : List ℕ) → (count : ℕ) → Type 0
+abbrev pub HasRows : (Names → Value) → (before now : List ℕ) → (count : ℕ) → Type 0
 HasRows value before now count = (names : Names) → now ≡
-    before ++ (label_row (label_of (value_of names value)) ++ rows_upto (members_of (value_of names value)) count)
+    before ++ (label_row (label_of (value names)) ++ rows_upto (members_of (value names)) count)
 
 -- the bytes of a number
 digits-label : (label : Label) (width : ℕ) (signed : Bool) (number : ℤ) → width ≡ width_of label → 0 < width →
@@ -68,6 +77,19 @@ width-fixed (UnionLabel name index alternative) start end ms p h = absurd h
 fixed-width : (v : Value) → 0 < width_of (label_of v) → IsFixed v → width_of (label_of v) ≤ 64
 fixed-width (Mapped label start end ms) p h = width-fixed label start end ms p h.0
 
+alone-fixed : (label : Label) (start end : ℕ) (ms : Members) → 0 < width_of label → IsFixedLabel label start end ms →
+    member_count ms ≡ 0
+alone-fixed (IntegerLabel z type) start end ms p h = ap member_count h.none
+alone-fixed (OffsetLabel z type unit) start end ms p h = ap member_count h.0.none
+alone-fixed (TextLabel bytes) start end ms p h = absurd h
+alone-fixed ArrayLabel start end ms p h = absurd (omega (arith, p))
+alone-fixed (StructLabel name fields) start end ms p h = absurd (omega (arith, p))
+alone-fixed (UnionLabel name index alternative) start end ms p h = absurd h
+
+-- a number has no members
+fixed-alone : (v : Value) → 0 < width_of (label_of v) → IsFixed v → member_count (members_of v) ≡ 0
+fixed-alone (Mapped label start end ms) p h = alone-fixed label start end ms p h.0
+
 pub row-parts : (v : Value) → row_of v ≡ label_row (label_of v) ++ rows_of (members_of v)
 row-parts (Mapped label start end ms) = refl
 
@@ -78,26 +100,26 @@ pub fixed-parts : (v : Value) → IsFixed v → AreFixed (end_of v) (members_of 
 fixed-parts (Mapped label start end ms) h = h.1
 
 -- a number's bytes have room
-module _ (value : StoredValue) (width : ℕ) (signed : Bool) (number : ℤ) (p : 0 < width)
-    (e : (names : Names) → width ≡ width_of (label_of (value_of names value)))
-    (n : (names : Names) → number ≡ number_of (label_of (value_of names value))) where
+module _ (value : Names → Value) (width : ℕ) (signed : Bool) (number : ℤ) (p : 0 < width)
+    (e : (names : Names) → width ≡ width_of (label_of (value names)))
+    (n : (names : Names) → number ≡ number_of (label_of (value names))) where
   abbrev type : IntegerType
   type = record { width = width; signed = signed }
 
-  pub own-width : (count : ℕ) → HasRow value count → IsWidth (record { width = width; signed = signed })
+  pub own-width : (count : ℕ) → HasRoom value count → IsWidth (record { width = width; signed = signed })
   own-width count h = record {
     some = omega (arith, p);
     most = omega (
       arith,
       e h.names,
-      fixed-width (value_of h.names value) (omega (arith, p, e h.names)) h.fixed,
+      fixed-width (value h.names) (omega (arith, p, e h.names)) h.fixed,
     );
   }
 
-  pub own-room : (count : ℕ) → HasRow value count →
+  pub own-room : (count : ℕ) → HasRoom value count →
       count + length (digits_row (record { width = width; signed = signed }) number) ≤ 512
   own-room count h =
-      let v = value_of h.names value in
+      let v = value h.names in
       omega (
         arith,
         h.few,
@@ -106,54 +128,62 @@ module _ (value : StoredValue) (width : ℕ) (signed : Bool) (number : ℤ) (p :
         length-label (label_of v),
       )
 
+  -- there are no other bytes
+  pub number-alone : (count parts : ℕ) → HasRoom value count →
+      ((names : Names) → parts ≡ member_count (members_of (value names))) →
+      (names : Names) → 0 ≡ member_count (members_of (value names))
+  number-alone count parts h is = λ names.
+      let none = fixed-alone (value h.names) (omega (arith, p, e h.names)) h.fixed in
+      omega (arith, is names, is h.names, none)
+
   -- the members begin after the value's own bytes
   pub rows-number : (before now : List ℕ) →
       now ≡ before ++ digits_row (record { width = width; signed = signed }) number →
       HasRows value before now 0
   rows-number before now is = λ names.
-      let l = label_of (value_of names value) in
+      let l = label_of (value names) in
       is ∙ ap (λ bs. before ++ bs) (sym (digits-label l width signed number (e names) p (n names))
       ∙ sym (append-nil (label_row l)))
 
-pub rows-none : (value : StoredValue) (before : List ℕ) (width : ℕ) → (0 < width → ⊥) →
-    ((names : Names) → width ≡ width_of (label_of (value_of names value))) → HasRows value before before 0
+pub rows-none : (value : Names → Value) (before : List ℕ) (width : ℕ) → (0 < width → ⊥) →
+    ((names : Names) → width ≡ width_of (label_of (value names))) → HasRows value before before 0
 rows-none value before width none e = λ names.
-    let l = label_of (value_of names value) in
+    let l = label_of (value names) in
     let zero_width : 0 ≡ width_of l = omega (arith, e names, none) in
     sym (ap (λ bs. before ++ (bs ++ [])) (no-number l zero_width) ∙ append-nil before)
 
 -- one more member
-pub rows-more : (value part : StoredValue) (before now next : List ℕ) (i : ℕ) → HasRows value before now i →
-    ((names : Names) → Some (value_of names part) ≡ member_at (members_of (value_of names value)) i) →
-    ((names : Names) → next ≡ now ++ row_of (value_of names part)) → HasRows value before next (i + 1)
+pub rows-more : (value part : Names → Value) (before now next : List ℕ) (i : ℕ) → HasRows value before now i →
+    ((names : Names) → Some (part names) ≡ member_at (members_of (value names)) i) →
+    ((names : Names) → next ≡ now ++ row_of (part names)) → HasRows value before next (i + 1)
 rows-more value part before now next i h e more = λ names.
-    let v = value_of names value in
+    let v = value names in
     let own = label_row (label_of v) in
     let one : suc i ≡ i + 1 = omega arith in
     more names
-    ∙ ap (λ bs. bs ++ row_of (value_of names part)) (h names)
-    ∙ append_assoc before (own ++ rows_upto (members_of v) i) (row_of (value_of names part))
-    ∙ ap (λ bs. before ++ bs) (append_assoc own (rows_upto (members_of v) i) (row_of (value_of names part))
-    ∙ ap (λ bs. own ++ bs) (sym (rows-next (members_of v) i (value_of names part) (sym (e names)))
+    ∙ ap (λ bs. bs ++ row_of (part names)) (h names)
+    ∙ append_assoc before (own ++ rows_upto (members_of v) i) (row_of (part names))
+    ∙ ap (λ bs. before ++ bs) (append_assoc own (rows_upto (members_of v) i) (row_of (part names))
+    ∙ ap (λ bs. own ++ bs) (sym (rows-next (members_of v) i (part names) (sym (e names)))
     ∙ ap (rows_upto (members_of v)) one))
 
-pub rows-skipped : (value : StoredValue) (before now : List ℕ) (i : ℕ) → HasRows value before now i →
-    ((names : Names) → None ≡ member_at (members_of (value_of names value)) i) → HasRows value before now (i + 1)
+pub rows-skipped : (value : Names → Value) (before now : List ℕ) (i : ℕ) → HasRows value before now i →
+    ((names : Names) → None ≡ member_at (members_of (value names)) i) → HasRows value before now (i + 1)
 rows-skipped value before now i h e = λ names.
-    let v = value_of names value in
+    let v = value names in
     let one : suc i ≡ i + 1 = omega arith in
     h names ∙ ap (λ bs. before ++ (label_row (label_of v) ++ bs))
     (sym (rows-absent (members_of v) i (sym (e names))) ∙ ap (rows_upto (members_of v)) one)
 
 -- a member's bytes have room
-pub member-room : (value part : StoredValue) (before now : List ℕ) (i : ℕ) → HasRow value (length before) →
+pub member-room : (value part : Names → Value) (before now : List ℕ) (i : ℕ) → HasRoom value (length before) →
     HasRows value before now i →
-    ((names : Names) → Some (value_of names part) ≡ member_at (members_of (value_of names value)) i) →
-    HasRow part (length now)
+    ((names : Names) → Some (part names) ≡ member_at (members_of (value names)) i) →
+    HasRoom part (length now)
 member-room value part before now i h rows e =
-    let v = value_of h.names value in
+    let v = value h.names in
     let own = label_row (label_of v) in
-    let w = value_of h.names part in
+    let w = part h.names in
     let there = sym (e h.names) in
     record {
       names = h.names;
@@ -172,11 +202,11 @@ member-room value part before now i h rows e =
     }
 
 -- all members
-pub rows-whole : (value : StoredValue) (before now : List ℕ) (count : ℕ) → HasRows value before now count →
-    ((names : Names) → count ≡ member_count (members_of (value_of names value))) →
-    (names : Names) → now ≡ before ++ row_of (value_of names value)
+pub rows-whole : (value : Names → Value) (before now : List ℕ) (count : ℕ) → HasRows value before now count →
+    ((names : Names) → count ≡ member_count (members_of (value names))) →
+    (names : Names) → now ≡ before ++ row_of (value names)
 rows-whole value before now count h all = λ names.
-    let v = value_of names value in
+    let v = value names in
     h names
     ∙ ap (λ bs. before ++ (label_row (label_of v) ++ bs))
     (ap (rows_upto (members_of v)) (all names) ∙ rows-all (members_of v))

@@ -26,6 +26,7 @@ pub mod Linked
 pub mod RecordsRead
 pub mod LayoutSizes
 pub mod LayoutRows
+pub mod LayoutNodes
 pub mod LayoutJoined
 pub mod LayoutPlaced
 pub mod Gathering

@@ -4,6 +4,7 @@ use Rattle.pickle_meaning.specs.Values.{ArrayLabel, Value, Mapped, Levels, pushe
 use Rattle.value_store.specs.declared.store.slots.Marks.{Marks}
 use Rattle.value_store.specs.declared.store.slots.Node.{Node}
 use Rattle.value_store.specs.declared.store.slots.Place.{Place}
+use Rattle.value_store.specs.declared.store.slots.Place.TheVariants as place
 use Rattle.value_store.specs.declared.stored.StoredValue.{StoredValue}
 use Rattle.value_store.specs.Gathering.{last_value, IsGathering}
 use Rattle.value_store.specs.Layouts.{row_of, row_length, template_of, templates_upto, length_upto, value_size, packs_value, IsFixed, IsStructLabel}
@@ -211,6 +212,10 @@ pub record IsCopied (s : Slots) (place : Place) (at : ℕ) : Type 0 where
   pub names : Names
   pub fixed : IsFixed (place_value names s place)
   pub few : at + row_length (place_value names s place) ≤ 512
+
+-- such a value is at a node
+abbrev pub IsNodeCopied : Slots → (node at : ℕ) → Type 0
+IsNodeCopied s node at = IsCopied s (place.Node node) at
 
 -- a part of a struct of `size` bits and `stride` bytes
 pub record IsInStruct (value : Value) (at size stride start : ℕ) : Type 0 where

@@ -4,14 +4,15 @@ ghost use Rattle.arrayvec.specs.ArrayVec.{array_vec_len};
 ghost use Rattle.pickle_types.specs.Table.{IsWidth};
 ghost use Rattle.value_store.specs.Below.{KeepsBelow};
 ghost use Rattle.value_store.specs.Gathering.{TakesRecord};
-ghost use Rattle.value_store.specs.LayoutArrays.{AreArrayMarks, CannotDraft, CannotDraftArray, CannotHoldArray, CannotJoin, CannotPackFirst, CannotPackNext, DraftsTemplate, HasGrown, HasRow, HasRowAt, HoldsFirst, IsAbove, IsCopied, IsRowAt, KeepsRow, LacksRow, MovesAsFirst, MovesAsNext, MovesFirst, PlacesTemplate, TakesFirst, PacksFirst, TakesNext, PacksNext};
+ghost use Rattle.value_store.specs.LayoutArrays.{AreArrayMarks, CannotDraft, CannotDraftArray, CannotHoldArray, CannotJoin, CannotPackFirst, CannotPackNext, DraftsTemplate, HasGrown, HasRow, HasRowAt, HoldsFirst, IsAbove, IsCopied, IsNodeCopied, IsRowAt, KeepsRow, LacksRow, MovesAsFirst, MovesAsNext, MovesFirst, PlacesTemplate, TakesFirst, PacksFirst, TakesNext, PacksNext};
 ghost use Rattle.value_store.specs.Layouts.{digits_row, row_of};
 ghost use Rattle.value_store.specs.Moves.{Moves, PacksRecord};
 ghost use Rattle.value_store.specs.Names.{Names};
+ghost use Rattle.value_store.specs.Packed.{bytes_for, number_bytes};
 ghost use Rattle.value_store.specs.Refs.{value_of};
-ghost use Rattle.value_store.specs.Slots.{level_count, cut_to, with_family, with_more, AreLevels, HasSlots, HoldsInRoom, IsComposite, KeepsRoom, Regrown};
+ghost use Rattle.value_store.specs.Slots.{level_count, value_at, cut_to, with_family, with_more, AreLevels, HasSlots, HoldsInRoom, IsComposite, KeepsRoom, Regrown};
 
-use crate::ranges::modulo;
+use crate::ranges::{low_digits, modulo};
 use crate::store::Store;
 use crate::store::append::append;
 use crate::store::place::{move_above, reserve_above, reserve_moved};
@@ -25,14 +26,23 @@ use pickle_types::integer::IntegerType;
 /// The bytes of a struct: of its numbers one after the other, the lowest byte of each first.
 type Row = ArrayVec<u8, 512>;
 
+// Appends the bytes of a number of `width` binary digits.
+fn append_number(row: &mut Row, width: u8, digits: u64)
+    requires width { width ≤ 64 }
+    requires room { array_vec_len row.old + bytes_for width ≤ 512 }
+    ensures { row.new.items ≡ row.old.items ++ number_bytes (bytes_for width) digits }
+{
+    let bytes = digits.to_le_bytes();
+    let _fits = row.try_extend_from_slice(&bytes[..bytes_for(width)]);
+}
+
 // Appends the binary digits of a number of a type.
 fn append_digits(row: &mut Row, number_type: IntegerType, number: i128)
     requires width { IsWidth number_type }
     requires room { array_vec_len row.old + length (digits_row number_type number) ≤ 512 }
     ensures { row.new.items ≡ row.old.items ++ digits_row number_type number }
 {
-    let bytes = modulo(number_type.width, number).to_le_bytes();
-    let _fits = row.try_extend_from_slice(&bytes[..bytes_for(number_type.width)]);
+    append_number(row, number_type.width, modulo(number_type.width, number));
 }
 
 // Appends the bytes of the numbers of a value.
@@ -44,6 +54,9 @@ fn append_row(value: StoredValue<'_>, row: &mut Row)
     if width > 0 {
         let signed = value.signed();
         append_digits(row, IntegerType { width, signed }, value.number());
+        // Nothing of this is read at run time. The call only proves that a number has no parts.
+        let _none = value.len();
+        return;
     }
     let links = value.links();
     let packed = value.packed();
@@ -192,6 +205,32 @@ impl Store {
         self.texts[last] = self.bytes.len();
     }
 
+    // Appends the bytes of the numbers of the value at a node. The digits of a number are in its node.
+    fn append_node(&self, at: usize, row: &mut Row)
+        requires { IsNodeCopied self.now.slots at (array_vec_len row.old) }
+        ensures { (names : Names) → row.new.items ≡ row.old.items ++ row_of (value_at names self.now.slots at) }
+    {
+        let node = self.node_at(at);
+        let width = node.shape.number_bits();
+        if width > 0 {
+            append_number(row, width, low_digits(width, u128::from(node.content)));
+            return;
+        }
+        let value = StoredValue::new(self, Place::Node(at));
+        let packed = value.packed();
+        if packed > 0 {
+            append_row(value, row);
+            return;
+        }
+        let links = value.links();
+        for i in 0..links.len() {
+            match links[i].target() {
+                Some(part) => self.append_node(part, row),
+                None => {}
+            }
+        }
+    }
+
     // Appends the bytes of a part of the innermost open value.
     fn append_part(&self, i: usize, row: &mut Row)
         requires part { HasRowAt self.now i }
@@ -199,7 +238,7 @@ impl Store {
         ensures { IsRowAt self.now i row.new.items }
     {
         match self.part_at(0, i) {
-            Some(node) => append_row(StoredValue::new(self, Place::Node(node)), row),
+            Some(node) => self.append_node(node, row),
             None => {}
         }
     }
