@@ -15,6 +15,7 @@ use crate::part::{
 };
 use crate::site::{Inner, stop_of};
 use bit_space::{Meter, Space};
+use pickle_map::mapper::packings::Packings;
 use pickle_map::mapper::watch::{Unwatched, Watch};
 use pickle_meaning::faults::MapFault;
 use pickle_types::view::{Node, Shape};
@@ -66,11 +67,8 @@ pub fn find_there<S: Space, W: Watch>(
         order: whole.order,
         start: u128::from(whole.start),
     };
-    let mut checker = Checker {
-        nodes: whole.table.nodes(),
-        meter,
-        store,
-    };
+    let mut packings = Packings::new();
+    let mut checker = Checker::new(whole.table.nodes(), &mut packings, meter, store);
     checker.follow(bare_part(inner), claim.fault, claim.path, space, watch)
 }
 

@@ -132,12 +132,14 @@ impl Checker<'_> {
         ensures spends { SpendsCut self.old self.new number result }
     {
         self.meter.tick()?;
-        let mut mapper = Mapper {
-            nodes: self.nodes,
-            meter: self.meter,
-            store: self.store,
-            watch: &mut Unwatched,
-        };
+        let mut watch = Unwatched;
+        let mut mapper = Mapper::new(
+            self.nodes,
+            self.packings,
+            self.meter,
+            self.store,
+            &mut watch,
+        );
         mapper.place_number(number.node, number.digits, number.start)
     }
 

@@ -13,6 +13,7 @@ use crate::checker::Checker;
 use crate::part::{TypeStart, array_at, struct_at, union_at};
 use crate::site::{Cut, Ended, Inner, Site, fault_in, keep};
 use bit_space::{Meter, Space};
+use pickle_map::mapper::packings::Packings;
 use pickle_map::mapper::read::read_digits;
 use pickle_types::integer::IntegerType;
 use pickle_types::view::Shape;
@@ -43,11 +44,8 @@ pub fn find_part<S: Space>(
         order: whole.order,
         start: u128::from(whole.start),
     };
-    let mut checker = Checker {
-        nodes: whole.table.nodes(),
-        meter,
-        store,
-    };
+    let mut packings = Packings::new();
+    let mut checker = Checker::new(whole.table.nodes(), &mut packings, meter, store);
     let located = checker.locate(inner, &mut path, space);
     checker.store.clear();
     located?;

@@ -40,12 +40,7 @@ impl Checker<'_> {
         requires part { MayMap self.old inner.node }
         ensures { MapsInner (S.view space.old) (S.view space.new) self.old self.new inner result }
     {
-        let mut mapper = Mapper {
-            nodes: self.nodes,
-            meter: self.meter,
-            store: self.store,
-            watch,
-        };
+        let mut mapper = Mapper::new(self.nodes, self.packings, self.meter, self.store, watch);
         mapper.map_type(inner.node, inner.order, inner.start, space)
     }
 

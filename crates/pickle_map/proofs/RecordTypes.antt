@@ -17,7 +17,7 @@ use Rattle.value_store.specs.PackedStructs.{struct_bytes}
 use Rattle.value_store.specs.Slots.{number_bits}
 use Rattle.value_store.proofs.Packed.{le_bytes-take, length-number_bytes}
 use Rattle.mapping_plans.specs.Avoids.{IsScalar}
-use Rattle.mapping_plans.specs.Rows.{Records, scalar_shape, scalar_width, column_width, column_widths, stride_of, struct_row, or_values, layout_of, row_of}
+use Rattle.mapping_plans.specs.Rows.{Records, scalar_shape, scalar_width, column_width, column_widths, stride_of, row_of}
 use Rattle.mapping_plans.proofs.StructRows.{column_is, both_are, columns_are, packed_struct_is}
 use Rattle.pickle_map.specs.Columns.{shapes_of}
 use Rattle.pickle_map.specs.Row.{IsRecordType}
@@ -71,11 +71,11 @@ stride_is types (f ∷ fs) widths h =
 module _ (nodes : List Node) (table : IsTable nodes) (at : ℕ) (inside : at < length nodes) (other : Node) where
   pub record_type : (name : Option Name) (pinned : Bool) (fields : Vec Field Global) (now : List Field)
       (widths : List ℕ) → (get_or nodes at other).shape ≡ shape.Struct name pinned fields → now ≡ fields.items →
-      struct_row pinned (open_fields (type_of nodes) now) ≡ Records widths → IsRecordType nodes at now
+      row_of (type_of nodes at) ≡ Records widths → IsRecordType nodes at now
   record_type name pinned fields now widths is e row =
       let opened = struct_opened nodes table at inside other name pinned fields now is e in
       let type = StructOf (title_at nodes at) pinned (open_fields (type_of nodes) now) in
-      let own : row_of type ≡ Records widths = ap (λ r. or_values r (layout_of 0 type)) row in
+      let own : row_of type ≡ Records widths = sym (ap row_of opened) ∙ row in
       let p = packed_struct_is type widths own in
       let plain : pinned ≡ false = let same = p.is in cc in
       let same : p.fields ≡ open_fields (type_of nodes) now = let same = p.is in cc in
@@ -87,7 +87,7 @@ module _ (nodes : List Node) (table : IsTable nodes) (at : ℕ) (inside : at < l
         sound = rw e (sound_as nodes table at inside other _ is);
         columns = columns_are (open_fields (type_of nodes) now) widths wide;
         widths = widths;
-        row = ap row_of opened ∙ own;
+        row = row;
         stride = stride_is (type_of nodes) now widths wide;
         some = p.some;
         few = p.few;

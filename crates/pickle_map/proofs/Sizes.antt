@@ -8,16 +8,11 @@ use Rattle.pickle_types.specs.declared.integer.IntegerType.{IntegerType}
 use Rattle.pickle_types.specs.declared.node.Field.{Field}
 use Rattle.pickle_types.specs.declared.node.Node.{Node}
 use Rattle.pickle_types.specs.declared.node.Part.{Part}
-use Rattle.pickle_types.specs.Table.{type_of, open_fields, open_parts, optional_term, FieldsBelow, PartsBelow}
+use Rattle.pickle_types.specs.Table.{open_fields, open_parts, optional_term, FieldsBelow, PartsBelow}
 use Rattle.pickle_meaning.specs.Values.{Naming}
-use Rattle.value_store.specs.declared.store.room.Room.{Room}
-use Rattle.value_store.specs.Slots.{packs}
 use Rattle.mapping_plans.specs.Rows.{Row, Apart, Values, Layout, clause_avoids, field_layout, fields_layout, layout_of, layout_then, or_values, parts_layout, row_of, some_bytes, struct_row, whole_number}
-use Rattle.pickle_map.specs.declared.mapper.packed_numbers.Packing.{Packing}
-use Rattle.pickle_map.specs.declared.mapper.packed_numbers.Packing.TheVariants as packing
 use Rattle.pickle_map.specs.declared.mapper.layouts.FixedSize.{FixedSize}
 use Rattle.pickle_map.specs.Layouts.{HasPartPlace, HasPlace, IsSizeOf}
-use Rattle.pickle_map.specs.Row.{PacksLaid, PacksOrNot}
 
 -- ---- sums
 
@@ -181,7 +176,7 @@ parts_places nodes level at inside ps below i d lt = let under = below i d lt in
 -- ---- how elements are kept
 
 -- what is kept of a layout
-abbrev kept_as : Option Layout → Row
+abbrev pub kept_as : Option Layout → Row
 kept_as None = Apart
 kept_as (Some l) = Values l.bytes
 
@@ -198,12 +193,3 @@ struct_keeps name pinned fields own row is =
 pub integral_keeps : (name : Naming) (type : IntegerType) (fields : Parts) (own : Option Layout) →
     layout_of 0 (IntegralOf name type fields) ≡ own → row_of (IntegralOf name type fields) ≡ kept_as own
 integral_keeps name type fields own is = ap (or_values Apart) is ∙ as_kept own
-
-pub laid_or_not : (nodes : List Node) (element : ℕ) (how : Packing) (room : Room) → packs room ≡ true →
-    ((own : Option Layout) → layout_of 0 (type_of nodes element) ≡ own → row_of (type_of nodes element) ≡ kept_as own) →
-    PacksLaid how (layout_of 0 (type_of nodes element)) → PacksOrNot nodes element how room
-laid_or_not nodes element packing.Apart room some keeps none = λ same. keeps None none
-laid_or_not nodes element (packing.Numbers shape) room some keeps laid = absurd laid
-laid_or_not nodes element (packing.Records fields) room some keeps laid = absurd laid
-laid_or_not nodes element packing.Values room some keeps laid =
-    record { stride = laid.0.bytes; row = keeps (Some laid.0) laid.1; packs = some }

@@ -30,6 +30,7 @@ module _ {W : Type 0} where
   -- the mapper still has the table, the meter and the store that it borrowed
   pub record StaysLent (old new : Mapper W) : Type 0 where
     pub nodes : new.nodes.now ≡ old.nodes.now
+    pub packings : new.packings.ghost_name ≡ old.packings.ghost_name
     pub meter : new.meter.ghost_name ≡ old.meter.ghost_name
     pub store : new.store.ghost_name ≡ old.store.ghost_name
 

@@ -9,6 +9,7 @@ pub mod Columns
 pub mod Layouts
 pub mod Records
 pub mod LaidArrays
+pub mod Packings
 pub mod Settles
 pub mod Settled
 pub mod Mappable

@@ -1,5 +1,5 @@
 -- Arrays of numbers that a store packs, while they are mapped.
-use Rattle.std.specs.Prelude.{◌≡◌, ℕ, ◌+◌, ◌*◌, ◌≤◌, length, map, All, List, ◌∷◌, Option, Some, None, Result, Ok, true, false}
+use Rattle.std.specs.Prelude.{◌≡◌, ℕ, ◌+◌, ◌*◌, ◌≤◌, length, map, All, List, ◌∷◌, Result, Ok, true, false}
 use Rattle.pickle_types.specs.Types.{PokeType, IntegerOf, OffsetOf, StructOf}
 use Rattle.pickle_types.specs.declared.node.Node.{Node}
 use Rattle.bit_space.specs.declared.meter.Meter.{Meter}
@@ -13,7 +13,7 @@ use Rattle.pickle_map.specs.Follows.{Done}
 use Rattle.pickle_meaning.specs.Means.{Opened}
 use Rattle.mapping_plans.specs.Plan.{Plan}
 use Rattle.mapping_plans.specs.Avoids.{AreColumns}
-use Rattle.mapping_plans.specs.Rows.{Apart, Records, Values, Layout, row_of, stride_of}
+use Rattle.mapping_plans.specs.Rows.{Apart, Records, Values, row_of, stride_of}
 use Rattle.value_store.specs.Names.{title_at, names_at, field_name}
 use Rattle.value_store.specs.PackedStructs.{struct_bytes}
 use Rattle.pickle_types.specs.declared.node.Field.{Field}
@@ -64,13 +64,6 @@ pub record PacksValues (ty : PokeType) (room : Room) : Type 0 where
   pub stride : ℕ
   pub row : row_of ty ≡ Values stride
   pub packs : packs room ≡ true
-
--- elements that have a layout are kept as values, others apart
-abbrev pub PacksLaid : Packing → Option Layout → Type 0
-PacksLaid packing.Apart own = own ≡ None
-PacksLaid (packing.Numbers shape) own = ⊥
-PacksLaid (packing.Records fields) own = ⊥
-PacksLaid packing.Values own = (l : Layout) × (own ≡ Some l)
 
 -- how a store keeps the elements of an array of the type at a place of the table
 abbrev pub PacksOrNot : List Node → (element : ℕ) → Packing → Room → Type 0

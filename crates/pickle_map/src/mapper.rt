@@ -15,6 +15,7 @@ pub(crate) mod packed_fields;
 pub(crate) mod packed_numbers;
 pub(crate) mod packed_structs;
 pub(crate) mod packed_values;
+pub mod packings;
 pub mod read;
 pub(crate) mod start;
 pub mod state;
@@ -25,6 +26,7 @@ pub mod watch;
 pub(crate) mod watched_clauses;
 
 use bit_space::{Meter, Order, Space};
+use packings::Packings;
 use pickle_meaning::faults::{MapFault, MapFaultKind};
 use pickle_types::table::{Table, TypeId};
 use state::Mapper;
@@ -107,12 +109,8 @@ pub fn map_watched<S: Space, W: Watch>(
     ensures { MapsNamed table.now id order start (S.view space.old) (S.view space.new) meter.old meter.new
         store.old store.new result }
 {
-    let mut mapper = Mapper {
-        nodes: table.nodes(),
-        meter,
-        store,
-        watch,
-    };
+    let mut packings = Packings::new();
+    let mut mapper = Mapper::new(table.nodes(), &mut packings, meter, store, watch);
     match mapper.map_type(id.node, order, u128::from(start), space) {
         Ok(_) => {
             let _fixed = mapper.store.never_grows();

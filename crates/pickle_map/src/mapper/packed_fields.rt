@@ -98,8 +98,8 @@ fn column_width(nodes: &[Node], field: &Field) -> Option<u8>
 const MOST_BYTES: usize = 512;
 
 /// How many bytes the numbers of a struct with such fields take side by side, if all of them are such numbers and take
-/// at most 512 bytes. No field is looked at after one that is no such number, or after 512 bytes, since this is called
-/// for each array.
+/// at most 512 bytes. No field is looked at after one that is no such number, or after 512 bytes, since a type may have
+/// many fields.
 pub(crate) fn stride_of(nodes: &[Node], fields: &[Field]) -> Option<usize>
     requires table { IsTable nodes.now }
     requires fields { All (HasNode nodes.now) fields.now }

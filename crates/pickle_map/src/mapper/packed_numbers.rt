@@ -1,18 +1,16 @@
 //! Arrays of numbers that the store packs.
 
-ghost use Rattle.std.specs.Prelude.{◌*◌, ◌<◌, ◌≤◌, [], length, All, IfOk};
-ghost use Rattle.mapping_plans.specs.Rows.{layout_of, struct_row};
-ghost use Rattle.pickle_map.specs.Columns.{HasNode, ArePacked};
-ghost use Rattle.pickle_types.specs.Table.{IsTable, type_of, open_fields};
+ghost use Rattle.std.specs.Prelude.{◌*◌, ◌<◌, ◌≤◌, [], length, IfOk};
+ghost use Rattle.pickle_types.specs.Table.{IsTable, type_of};
 ghost use Rattle.pickle_map.specs.AtWork.{Frame, LevelStays, LeavesLevel, Closes, PacksRow};
 ghost use Rattle.pickle_map.specs.Calls.{as_array_level};
 ghost use Rattle.pickle_map.specs.Framed.{IsEnd};
-ghost use Rattle.pickle_map.specs.Row.{PacksAs, PacksLaid, PacksOrNot};
+ghost use Rattle.pickle_map.specs.Packings.{AreKept};
+ghost use Rattle.pickle_map.specs.Row.{PacksAs, PacksOrNot};
 ghost use Rattle.value_store.specs.Slots.{levels, IsPacking, level_count};
 ghost use Rattle.pickle_meaning.specs.Values.{outer_of};
 
-use crate::mapper::layouts::is_laid;
-use crate::mapper::packed_fields::stride_of;
+use crate::mapper::packings::{Kept, Packings};
 use crate::mapper::read::read_digits;
 use crate::mapper::start::Start;
 use crate::mapper::state::Mapper;
@@ -34,39 +32,18 @@ pub(crate) enum Packing<'a> {
     Values,
 }
 
-// Whether structs with such fields are packed in an array.
-fn packs_structs(nodes: &[Node], pinned: bool, fields: &[Field]) -> bool
-    requires table { IsTable nodes.now }
-    requires fields { All (HasNode nodes.now) fields.now }
-    ensures { ArePacked result (struct_row pinned (open_fields (type_of nodes.now) fields.now)) }
-{
-    if pinned {
-        return false;
-    }
-    match stride_of(nodes, fields) {
-        None => false,
-        Some(stride) => 1 <= stride,
-    }
-}
-
-// How the elements of an array are kept that are no numbers and no structs of numbers.
-fn packing_of_values<'a>(nodes: &'a [Node], element: usize) -> Packing<'a>
+/// How the elements of an array are kept, whose type is the one at a place of the table. A struct is looked at once.
+pub(crate) fn packing_of<'a>(
+    nodes: &'a [Node],
+    element: usize,
+    store: &Store,
+    packings: &mut Packings,
+) -> Packing<'a>
     requires table { IsTable nodes.now }
     requires element { element < length nodes.now }
-    ensures { PacksLaid result (layout_of 0 (type_of nodes.now element)) }
-{
-    if is_laid(nodes, element) {
-        Packing::Values
-    } else {
-        Packing::Apart
-    }
-}
-
-/// How the elements of an array are kept, whose type is the one at a place of the table.
-pub(crate) fn packing_of<'a>(nodes: &'a [Node], element: usize, store: &Store) -> Packing<'a>
-    requires table { IsTable nodes.now }
-    requires element { element < length nodes.now }
-    ensures { PacksOrNot nodes.entry.now element result store.now.room }
+    requires kept { AreKept nodes.now packings.old }
+    ensures is { PacksOrNot nodes.entry.now element result store.now.room }
+    ensures kept { AreKept nodes.entry.now packings.new }
 {
     if !store.packs() {
         return Packing::Apart;
@@ -81,18 +58,19 @@ pub(crate) fn packing_of<'a>(nodes: &'a [Node], element: usize, store: &Store) -
             signed: number.signed,
             unit: *unit,
         }),
-        Type::Struct {
-            name: _,
-            pinned,
-            fields,
-        } => {
-            if packs_structs(nodes, *pinned, fields) {
-                Packing::Records(fields)
-            } else {
-                packing_of_values(nodes, element)
+        Type::Struct { fields, .. } => {
+            match packings.kind_of(nodes, element, *fields.allocator()) {
+                Kept::Apart => Packing::Apart,
+                Kept::Records => Packing::Records(fields),
+                Kept::Values => Packing::Values,
             }
         }
-        Type::Integral { .. } => packing_of_values(nodes, element),
+        Type::Integral { fields, .. } => {
+            match packings.kind_of(nodes, element, *fields.allocator()) {
+                Kept::Values => Packing::Values,
+                _ => Packing::Apart,
+            }
+        }
         _ => Packing::Apart,
     }
 }

@@ -205,7 +205,7 @@ impl<W: Watch> Mapper<'_, W> {
             (as_array_level element extent start.order start.bit) result }
         ensures level { LeavesLevel self.old self.new result }
     {
-        match packing_of(self.nodes, element, self.store) {
+        match packing_of(self.nodes, element, self.store, self.packings) {
             Packing::Numbers(shape) => self.row_body(element, shape, extent, start, space),
             Packing::Records(fields) => { self.records_body(element, fields, extent, start, space) }
             Packing::Values => self.values_body(element, extent, start, space),

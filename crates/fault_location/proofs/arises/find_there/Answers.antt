@@ -14,10 +14,11 @@ follow-requires g c =
     let held : level_count c.args.store.now + depth (type_of nodes c.args.whole.id.node) ≤ 65 =
     omega (arith, one, deep) in
     let bare = c.bare_part.ensures in
+    let new = c.new-checker.ensures in
     record {
       part = record {
-        inside = rw (bare.inner_is, c.nodes.ensures) c.requires.known;
-        deep = rw (bare.inner_is, c.nodes.ensures) held;
+        inside = rw (new.nodes, bare.inner_is, c.nodes.ensures) c.requires.known;
+        deep = rw (new.nodes, new.store, bare.inner_is, c.nodes.ensures) held;
         sound = rw bare.clause_is tt;
       };
     }
@@ -26,6 +27,7 @@ pub returns-clause-is : goal.returns-clause-is
 returns-clause-is g c =
     λ yes bytes e.
     let none = none_kept c.args.whole.table.now.nodes.items c.args.store.now c.requires.empty in
-    let found =
-    rw (c.bare_part.ensures.inner_is, c.nodes.ensures, none, c.from.ensures) at (c.follow.ensures.is yes bytes e) in
+    let new = c.new-checker.ensures in
+    let found = rw (new.nodes, new.store, c.bare_part.ensures.inner_is, c.nodes.ensures, none, c.from.ensures)
+    at (c.follow.ensures.is yes bytes e) in
     of_bare c.bare_part.ensures.clause_is found

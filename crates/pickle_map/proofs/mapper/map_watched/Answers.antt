@@ -10,23 +10,19 @@ use Rattle.pickle_map.proofs.Lent.{given_back}
 use Rattle.pickle_map.proofs.Stopped.{fault_of_there, fault_of_limit, fault_of_memory, fault_of_device, fault_of_counts, fault_of_means, done_kept, fault_of_kept, fault_of_wanted, none_kept, none_stored, from_none}
 use Rattle.pickle_map.proofs.mapper.map_watched.Goals as goal
 
-pub map_type-requires-clause-open : goal.map_type-requires-clause-open
-map_type-requires-clause-open g c =
-    let one = ap level_count c.requires.empty in
-    let deep = c.args.table.now.sound.deep c.args.id.node c.requires.known in
-    rw c.nodes.ensures (omega (arith, one, deep))
-
 pub returns-in-Ok : goal.returns-in-Ok
 returns-in-Ok g c =
     let none = none_kept c.args.table.now.nodes.items c.args.store.now c.requires.empty in
-    let m = c.in-Ok.ensures.is in
-    let keeps = rw (c.nodes.ensures, none) at m.kept in
-    let h = rw (c.nodes.ensures, none, c.from.ensures) at m.follows in
+    let e = c.new-mapper.ensures in
+    let m = rw (e.nodes, e.meter, e.store, c.nodes.ensures) at c.in-Ok.ensures.is in
+    let left = rw (e.meter, e.store) at c.in-Ok.ensures.frame.left in
+    let keeps = rw none at m.kept in
+    let h = rw (none, c.from.ensures) at m.follows in
     let h = from_none (none_stored c.args.store.now c.requires.empty) h in
     let bits = 8 * (g.S.Space.view c.args.space.now).len in
     let ty = type_of c.args.table.now.nodes.items c.args.id.node in
     let within = c.map_type.new.self.meter.now.within in
-    let limit = c.in-Ok.ensures.frame.left.limit in
+    let limit = left.limit in
     given_back c.map_type.new.self.meter.now c.map_type.new.self.store.now (search rules) (search rules) (record {
       value = λ bytes known.
           let e =
@@ -62,28 +58,30 @@ returns-in-Ok g c =
       place = tt;
       emptied = tt;
       holds = c.never_grows-fixed.ensures.holds;
-      room = c.in-Ok.ensures.frame.left.room;
+      room = left.room;
       held = λ never. kept_within c.args.table.now.nodes.items c.args.store.now c.map_type.new.self.store.now
-          c.in-Ok.ensures.frame.left.room.room never
+          left.room.room never
           (λ e. c.never_grows-fixed.ensures.fits e c.args.table.now.nodes.items);
       most = limit;
-      len = c.in-Ok.ensures.frame.left.len;
-      bytes = c.in-Ok.ensures.frame.left.bytes;
-      failures = c.in-Ok.ensures.frame.left.failures;
+      len = left.len;
+      bytes = left.bytes;
+      failures = left.failures;
     })
 
-pub returns-in-Err : goal.returns-in-Err
-returns-in-Err g c =
+pub returns : goal.returns
+returns g c =
     let none = none_kept c.args.table.now.nodes.items c.args.store.now c.requires.empty in
-    let h = rw (c.nodes.ensures, none, c.from.ensures) at c.in-Err.ensures.is in
+    let e = c.new-mapper.ensures in
+    let left = rw (e.meter, e.store) at c.in-Err.ensures.frame.left in
+    let h = rw (e.nodes, e.meter, e.store, c.nodes.ensures, none, c.from.ensures) at c.in-Err.ensures.is in
     let h = from_none (none_stored c.args.store.now c.requires.empty) h in
     let bits = 8 * (g.S.Space.view c.args.space.now).len in
     let ty = type_of c.args.table.now.nodes.items c.args.id.node in
     let order = c.args.order in
     let start = c.args.start in
     let within = c.map_type.new.self.meter.now.within in
-    let limit = c.in-Err.ensures.frame.left.limit in
-    let keeps = c.in-Err.ensures.frame.left.room in
+    let limit = left.limit in
+    let keeps = left.room in
     given_back c.map_type.new.self.meter.now c.clear.new.self (search rules) (search rules) (record {
       value = λ bytes known. tt;
       fault = λ bytes known.
@@ -100,7 +98,7 @@ returns-in-Err g c =
       limit = rw c.fault_of.ensures (fault_of_limit bits ty order start c.in-Err.stop h);
       memory = rw c.fault_of.ensures (fault_of_memory bits ty order start c.in-Err.stop h);
       device = rw c.fault_of.ensures
-          (λ e. c.in-Err.ensures.frame.left.device (fault_of_device bits ty order start c.in-Err.stop h e));
+          (λ e. left.device (fault_of_device bits ty order start c.in-Err.stop h e));
       counts = rw (c.fault_of.ensures, c.clear.ensures.empty) (fault_of_counts bits ty order start
           (g.S.Space.view c.args.space.now) c.args.meter.now c.map_type.new.self.meter.now c.args.store.now
           (emptied c.map_type.new.self.store.now) c.in-Err.stop (record { last = _; follows = h }));
@@ -129,7 +127,7 @@ returns-in-Err g c =
       });
       held = tt;
       most = limit;
-      len = c.in-Err.ensures.frame.left.len;
-      bytes = c.in-Err.ensures.frame.left.bytes;
-      failures = c.in-Err.ensures.frame.left.failures;
+      len = left.len;
+      bytes = left.bytes;
+      failures = left.failures;
     })

@@ -1,15 +1,16 @@
-use Rattle.std.proofs.Common.{◌≡◌, refl, sym, ap, subst, ◌∙◌}
+use Rattle.std.proofs.Common.{◌≡◌, refl, sym, ap, ◌∙◌}
 use Rattle.std.proofs.lemmas.Bool.{false≢true}
+use Rattle.pickle_types.specs.Types.{StructOf, IntegralOf}
 use Rattle.pickle_types.specs.Table.{name_of, type_of, open_fields, open_parts}
-use Rattle.mapping_plans.specs.Rows.{Records, struct_row, layout_of, row_of}
+use Rattle.mapping_plans.specs.Rows.{layout_of, row_of}
 use Rattle.pickle_map.proofs.Elements.{apart_shape}
-use Rattle.pickle_map.proofs.Sizes.{laid_or_not, struct_keeps, integral_keeps}
+use Rattle.pickle_map.proofs.KeptKinds.{are_records, structs_apart, wholes_apart}
 use Rattle.pickle_map.proofs.RecordTypes.{record_type}
 use Rattle.pickle_map.proofs.Shapes.{opened_as, below_as}
 use Rattle.pickle_map.proofs.mapper.packed_numbers.packing_of.Goals as goal
 
-pub returns-in-Integer : goal.returns-in-Integer
-returns-in-Integer c =
+pub returns-in-Integer-clause-is : goal.returns-in-Integer-clause-is
+returns-in-Integer-clause-is c =
     let below = below_as c.args.nodes.now c.requires.table c.args.element c.requires.element
     c.index-nodes-element.result _ c.in-Integer.is in
     record {
@@ -19,8 +20,8 @@ returns-in-Integer c =
       packs = sym c.packs.ensures ∙ c.if-not-packs.false;
     }
 
-pub returns-in-Offset : goal.returns-in-Offset
-returns-in-Offset c =
+pub returns-in-Offset-clause-is : goal.returns-in-Offset-clause-is
+returns-in-Offset-clause-is c =
     let below = below_as c.args.nodes.now c.requires.table c.args.element c.requires.element
     c.index-nodes-element.result _ c.in-Offset.is in
     record {
@@ -30,46 +31,44 @@ returns-in-Offset c =
       packs = sym c.packs.ensures ∙ c.if-not-packs.false;
     }
 
-pub returns-then-not-packs : goal.returns-then-not-packs
-returns-then-not-packs c = λ packing. absurd (false≢true (sym c.if-not-packs.true ∙ c.packs.ensures ∙ packing))
+pub returns-then-not-packs-clause-is : goal.returns-then-not-packs-clause-is
+returns-then-not-packs-clause-is c =
+    λ packing. absurd (false≢true (sym c.if-not-packs.true ∙ c.packs.ensures ∙ packing))
 
-pub returns-then-packs_structs : goal.returns-then-packs_structs
-returns-then-packs_structs c =
-    let row = rw (c.if-packs_structs.true) at c.packs_structs.ensures in
-    let same = c.deref.ensures.value ∙ sym c.deref-then-packs_structs.ensures.value in
-    let own = subst (λ fs. struct_row c.in-Struct.pinned (open_fields (type_of c.args.nodes.now) fs) ≡ Records row.0)
-    same row.1 in (
-      record_type c.args.nodes.now c.requires.table c.args.element c.requires.element c.index-nodes-element.result _ _ _
-          _ row.0 c.in-Struct.is c.deref-then-packs_structs.ensures.value own,
-      sym c.packs.ensures ∙ c.if-not-packs.false,
-    )
-
-pub returns-else-packs_structs : goal.returns-else-packs_structs
-returns-else-packs_structs c =
+pub returns-in-Apart-clause-is : goal.returns-in-Apart-clause-is
+returns-in-Apart-clause-is c = λ packing.
     let nodes = c.args.nodes.now in
     let opened = opened_as nodes c.requires.table c.args.element c.requires.element c.index-nodes-element.result _
     c.in-Struct.is in
-    let row = rw (c.deref.ensures.value, c.if-packs_structs.false) at c.packs_structs.ensures in
-    laid_or_not nodes c.args.element c.packing_of_values.result c.args.store.now.room
-    (sym c.packs.ensures ∙ c.if-not-packs.false) (λ own is. ap row_of opened
-    ∙ struct_keeps (name_of c.in-Struct.name) c.in-Struct.pinned (open_fields (type_of nodes) c.in-Struct.fields.items)
-    own row (sym (ap (layout_of 0) opened) ∙ is)) c.packing_of_values.ensures
+    let type = StructOf (name_of c.in-Struct.name) c.in-Struct.pinned
+    (open_fields (type_of nodes) c.in-Struct.fields.items) in
+    let right = rw (c.in-Apart.is, opened) at c.kind_of.ensures.is in
+    ap row_of opened
+    ∙ structs_apart c.in-Struct.pinned (open_fields (type_of nodes) c.in-Struct.fields.items) (layout_of 0 type) right
 
-pub returns-in-Integral : goal.returns-in-Integral
-returns-in-Integral c =
-    let nodes = c.args.nodes.now in
-    let opened = opened_as nodes c.requires.table c.args.element c.requires.element c.index-nodes-element.result _
-    c.in-Integral.is in
-    laid_or_not nodes c.args.element c.packing_of_values-in-Integral.result c.args.store.now.room
-    (sym c.packs.ensures ∙ c.if-not-packs.false) (λ own is. ap row_of opened
-    ∙ integral_keeps (name_of c.in-Integral.name) c.in-Integral.number
-    (open_parts (type_of nodes) c.in-Integral.fields.items) own (sym (ap (layout_of 0) opened) ∙ is))
-    c.packing_of_values-in-Integral.ensures
+pub returns-in-Records-clause-is : goal.returns-in-Records-clause-is
+returns-in-Records-clause-is c =
+    let row = are_records _ (rw c.in-Records.is at c.kind_of.ensures.is) in (
+      record_type c.args.nodes.now c.requires.table c.args.element c.requires.element c.index-nodes-element.result _ _ _
+          _ row.0 c.in-Struct.is c.deref.ensures.value row.1,
+      sym c.packs.ensures ∙ c.if-not-packs.false,
+    )
 
-pub returns-in_default : goal.returns-in_default
-returns-in_default c = λ packing.
+pub returns-in_default-clause-is : goal.returns-in_default-clause-is
+returns-in_default-clause-is c = λ packing.
     let opened =
     opened_as c.args.nodes.now c.requires.table c.args.element c.requires.element c.index-nodes-element.result _ refl in
     ap row_of opened
     ∙ apart_shape (type_of c.args.nodes.now) _ c.in_default.not-Integer c.in_default.not-Offset c.in_default.not-Struct
     c.in_default.not-Integral
+
+pub returns-in_default-kind_of-clause-is : goal.returns-in_default-kind_of-clause-is
+returns-in_default-kind_of-clause-is c = λ packing.
+    let nodes = c.args.nodes.now in
+    let opened = opened_as nodes c.requires.table c.args.element c.requires.element c.index-nodes-element.result _
+    c.in-Integral.is in
+    let type = IntegralOf (name_of c.in-Integral.name) c.in-Integral.number
+    (open_parts (type_of nodes) c.in-Integral.fields.items) in
+    let right = rw opened at c.kind_of-in-Integral.ensures.is in
+    ap row_of opened
+    ∙ wholes_apart (layout_of 0 type) c.kind_of-in-Integral.result c.in_default-kind_of.not-Values right

@@ -399,7 +399,7 @@ struct_body-returns-clause-level g t c =
 
 pub array_body-row_body-requires-clause-packing : goal.array_body-row_body-requires-clause-packing
 array_body-row_body-requires-clause-packing g t c =
-    let packs = c.in-Numbers.ensures in
+    let packs = c.in-Numbers.ensures.is in
     let short = g.met.S.Space.short c.args.space.now in
     row-opened c.args.self.now.nodes.now c.args.self.now.store.now c.in-Numbers.shape c.args.start.bit
     (outer_of (levels c.args.self.now.nodes.now c.args.self.now.store.now)) packs.packed packs.packs
@@ -409,7 +409,7 @@ array_body-row_body-requires-clause-packing g t c =
 pub array_body-records_body-requires : goal.array_body-records_body-requires
 unfolding depth
 array_body-records_body-requires g t c =
-    let p = c.in-Records.ensures in
+    let p = c.in-Records.ensures.is in
     let deep = rw p.0.is at c.requires.open.1 in
     let fields = fields_within c.args.self.now.nodes.now c.args.element c.requires.element
     (level_count c.args.self.now.store.now + 1) c.in-Records.fields.now p.0.below p.0.sound (omega (arith, deep)) in
@@ -1379,7 +1379,6 @@ values_body-returns-clause-is g t c =
           let none = none_there nodes h ty r.stride r.row widths c.args.start.bit outer c.in_ok-end.end m.is.values
           m.is.has w.if-end-start.true in
           let moves = none_moves m.frame.left.room r.packs none.opened e.within e.moves in
-          let n = rw w.self-is at n in
           rw w.self-is (record {
             value = array_value c.args.start.bit c.in_ok-end.end (m.is.values ∷ outer);
             kept = none_closed nodes h c.args.start.bit outer c.in_ok-end.end m.is.values w.close_array.new.self
@@ -1394,7 +1393,6 @@ values_body-returns-clause-is g t c =
           m.is.has w.if-end-start.false in
           let moves = some_moves m.frame.left.room r.packs
           (laid_nodes nodes h ty c.args.start.bit outer c.in_ok-end.end m.is.values some) e.within e.moves in
-          let n = rw w.self-is at n in
           rw w.self-is (record {
             value = array_value c.args.start.bit c.in_ok-end.end (m.is.values ∷ outer);
             kept = some_closed nodes h c.args.start.bit outer c.in_ok-end.end m.is.values w.close_records.new.self

@@ -68,7 +68,6 @@ returns-clause-is g c =
           let fresh = has_none nodes c.map_records.new.self.store.now c.args.element cs c.args.start.bit outer
           m.is.rows m.is.has none in
           let moves = none_moves m.frame.left.room c.requires.record.packs fresh.opened e.within e.moves in
-          let n = rw w.self-is at n in
           rw w.self-is (record {
             value = array_value c.args.start.bit c.in_ok-end.end
                 (structs_of nodes c.args.element cs c.args.start.bit m.is.rows ∷ outer);
@@ -85,7 +84,6 @@ returns-clause-is g c =
           let moves = some_moves m.frame.left.room c.requires.record.packs
           (packing_nodes nodes c.map_records.new.self.store.now c.args.element cs c.args.start.bit m.is.rows outer some)
           e.within e.moves in
-          let n = rw w.self-is at n in
           rw w.self-is (record {
             value = array_value c.args.start.bit c.in_ok-end.end
                 (structs_of nodes c.args.element cs c.args.start.bit m.is.rows ∷ outer);

@@ -1,5 +1,5 @@
 use Rattle.pickle_map.proofs.Strides.{not_packed, some_packed}
-use Rattle.pickle_map.proofs.mapper.packed_numbers.packs_structs.Goals as goal
+use Rattle.pickle_map.proofs.mapper.packings.packs_structs.Goals as goal
 
 pub returns-in-None : goal.returns-in-None
 returns-in-None c = rw c.if-pinned.false (not_packed _ c.in-None.ensures)
