@@ -1,20 +1,25 @@
 -- The values of a type of fixed layout are alike but for their numbers, and where they start.
-use Rattle.std.proofs.Common.{◌≡◌, ℕ, ◌+◌, ◌-◌, ◌*◌, ◌^◌, ◌<◌, ◌≤◌, max, Bool, true, false, List, [], ◌∷◌, ◌++◌, Option, Some, None, Result, Ok, Err, pos, refl, sym, ap, subst, ◌∙◌, inl, inr, arith}
+use Rattle.std.proofs.Common.{◌≡◌, ℕ, zero, suc, ◌+◌, ◌-◌, ◌*◌, ◌^◌, ◌<◌, ◌≤◌, max, Bool, true, false, List, [], ◌∷◌, ◌++◌, Option, Some, None, Result, Ok, Err, pos, refl, sym, ap, subst, ◌∙◌, inl, inr, arith}
+use Rattle.std.proofs.Math.Nat.{mul-zero, mul-suc}
 use Rattle.std.proofs.lemmas.List.{append_assoc, append-nil}
 use Rattle.pickle_types.specs.declared.integer.IntegerType.{IntegerType}
-use Rattle.pickle_types.specs.Types.{PokeType, IntegerOf, OffsetOf, StringOf, ArrayOf, StructOf, IntegralOf, UnionOf, Fields, NoFields, FieldThen, Parts, NoParts, PartThen}
-use Rattle.pickle_meaning.specs.Values.{Label, IntegerLabel, OffsetLabel, TextLabel, ArrayLabel, StructLabel, UnionLabel, Value, Mapped, Members, NoMembers, MemberThen, AbsentThen, label_of, start_of, end_of, Levels, pushed, opened, top_of, gathered}
+use Rattle.pickle_types.specs.Types.{PokeType, IntegerOf, OffsetOf, StringOf, ArrayOf, StructOf, IntegralOf, UnionOf, Bound, Fields, NoFields, FieldThen, Parts, NoParts, PartThen}
+use Rattle.pickle_meaning.specs.Values.{Label, IntegerLabel, OffsetLabel, ArrayLabel, StructLabel, Value, Mapped, Members, NoMembers, MemberThen, label_of, start_of, end_of, Levels, pushed, opened, top_of, gathered}
+use Rattle.pickle_meaning.specs.declared.extent.Extent.{Extent}
+use Rattle.pickle_meaning.specs.declared.extent.Extent.TheVariants.{Open, Count}
 use Rattle.pickle_meaning.specs.Clauses.{FaultAt, condition, field_start}
 use Rattle.pickle_meaning.specs.Means.{field_names, part_names, integer_value, offset_value, struct_value}
-use Rattle.pickle_meaning.specs.Fits.{FitsNumber, DigitsFit, Fits, FieldsFit}
+use Rattle.pickle_meaning.specs.Fits.{IsWhole, ElementsFit, no_more_fit, one_more_fits, FitsNumber, DigitsFit, Fits, FieldsFit}
 use Rattle.value_store.specs.Layouts.{row_of, row_length, rows_length, template_of, templates_of, IsFixed, AreFixed, IsStructLabel}
+use Rattle.value_store.specs.Packed.{bytes_for}
 use Rattle.value_store.specs.Records.{instance, instances}
 use Rattle.value_store.proofs.Layouts.{instance-of_template}
-use Rattle.mapping_plans.specs.Rows.{Layout, sum_of, number_layout, no_layout, clause_avoids, layout_of, fields_layout, parts_layout}
+use Rattle.mapping_plans.specs.Rows.{Layout, sum_of, number_layout, numbers_layout, no_layout, clause_avoids, scalar_width, literal_count, layout_of, fields_layout, parts_layout}
 use Rattle.mapping_plans.specs.Rows as rows
 use Rattle.mapping_plans.specs.Widths.{HasWidths, HaveWidths, PartsHaveWidths}
 use Rattle.mapping_plans.proofs.Basics.{clash}
-use Rattle.mapping_plans.proofs.Layouts.{struct_laid, integral_laid, no_clause, plain_field, part_laid, element_laid, layout_wide}
+use Rattle.mapping_plans.proofs.Layouts.{struct_laid, integral_laid, array_laid, no_clause, plain_field, part_laid, element_laid, layout_wide}
+use Rattle.mapping_plans.proofs.NumberArrays.{literal_extent}
 use Rattle.mapping_plans.proofs.Converted.{converted_again}
 
 -- ---- the template of a type
@@ -32,9 +37,31 @@ bytes_at level ty = (known (layout_of level ty)).bytes
 abbrev number_template : Label → IntegerType → (start : ℕ) → Value
 number_template label type start = Mapped label start (start + type.width) NoMembers
 
+-- a number that is there
+abbrev given : Option ℕ → ℕ
+given None = 0
+given (Some n) = n
+
 -- nothing of fixed layout
 abbrev no_template : (start : ℕ) → Value
 no_template start = Mapped ArrayLabel start start NoMembers
+
+-- the template of an integer or an offset
+abbrev scalar_template : PokeType → (start at : ℕ) → Value
+scalar_template (IntegerOf type) start at = number_template (IntegerLabel (pos at) type) type start
+scalar_template (OffsetOf type unit) start at = number_template (OffsetLabel (pos at) type unit) type start
+scalar_template StringOf start at = no_template start
+scalar_template (ArrayOf element bound) start at = no_template start
+scalar_template (StructOf name pinned _) start at = no_template start
+scalar_template (IntegralOf name type _) start at = no_template start
+scalar_template (UnionOf name alternatives) start at = no_template start
+
+-- those of `count` of these, each of `width` bits, one after the other
+abbrev row_templates : (element : PokeType) → (width count : ℕ) → (start at : ℕ) → Members
+row_templates element width zero start at = NoMembers
+row_templates element width (suc count) start at =
+    MemberThen (scalar_template element start at)
+    (row_templates element width count (start + width) (at + bytes_for width))
 
 abbrev mutual
   -- the template of a value of the type that starts at a bit; the bytes of its numbers begin at `at`
@@ -42,7 +69,9 @@ abbrev mutual
   type_template level (IntegerOf type) start at = number_template (IntegerLabel (pos at) type) type start
   type_template level (OffsetOf type unit) start at = number_template (OffsetLabel (pos at) type unit) type start
   type_template level StringOf start at = no_template start
-  type_template level (ArrayOf element bound) start at = no_template start
+  type_template level (ArrayOf element bound) start at =
+      Mapped ArrayLabel start (start + bits_at level (ArrayOf element bound))
+      (row_templates element (given (scalar_width element)) (given (literal_count bound)) start at)
   type_template level (StructOf name pinned fields) start at =
       Mapped (StructLabel name (field_names fields)) start (start + (known (fields_layout (level + 1) fields)).bits)
       (field_templates (level + 1) fields start at)
@@ -75,16 +104,40 @@ moved_none n = omega arith
 none_before : (n : ℕ) → 0 + n ≡ n
 none_before n = omega arith
 
+scalar_moved : (element : PokeType) (start at shift : ℕ) (row : List ℕ) →
+    instance (scalar_template element start at) shift row ≡ instance (scalar_template element (start + shift) at) 0 row
+scalar_moved (IntegerOf type) start at shift row =
+    rw (moved_none (start + shift), moved_none ((start + shift) + type.width), moved_end start shift type.width) refl
+scalar_moved (OffsetOf type unit) start at shift row =
+    rw (moved_none (start + shift), moved_none ((start + shift) + type.width), moved_end start shift type.width) refl
+scalar_moved StringOf start at shift row = rw (moved_none (start + shift)) refl
+scalar_moved (ArrayOf element bound) start at shift row = rw (moved_none (start + shift)) refl
+scalar_moved (StructOf name pinned _) start at shift row = rw (moved_none (start + shift)) refl
+scalar_moved (IntegralOf name type _) start at shift row = rw (moved_none (start + shift)) refl
+scalar_moved (UnionOf name alternatives) start at shift row = rw (moved_none (start + shift)) refl
+
+row_moved : (element : PokeType) (width count start at shift : ℕ) (row : List ℕ) →
+    instances (row_templates element width count start at) shift row
+    ≡ instances (row_templates element width count (start + shift) at) 0 row
+row_moved element width zero start at shift row = refl
+row_moved element width (suc count) start at shift row =
+    let first = scalar_moved element start at shift row in
+    let others = row_moved element width count (start + width) (at + bytes_for width) shift row in
+    let others = rw (moved_end start shift width) at others in
+    rw (first, others) refl
+
 mutual
   template_moved : (level : ℕ) (ty : PokeType) (start at shift : ℕ) (row : List ℕ) →
       instance (type_template level ty start at) shift row
       ≡ instance (type_template level ty (start + shift) at) 0 row
-  template_moved level (IntegerOf type) start at shift row =
-      rw (moved_none (start + shift), moved_none ((start + shift) + type.width), moved_end start shift type.width) refl
-  template_moved level (OffsetOf type unit) start at shift row =
-      rw (moved_none (start + shift), moved_none ((start + shift) + type.width), moved_end start shift type.width) refl
+  template_moved level (IntegerOf type) start at shift row = scalar_moved (IntegerOf type) start at shift row
+  template_moved level (OffsetOf type unit) start at shift row = scalar_moved (OffsetOf type unit) start at shift row
   template_moved level StringOf start at shift row = rw (moved_none (start + shift)) refl
-  template_moved level (ArrayOf element bound) start at shift row = rw (moved_none (start + shift)) refl
+  template_moved level (ArrayOf element bound) start at shift row =
+      let bits = bits_at level (ArrayOf element bound) in
+      let own = row_moved element (given (scalar_width element)) (given (literal_count bound)) start at shift row in
+      rw (moved_none (start + shift), moved_none ((start + shift) + bits), moved_end start shift bits)
+      (ap (Mapped ArrayLabel (start + shift) ((start + shift) + bits)) own)
   template_moved level (StructOf name pinned fields) start at shift row =
       let bits = (known (fields_layout (level + 1) fields)).bits in
       rw (moved_none (start + shift), moved_none ((start + shift) + bits), moved_end start shift bits)
@@ -117,28 +170,9 @@ mutual
 
 -- ---- a value that fits
 
-abbrev pub IsNoArray : Label → Type 0
-IsNoArray (IntegerLabel number type) = Unit {0}
-IsNoArray (OffsetLabel magnitude type unit) = Unit {0}
-IsNoArray (TextLabel bytes) = Unit {0}
-IsNoArray ArrayLabel = ⊥
-IsNoArray (StructLabel name fields) = Unit {0}
-IsNoArray (UnionLabel name index alternative) = Unit {0}
-
-abbrev mutual
-  -- a value is no array, and has none in it
-  pub HasNoArray : Value → Type 0
-  HasNoArray (Mapped label start end members) = IsNoArray label × HaveNoArrays members
-
-  HaveNoArrays : Members → Type 0
-  HaveNoArrays NoMembers = Unit {0}
-  HaveNoArrays (MemberThen v rest) = HasNoArray v × HaveNoArrays rest
-  HaveNoArrays (AbsentThen rest) = HaveNoArrays rest
-
 -- a value of the layout of a type, at a place
 pub record IsLaid (level : ℕ) (ty : PokeType) (l : Layout) (s : ℕ) (v : Value) : Type 0 where
   pub fixed : IsFixed v
-  pub plain : HasNoArray v
   pub starts : start_of v ≡ s
   pub ends : end_of v ≡ s + l.bits
   pub bytes : row_length v ≡ l.bytes
@@ -150,7 +184,6 @@ record AreLaid (templates : (at : ℕ) → Members) (l : Layout) (s : ℕ) (leve
   values : List (Option Value)
   is : top_of inside ≡ top_of levels ++ values
   fixed : (end : ℕ) → s + l.bits ≤ end → AreFixed end (gathered values)
-  plain : HaveNoArrays (gathered values)
   bytes : rows_length (gathered values) ≡ l.bytes
   laid : (at : ℕ) → templates_of (gathered values) at ≡ templates at
 
@@ -162,7 +195,6 @@ none_laid templates l s levels inside e same laid =
       values = [];
       is = ap top_of same ∙ sym (append-nil (top_of levels));
       fixed = λ end le. tt;
-      plain = tt;
       bytes = ap (λ (x : Layout). x.bytes) is;
       laid = laid;
     }
@@ -189,7 +221,6 @@ one_laid level ty one more l s next levels inside v templates rest known_one sum
       values = Some v ∷ others.values;
       is = others.is ∙ top_push levels v others.values;
       fixed = λ end le. (omega (arith, ends, bits, le), (own.fixed, others.fixed end (omega (arith, within, le))));
-      plain = (own.plain, others.plain);
       bytes = omega (arith, bytes, few, more_few);
       laid = λ at.
           let here : row_length v ≡ bytes_at level ty = few ∙ sym (ap (λ o. (known o).bytes) known_one) in
@@ -206,7 +237,6 @@ integer_laid level type l s n v h w less e =
     let is : number_layout type ≡ l = cc in
     subst (IsLaid level (IntegerOf type) l s) (sym e) (record {
       fixed = (record { width = w; range = converted_again type n w.some less; bits = refl; none = refl }, tt);
-      plain = (tt, tt);
       starts = refl;
       ends = ap (λ (x : Layout). s + x.bits) is;
       bytes = moved_none _ ∙ ap (λ (x : Layout). x.bytes) is;
@@ -222,7 +252,6 @@ offset_laid level type unit l s n v h w less e =
     subst (IsLaid level (OffsetOf type unit) l s) (sym e) (record {
       fixed =
           ((record { width = w.0; range = converted_again type n w.0.some less; bits = refl; none = refl }, w.1), tt);
-      plain = (tt, tt);
       starts = refl;
       ends = ap (λ (x : Layout). s + x.bits) is;
       bytes = moved_none _ ∙ ap (λ (x : Layout). x.bytes) is;
@@ -251,7 +280,6 @@ mutual
       fit.2 ∙ ap (λ level. Mapped (StructLabel name (part_names fields)) s (s + type.width) (gathered level)) inside in
       subst (IsLaid level (IntegralOf name type fields) l s) (sym is) (record {
         fixed = (tt, ms.fixed (s + type.width) le);
-        plain = (tt, ms.plain);
         starts = refl;
         ends = ends;
         bytes = none_before _ ∙ ms.bytes;
@@ -272,6 +300,147 @@ mutual
       let bits = ap (λ (x : Layout). x.bits) f.sum in
       one_laid level ty f.one f.more l s s levels inside fit.0 (part_templates level (PartThen name order ty c rest) s)
       (part_templates level rest s) f.laid f.sum (omega (arith, bits)) own others (λ at. refl)
+
+-- ---- an array
+
+abbrev one_number : (width : ℕ) → Layout
+one_number width = record { bits = width; bytes = bytes_for width }
+
+-- an integer or an offset of a width
+scalar_known : (level : ℕ) (element : PokeType) (width : ℕ) → scalar_width element ≡ Some width →
+    layout_of level element ≡ Some (one_number width)
+scalar_known level (IntegerOf type) width e = ap (λ o. Some (one_number (given o))) e
+scalar_known level (OffsetOf type unit) width e = ap (λ o. Some (one_number (given o))) e
+scalar_known level StringOf width e = absurd cc
+scalar_known level (ArrayOf element bound) width e = absurd cc
+scalar_known level (StructOf name pinned _) width e = absurd cc
+scalar_known level (IntegralOf name type _) width e = absurd cc
+scalar_known level (UnionOf name alternatives) width e = absurd cc
+
+scalar_fits : (m : ℕ) (element : PokeType) (width : ℕ) → scalar_width element ≡ Some width → (levels : Levels) (s : ℕ)
+    (v : Value) → Fits m element levels s v → FitsNumber element levels s v
+unfolding Fits
+scalar_fits m (IntegerOf type) width e levels s v fit = fit.0
+scalar_fits m (OffsetOf type unit) width e levels s v fit = fit.0
+scalar_fits m StringOf width e levels s v fit = absurd cc
+scalar_fits m (ArrayOf element bound) width e levels s v fit = absurd cc
+scalar_fits m (StructOf name pinned _) width e levels s v fit = absurd cc
+scalar_fits m (IntegralOf name type _) width e levels s v fit = absurd cc
+scalar_fits m (UnionOf name alternatives) width e levels s v fit = absurd cc
+
+scalar_templates : (level : ℕ) (element : PokeType) (width : ℕ) → scalar_width element ≡ Some width →
+    (start at : ℕ) → scalar_template element start at ≡ type_template level element start at
+scalar_templates level (IntegerOf type) width e start at = refl
+scalar_templates level (OffsetOf type unit) width e start at = refl
+scalar_templates level StringOf width e start at = absurd cc
+scalar_templates level (ArrayOf element bound) width e start at = absurd cc
+scalar_templates level (StructOf name pinned _) width e start at = absurd cc
+scalar_templates level (IntegralOf name type _) width e start at = absurd cc
+scalar_templates level (UnionOf name alternatives) width e start at = absurd cc
+
+no_numbers : (width : ℕ) → no_layout ≡ numbers_layout width 0
+no_numbers width = rw (mul-zero width, mul-zero (bytes_for width)) refl
+
+one_more : (width count : ℕ) →
+    numbers_layout width (suc count) ≡ sum_of (one_number width) (numbers_layout width count)
+one_more width count =
+    let bits : width * suc count ≡ width + width * count = mul-suc width count ∙ omega arith in
+    let bytes : bytes_for width * suc count ≡ bytes_for width + bytes_for width * count =
+    mul-suc (bytes_for width) count ∙ omega arith in
+    rw (bits, bytes) refl
+
+abbrev extent_or : Result Extent FaultAt → Extent
+extent_or (Ok extent) = extent
+extent_or (Err f) = Open
+
+-- its elements are as many as it says
+literal_whole : (extent : Extent) (count s n end : ℕ) → extent ≡ Count count → IsWhole extent s n end → n ≡ count
+literal_whole extent count s n end e whole = subst (λ x. IsWhole x s n end) e whole
+
+-- numbers of a width, one after the other
+record NumbersLaid (element : PokeType) (width place i n : ℕ) (levels inside : Levels) (end : ℕ) : Type 0 where
+  count : ℕ
+  counted : n ≡ i + count
+  members : AreLaid (row_templates element width count place) (numbers_layout width count) place levels inside
+  ends : end ≡ place + width * count
+
+elements_laid : (level m : ℕ) (element : PokeType) (width : ℕ) → scalar_width element ≡ Some width →
+    HasWidths element → {inside : Levels} {end n : ℕ} {levels : Levels} {place i : ℕ} →
+    ElementsFit (Fits m element) inside end n levels place i →
+    NumbersLaid element width place i n levels inside end
+elements_laid level m element width scalar w {inside = inside} {end = end} no_more_fit = record {
+  count = 0;
+  counted = omega arith;
+  members = none_laid (row_templates element width 0 end) (numbers_layout width 0) end inside inside
+      (ap Some (no_numbers width)) refl (λ at. refl);
+  ends = omega arith;
+}
+elements_laid level m element width scalar w {inside = inside} {levels = levels} {place = place}
+    (one_more_fits v fit lt rest) =
+    let laid = scalar_known level element width scalar in
+    let own = number_laid level element (one_number width) laid w levels place v
+    (scalar_fits m element width scalar levels place v fit) in
+    let more = elements_laid level m element width scalar w rest in
+    let counted = more.counted in
+    let ends = more.ends in
+    let here : end_of v ≡ place + width = own.ends in
+    let bits : width * suc more.count ≡ width * more.count + width = mul-suc width more.count in
+    let size : bytes_at level element ≡ bytes_for width = ap (λ o. (known o).bytes) laid in
+    record {
+      count = suc more.count;
+      counted = omega (arith, counted);
+      members = one_laid level element (one_number width) (numbers_layout width more.count)
+          (numbers_layout width (suc more.count)) place (end_of v) levels inside v
+          (row_templates element width (suc more.count) place) (row_templates element width more.count (end_of v))
+          laid (one_more width more.count) (omega (arith, here, bits)) own more.members
+          (λ at. ap (λ x. MemberThen x (row_templates element width more.count (place + width) (at + bytes_for width)))
+          (scalar_templates level element width scalar place at)
+          ∙ ap (λ p. MemberThen (type_template level element place at)
+          (row_templates element width more.count p (at + bytes_for width))) (sym here)
+          ∙ ap (λ b. MemberThen (type_template level element place at)
+          (row_templates element width more.count (end_of v) (at + b))) (sym size));
+      ends = omega (arith, ends, here, bits);
+    }
+
+row_laid : (level m : ℕ) (element : PokeType) (bound : Bound) (l : Layout) →
+    layout_of level (ArrayOf element bound) ≡ Some l → HasWidths element → (levels : Levels) (s : ℕ) (v : Value) →
+    Fits m (ArrayOf element bound) levels s v → IsLaid level (ArrayOf element bound) l s v
+unfolding Fits
+row_laid level m element bound l h w levels s v fit =
+    let a = array_laid element bound l h in
+    let all = elements_laid level m element a.width a.scalar w fit.5 in
+    let extent : fit.0 ≡ Count a.count =
+    ap extent_or (sym fit.1 ∙ literal_extent bound a.count a.literal levels s) in
+    let whole : fit.4 ≡ a.count = literal_whole fit.0 a.count s fit.4 fit.3 extent fit.6 in
+    let counted = all.counted in
+    let count : all.count ≡ a.count = omega (arith, counted, whole) in
+    let is : l ≡ numbers_layout a.width all.count = a.is ∙ ap (numbers_layout a.width) (sym count) in
+    let ms = all.members in
+    let bits : l.bits ≡ a.width * all.count = ap (λ (x : Layout). x.bits) is in
+    let bytes : l.bytes ≡ bytes_for a.width * all.count = ap (λ (x : Layout). x.bytes) is in
+    let ends = all.ends in
+    let end : fit.3 ≡ s + l.bits = omega (arith, ends, bits) in
+    let inside : top_of fit.2 ≡ ms.values = ms.is in
+    let value : v ≡ Mapped ArrayLabel s (s + l.bits) (gathered ms.values) =
+    fit.8 ∙ ap (λ level. Mapped ArrayLabel s fit.3 (gathered level)) inside
+    ∙ ap (λ end. Mapped ArrayLabel s end (gathered ms.values)) end in
+    let known_bits : l.bits ≡ bits_at level (ArrayOf element bound) = sym (ap (λ o. (known o).bits) h) in
+    let rows : (at : ℕ) → row_templates element a.width all.count s at
+    ≡ row_templates element (given (scalar_width element)) (given (literal_count bound)) s at =
+    λ at. ap (λ n. row_templates element a.width n s at) (count ∙ sym (ap given a.literal))
+    ∙ ap (λ w. row_templates element w (given (literal_count bound)) s at) (sym (ap given a.scalar)) in
+    subst (IsLaid level (ArrayOf element bound) l s) (sym value) (record {
+      fixed = (tt, ms.fixed (s + l.bits) (omega (arith, bits)));
+      starts = refl;
+      ends = refl;
+      bytes = none_before _ ∙ ms.bytes ∙ sym bytes;
+      template = λ at. ap (Mapped ArrayLabel s (s + l.bits)) (ms.laid (at + 0)
+          ∙ ap (row_templates element a.width all.count s) (moved_none at) ∙ rows at)
+          ∙ ap (λ n. Mapped ArrayLabel s (s + n)
+          (row_templates element (given (scalar_width element)) (given (literal_count bound)) s at)) known_bits;
+    })
+
+-- ---- a value of each type
 
 abbrev told_or : Result Bool FaultAt → Bool
 told_or (Ok b) = b
@@ -295,7 +464,8 @@ mutual
   fits_laid level m (OffsetOf type unit) l h w levels s v fit =
       number_laid level (OffsetOf type unit) l h w levels s v fit.0
   fits_laid level m StringOf l h w levels s v fit = absurd cc
-  fits_laid level m (ArrayOf element bound) l h w levels s v fit = absurd cc
+  fits_laid level m (ArrayOf element bound) l h w levels s v fit =
+      row_laid level m element bound l h w levels s v fit
   fits_laid level m (StructOf name true _) l h w levels s v fit = absurd cc
   fits_laid level m (StructOf name false fields) l h w levels s v fit =
       let i = struct_laid level name false fields l h in
@@ -311,7 +481,6 @@ mutual
       ∙ ap (λ end. Mapped (StructLabel name (field_names fields)) s end (gathered ms.values)) ends in
       subst (IsLaid level (StructOf name false fields) l s) (sym is) (record {
         fixed = (tt, ms.fixed (s + l.bits) (omega arith));
-        plain = (tt, ms.plain);
         starts = refl;
         ends = refl;
         bytes = none_before _ ∙ ms.bytes;

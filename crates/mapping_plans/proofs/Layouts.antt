@@ -1,10 +1,11 @@
 -- Types of fixed layout: what their fields are, and how many bits and bytes their values take.
 use Rattle.std.proofs.Common.{◌≡◌, ℕ, ◌+◌, ◌*◌, ◌/◌, ◌≤◌, Bool, true, false, List, Option, Some, None, refl, sym, ap, ◌∙◌, subst, arith}
 use Rattle.std.specs.Prelude.{if◌then◌else◌, nat_eq, nat_le}
+use Rattle.std.proofs.Math.Nat.{mul_assoc, mul-le-mul_right}
 use Rattle.std.proofs.lemmas.Bool.{leb-true, eqb-true}
-use Rattle.pickle_types.specs.Types.{Term, PokeType, IntegerOf, OffsetOf, StringOf, ArrayOf, StructOf, IntegralOf, UnionOf, Fields, NoFields, FieldThen, Parts, NoParts, PartThen}
+use Rattle.pickle_types.specs.Types.{Term, PokeType, IntegerOf, OffsetOf, StringOf, ArrayOf, StructOf, IntegralOf, UnionOf, Bound, Fields, NoFields, FieldThen, Parts, NoParts, PartThen}
 use Rattle.mapping_plans.specs.Avoids.{ClauseAvoids}
-use Rattle.mapping_plans.specs.Rows.{Row, Apart, Numbers, Records, Values, Layout, number_layout, no_layout, sum_of, layout_then, field_layout, some_bytes, whole_number, clause_avoids, column_widths, stride_of, records_of, struct_row, layout_of, fields_layout, parts_layout, or_values, row_of}
+use Rattle.mapping_plans.specs.Rows.{Row, Apart, Numbers, Records, Values, Layout, number_layout, numbers_layout, no_layout, sum_of, few_bytes, layout_then, field_layout, scalar_width, literal_count, array_layout, some_bytes, whole_number, clause_avoids, column_widths, stride_of, records_of, struct_row, layout_of, fields_layout, parts_layout, or_values, row_of}
 use Rattle.mapping_plans.proofs.StructRows.{clause_are}
 
 kept_where : (p : Bool) (given l : Layout) → (if p then Some given else None) ≡ Some l → (p ≡ true) × (given ≡ l)
@@ -147,6 +148,45 @@ integral_laid level width fields l h =
     let a = some_are (parts_layout (level + 1) fields) l w.0 in
     record { laid = a.0; whole = w.1; some = a.1; few = parts_few (level + 1) fields l a.0 }
 
+-- an array of fixed layout: so many numbers of a width
+pub record IsLaidArray (element : PokeType) (bound : Bound) (l : Layout) : Type 0 where
+  pub width : ℕ
+  pub count : ℕ
+  pub scalar : scalar_width element ≡ Some width
+  pub literal : literal_count bound ≡ Some count
+  pub narrow : width ≤ 32
+  pub is : l ≡ numbers_layout width count
+  pub few : l.bytes ≤ 512
+
+numbers_laid : (width count : Option ℕ) (l : Layout) → array_layout width count ≡ Some l →
+    (w : ℕ) × (n : ℕ) × (width ≡ Some w) × (count ≡ Some n) × (w ≤ 32) × (l ≡ numbers_layout w n) × (l.bytes ≤ 512)
+numbers_laid None count l h = absurd cc
+numbers_laid (Some width) None l h = absurd cc
+numbers_laid (Some width) (Some count) l h =
+    let all = numbers_layout width count in
+    let k = kept_where_some (nat_le width 32) (some_bytes (few_bytes all)) l h in
+    let s = some_are (few_bytes all) l k.1 in
+    let f = kept_where (nat_le all.bytes 512) all l s.0 in (
+      width,
+      count,
+      refl,
+      refl,
+      leb-true width 32 k.0,
+      sym f.1,
+      subst (λ (x : Layout). x.bytes ≤ 512) f.1 (leb-true all.bytes 512 f.0),
+    )
+  where
+    kept_where_some : (p : Bool) (given : Option Layout) (l : Layout) → (if p then given else None) ≡ Some l →
+        (p ≡ true) × (given ≡ Some l)
+    kept_where_some true given l h = (refl, h)
+    kept_where_some false given l h = absurd cc
+
+pub array_laid : (element : PokeType) (bound : Bound) (l : Layout) →
+    array_layout (scalar_width element) (literal_count bound) ≡ Some l → IsLaidArray element bound l
+array_laid element bound l h =
+    let a = numbers_laid (scalar_width element) (literal_count bound) l h in
+    record { width = a.0; count = a.1; scalar = a.2; literal = a.3; narrow = a.4; is = a.5; few = a.6 }
+
 -- ---- the elements of an array
 
 -- the elements of a type are kept as values of fixed layout
@@ -213,6 +253,18 @@ sum_wide one more l e h g =
     let bytes = ap (λ (x : Layout). x.bytes) e in
     (omega (arith, bits, bytes, h.0, g.0), omega (arith, bits, bytes, h.1, g.1))
 
+numbers_wide : (width count : ℕ) (l : Layout) → l ≡ numbers_layout width count →
+    (l.bytes ≤ l.bits) × (l.bits ≤ 8 * l.bytes)
+numbers_wide width count l is =
+    let size = (width + 7) / 8 in
+    let one = number_wide width in
+    let bits : l.bits ≡ width * count = ap (λ (x : Layout). x.bits) is in
+    let bytes : l.bytes ≡ size * count = ap (λ (x : Layout). x.bytes) is in
+    let least : size * count ≤ width * count = mul-le-mul_right count one.0 in
+    let most : width * count ≤ (8 * size) * count = mul-le-mul_right count one.1 in
+    let apart : (8 * size) * count ≡ 8 * (size * count) = mul_assoc 8 size count in
+    (omega (arith, bits, bytes, least), omega (arith, bits, bytes, most, apart))
+
 of_one : (l given : Layout) → Some given ≡ Some l → (given.bytes ≤ given.bits) × (given.bits ≤ 8 * given.bytes) →
     (l.bytes ≤ l.bits) × (l.bits ≤ 8 * l.bytes)
 of_one l given e h =
@@ -226,7 +278,8 @@ mutual
   layout_wide level (IntegerOf type) l h = of_one l (number_layout type) h (number_wide type.width)
   layout_wide level (OffsetOf type unit) l h = of_one l (number_layout type) h (number_wide type.width)
   layout_wide level StringOf l h = absurd cc
-  layout_wide level (ArrayOf element bound) l h = absurd cc
+  layout_wide level (ArrayOf element bound) l h =
+      let a = array_laid element bound l h in numbers_wide a.width a.count l a.is
   layout_wide level (StructOf name pinned fields) l h =
       fields_wide (level + 1) fields l (struct_laid level name pinned fields l h).laid
   layout_wide level (IntegralOf name type fields) l h =

@@ -20,6 +20,7 @@ pub mod StructRows
 pub mod LayoutRows
 pub mod Layouts
 pub mod Stored
+pub mod NumberArrays
 pub mod Adding
 pub mod Converted
 pub mod LaidValues

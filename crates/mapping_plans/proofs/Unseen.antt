@@ -1,21 +1,24 @@
 -- The plan of a type of fixed layout is alike whatever the frame has that its constraints avoid: that of the array
 -- around it.
-use Rattle.std.proofs.Common.{◌≡◌, ℕ, zero, suc, ◌+◌, ◌-◌, max, true, false, List, [], ◌∷◌, ◌++◌, Option, Some, None, Result, Ok, Err, refl, ap, subst, arith}
-use Rattle.std.specs.Prelude.{nat_le}
+use Rattle.std.proofs.Common.{◌≡◌, ℕ, zero, suc, ◌+◌, ◌-◌, max, Bool, true, false, List, [], ◌∷◌, ◌++◌, Option, Some, None, Result, Ok, Err, refl, ap, subst, arith}
+use Rattle.std.specs.Prelude.{if◌then◌else◌, nat_eq, nat_le}
 use Rattle.bit_space.specs.declared.order.Order.{Order}
 use Rattle.pickle_types.specs.declared.integer.IntegerType.{IntegerType}
-use Rattle.pickle_types.specs.Types.{Term, PokeType, IntegerOf, OffsetOf, StringOf, ArrayOf, StructOf, IntegralOf, UnionOf, Fields, NoFields, FieldThen, Parts, NoParts, PartThen}
-use Rattle.pickle_meaning.specs.Clauses.{FaultAt, constraint, clause_steps, condition, field_start}
-use Rattle.pickle_meaning.specs.Means.{Opened, number_type, width_in, first_digits, ordered, integer_value, offset_value, field_names, part_names, struct_value}
-use Rattle.pickle_meaning.specs.Values.{Naming, Value, end_of, Levels, pushed}
-use Rattle.value_store.specs.Moves.{Move, Opens, Drops, Places, Closes}
+use Rattle.pickle_types.specs.Types.{Term, PokeType, IntegerOf, OffsetOf, StringOf, ArrayOf, StructOf, IntegralOf, UnionOf, Bound, Fields, NoFields, FieldThen, Parts, NoParts, PartThen}
+use Rattle.pickle_types.specs.Bounds.{least_width, count_of}
+use Rattle.pickle_meaning.specs.declared.extent.Extent.{Extent}
+use Rattle.pickle_meaning.specs.Clauses.{FaultAt, constraint, clause_steps, condition, field_start, extent_of, bound_steps, is_due, is_met, ends_before}
+use Rattle.pickle_meaning.specs.Means.{Opened, number_type, width_in, first_digits, ordered, integer_value, offset_value, field_names, part_names, array_value, struct_value}
+use Rattle.pickle_meaning.specs.Values.{Value, end_of, Levels, pushed, opened}
+use Rattle.value_store.specs.Moves.{Move, Opens, Drops, Places, Packs, Closes}
 use Rattle.mapping_plans.specs.Avoids.{ClauseAvoids}
-use Rattle.mapping_plans.specs.Plan.{Plan, then_ok}
-use Rattle.mapping_plans.specs.Mapping.{from_inside, closes, constrained, number_plan, digits_plan, read_plan, plan, fields_plan}
-use Rattle.mapping_plans.specs.Rows.{Values, Layout, clause_avoids, layout_of, fields_layout, parts_layout, row_of}
-use Rattle.mapping_plans.proofs.Alike.{Alike, ended_alike, tick_alike, made_alike, read_alike, Both, Same, ok_alike, after_alike, either_alike, framed_alike}
+use Rattle.mapping_plans.specs.Plan.{Plan, after, then_ok, framed, as_row}
+use Rattle.mapping_plans.specs.Mapping.{from_inside, closes, constrained, number_plan, digits_plan, read_plan, array_move, element_plan, after_element, elements_plan, array_closes, plan, fields_plan}
+use Rattle.mapping_plans.specs.Rows.{Row, Numbers, Values, Layout, literal_count, scalar_width, clause_avoids, layout_of, fields_layout, parts_layout, row_of}
+use Rattle.mapping_plans.proofs.Alike.{Alike, ended_alike, tick_alike, made_alike, read_alike, Both, Same, then_alike, ok_alike, after_alike, either_alike, framed_alike}
 use Rattle.mapping_plans.proofs.Avoiding.{Agree, constrained_alike, steps_alike}
-use Rattle.mapping_plans.proofs.Layouts.{struct_laid, integral_laid, no_clause, plain_field, part_laid, element_laid}
+use Rattle.mapping_plans.proofs.Layouts.{struct_laid, integral_laid, array_laid, no_clause, plain_field, part_laid, element_laid}
+use Rattle.mapping_plans.proofs.NumberArrays.{literal_extent, literal_steps}
 
 -- one more frame inside
 inside_agree : (level : ℕ) (here there : Levels) → Agree level here there → (members : List (Option Value)) →
@@ -58,11 +61,21 @@ module _ (Pair : Move → Levels → Levels → Type 0)
       (constraint c there place) (both_same (constraint c there place))) (λ a b e. ended_alike refl))
 
   -- a value of a frame that is closed
-  closes_unseen : (make : Levels → Value) (here there : Levels) → ((fields : List (Option Value)) →
+  closes_unseen : (move : Move) (make : Levels → Value) (here there : Levels) → ((fields : List (Option Value)) →
       make (fields ∷ here) ≡ make (fields ∷ there)) → (r t : Levels) → InLevels here there r t →
-      Alike Pair (Both Same) (closes Closes make r) (closes Closes make t)
-  closes_unseen make here there same r t (fields, e, e') =
-      rw (e, e', same fields) (made_alike (takes Closes here there (Some (make (fields ∷ there)))) (ended_alike refl))
+      Alike Pair (Both Same) (closes move make r) (closes move make t)
+  closes_unseen move make here there same r t (fields, e, e') =
+      rw (e, e', same fields) (made_alike (takes move here there (Some (make (fields ∷ there)))) (ended_alike refl))
+
+  -- the same of one that ends where its last member does
+  closed : (move : Move) (make : (end : ℕ) → Levels → Value) (here there : Levels) →
+      ((end : ℕ) (fields : List (Option Value)) → make end (fields ∷ here) ≡ make end (fields ∷ there)) →
+      (r t : Opened) → InOpened here there r t →
+      Alike Pair (Both Same) (closes move (make r.1) r.0) (closes move (make t.1) t.0)
+  closed move make here there same r t (members, e, e') =
+      let ends : r.1 ≡ t.1 = ap (λ (x : Opened). x.1) e in
+      let inside : r.0 ≡ members ∷ here = ap (λ (x : Opened). x.0) e in
+      rw ends (closes_unseen move (make t.1) here there (same t.1) r.0 t.0 (members, inside, e'))
 
   mutual
     unfolding number_plan
@@ -82,7 +95,7 @@ module _ (Pair : Move → Levels → Levels → Type 0)
         (ok_alike {Mid = InLevels here there} {Ends = Same} _ _
         (digits_unseen (level + 1) fields l (integral_laid level type.width fields l h).laid n type.width here there
         (inside_agree level here there agree) [] s)
-        (closes_unseen (struct_value name (part_names fields) s (s + type.width)) here there (λ members. refl)))
+        (closes_unseen Closes (struct_value name (part_names fields) s (s + type.width)) here there (λ members. refl)))
     number_unseen level (UnionOf name alternatives) l h n here there agree s = ended_alike refl
 
     digits_unseen : (level : ℕ) (parts : Parts) (l : Layout) → parts_layout level parts ≡ Some l → (n left : ℕ)
@@ -121,14 +134,93 @@ module _ (Pair : Move → Levels → Levels → Type 0)
   unfolding from_inside
   inside_unseen m s h = either_alike (nat_le s m) h (ended_alike refl)
 
-  closed : (name : Naming) (fields : Fields) (here there : Levels) (s : ℕ) (r t : Opened) → InOpened here there r t →
-      Alike Pair (Both Same) (closes Closes (struct_value name (field_names fields) s r.1) r.0)
-      (closes Closes (struct_value name (field_names fields) s t.1) t.0)
-  closed name fields here there s r t (members, e, e') =
-      let same : r.1 ≡ t.1 = ap (λ (x : Opened). x.1) e in
-      let inside : r.0 ≡ members ∷ here = ap (λ (x : Opened). x.0) e in
-      rw same (closes_unseen (struct_value name (field_names fields) s t.1) here there (λ ms. refl) r.0 t.0
-      (members, inside, e'))
+  -- ---- arrays of numbers
+
+  either_row : {A : Type 0} {Ends : A → A → Type 0} (row : Row) (t : Bool) (p p' q q' : Plan A) →
+      Alike Pair Ends (as_row row p) (as_row row q) → Alike Pair Ends (as_row row p') (as_row row q') →
+      Alike Pair Ends (as_row row (if t then p else p')) (as_row row (if t then q else q'))
+  either_row row true p p' q q' h g = h
+  either_row row false p p' q q' h g = g
+
+  -- a number, as an element of such an array
+  packed_unseen : (m : ℕ) (element : PokeType) (width : ℕ) → scalar_width element ≡ Some width → (order : Order)
+      (here there : Levels) (s : ℕ) →
+      Alike Pair (Both Same) (element_plan element (plan m element order) here s)
+      (element_plan element (plan m element order) there s)
+  unfolding plan from_inside read_plan number_plan
+  packed_unseen m (IntegerOf type) width h order here there s =
+      let row = Numbers type.width in
+      either_row row (nat_le s m) _ _ _ _ (tick_alike (either_row row (nat_le (s + type.width) m) _ _ _ _
+      (read_alike (λ n. made_alike (takes (Packs type.width) here there (Some (integer_value type n s)))
+      (ended_alike refl))) (ended_alike refl))) (ended_alike refl)
+  packed_unseen m (OffsetOf type unit) width h order here there s =
+      let row = Numbers type.width in
+      either_row row (nat_le s m) _ _ _ _ (tick_alike (either_row row (nat_le (s + type.width) m) _ _ _ _
+      (read_alike (λ n. made_alike (takes (Packs type.width) here there (Some (offset_value type unit n s)))
+      (ended_alike refl))) (ended_alike refl))) (ended_alike refl)
+  packed_unseen m StringOf width h order here there s = absurd cc
+  packed_unseen m (ArrayOf element bound) width h order here there s = absurd cc
+  packed_unseen m (StructOf name pinned _) width h order here there s = absurd cc
+  packed_unseen m (IntegralOf name type _) width h order here there s = absurd cc
+  packed_unseen m (UnionOf name alternatives) width h order here there s = absurd cc
+
+  -- what comes after it
+  after_unseen : (extent : Extent) (next : Levels → ℕ → Plan (Result Opened FaultAt)) (here there : Levels) →
+      ((members : List (Option Value)) (place : ℕ) →
+      Alike Pair (Both (InOpened here there)) (next (members ∷ here) place) (next (members ∷ there) place)) →
+      (members : List (Option Value)) (place : ℕ) (r t : Result Value FaultAt) → Both Same r t →
+      Alike Pair (Both (InOpened here there)) (after_element extent next (members ∷ here) place r)
+      (after_element extent next (members ∷ there) place t)
+  unfolding after_element
+  after_unseen extent next here there h members place (Ok v) (Ok w) e =
+      subst (λ x. Alike Pair (Both (InOpened here there)) (after_element extent next (members ∷ here) place (Ok v))
+      (after_element extent next (members ∷ there) place (Ok x))) e
+      (either_alike (nat_eq (end_of v) place) (ended_alike refl) (h (members ++ Some v ∷ []) (end_of v)))
+  after_unseen extent next here there h members place (Ok v) (Err f) e = absurd e
+  after_unseen extent next here there h members place (Err f) (Ok w) e = absurd e
+  after_unseen extent next here there h members place (Err f) (Err g) e =
+      subst (λ x. Alike Pair (Both (InOpened here there)) (after_element extent next (members ∷ here) place (Err f))
+      (after_element extent next (members ∷ there) place (Err x))) e
+      (either_alike (ends_before extent f.0) (ended_alike (members, refl, refl)) (ended_alike refl))
+
+  elements_unseen : (m : ℕ) (element : PokeType) (width : ℕ) → scalar_width element ≡ Some width → (order : Order)
+      (here there : Levels) (s : ℕ) (extent : Extent) (n i : ℕ) (members : List (Option Value)) (place : ℕ) →
+      Alike Pair (Both (InOpened here there))
+      (elements_plan (element_plan element (plan m element order)) m s extent n i (members ∷ here) place)
+      (elements_plan (element_plan element (plan m element order)) m s extent n i (members ∷ there) place)
+  unfolding elements_plan
+  elements_unseen m element width h order here there s extent zero i members place = ended_alike refl
+  elements_unseen m element width h order here there s extent (suc n) i members place =
+      either_alike (is_due extent m s i place)
+      (tick_alike (then_alike {Mid = Both Same} {Ends = Both (InOpened here there)} _ _
+      (packed_unseen m element width h order (members ∷ here) (members ∷ there) place)
+      (after_unseen extent (elements_plan (element_plan element (plan m element order)) m s extent n (i + 1)) here there
+      (elements_unseen m element width h order here there s extent n (i + 1)) members place)))
+      (either_alike (is_met extent s place) (ended_alike (members, refl, refl)) (ended_alike refl))
+
+  -- its bound is a literal
+  bound_unseen : (bound : Bound) (count : ℕ) → literal_count bound ≡ Some count → (here there : Levels) (s : ℕ) →
+      Alike Pair (Both Same) (after (bound_steps bound here) (extent_of bound here s))
+      (after (bound_steps bound there) (extent_of bound there s))
+  bound_unseen bound count h here there s =
+      rw (
+        literal_steps bound count h here,
+        literal_steps bound count h there,
+        literal_extent bound count h here s,
+        literal_extent bound count h there s,
+      ) (tick_alike (ended_alike refl))
+
+  array_unseen : (m : ℕ) (element : PokeType) (width : ℕ) → scalar_width element ≡ Some width → (order : Order)
+      (here there : Levels) (s : ℕ) (extent : Extent) →
+      Alike Pair (Both Same)
+      (framed here (then_ok (elements_plan (element_plan element (plan m element order)) m s extent
+      (count_of m (least_width element)) 0 (opened here) s) (array_closes element s)))
+      (framed there (then_ok (elements_plan (element_plan element (plan m element order)) m s extent
+      (count_of m (least_width element)) 0 (opened there) s) (array_closes element s)))
+  array_unseen m element width h order here there s extent =
+      framed_alike {Ends = Same} here there opens drops (ok_alike {Mid = InOpened here there} {Ends = Same} _ _
+      (elements_unseen m element width h order here there s extent (count_of m (least_width element)) 0 [] s)
+      (closed (array_move (row_of element)) (array_value s) here there (λ end ms. refl)))
 
   mutual
     unfolding plan condition field_start then_ok
@@ -141,13 +233,22 @@ module _ (Pair : Move → Levels → Levels → Type 0)
     plan_unseen m level (OffsetOf type unit) l h order here there agree s =
         inside_unseen m s (read_unseen m level (OffsetOf type unit) l h type order here there agree s)
     plan_unseen m level StringOf l h order here there agree s = absurd cc
-    plan_unseen m level (ArrayOf element bound) l h order here there agree s = absurd cc
+    plan_unseen m level (ArrayOf element bound) l h order here there agree s =
+        let a = array_laid element bound l h in
+        inside_unseen m s (tick_alike (ok_alike {Mid = Same} {Ends = Same} _ _
+        (bound_unseen bound a.count a.literal here there s)
+        (λ x y e. subst (λ extent. Alike Pair (Both Same) (framed here (then_ok (elements_plan (element_plan element
+        (plan m element order)) m s x (count_of m (least_width element)) 0 (opened here) s) (array_closes element s)))
+        (framed there (then_ok (elements_plan (element_plan element (plan m element order)) m s extent
+        (count_of m (least_width element)) 0 (opened there) s) (array_closes element s)))) e
+        (array_unseen m element a.width a.scalar order here there s x))))
     plan_unseen m level (StructOf name true _) l h order here there agree s = absurd cc
     plan_unseen m level (StructOf name false fields) l h order here there agree s =
         inside_unseen m s (tick_alike (framed_alike {Ends = Same} here there opens drops
         (ok_alike {Mid = InOpened here there} {Ends = Same} _ _
         (fields_unseen m (level + 1) fields l (struct_laid level name false fields l h).laid s order here there
-        (inside_agree level here there agree) [] s s) (closed name fields here there s))))
+        (inside_agree level here there agree) [] s s)
+        (closed Closes (struct_value name (field_names fields) s) here there (λ end ms. refl)))))
     plan_unseen m level (IntegralOf name type fields) l h order here there agree s =
         inside_unseen m s (read_unseen m level (IntegralOf name type fields) l h type order here there agree s)
     plan_unseen m level (UnionOf name alternatives) l h order here there agree s = absurd cc

@@ -59,7 +59,7 @@ as_number width OpensRecords = OpensRecords
 as_number width (PacksRecord count) = PacksRecord count
 as_number width ClosesRecords = ClosesRecords
 as_number width (PacksStruct stride) = PacksStruct stride
-as_number width (PacksValue size stride) = PacksValue size stride
+as_number width (PacksValue size template stride) = PacksValue size template stride
 
 -- a struct of numbers, of so many bytes in all, is packed
 abbrev pub as_struct : (stride : ℕ) → Move → Move
@@ -77,7 +77,7 @@ as_struct stride OpensRecords = OpensRecords
 as_struct stride (PacksRecord count) = PacksRecord count
 as_struct stride ClosesRecords = ClosesRecords
 as_struct stride (PacksStruct other) = PacksStruct other
-as_struct stride (PacksValue size other) = PacksValue size other
+as_struct stride (PacksValue size template other) = PacksValue size template other
 
 -- what is done for an element of an array that is kept in such a way
 abbrev pub packed : Row → Move → Move

@@ -1,7 +1,7 @@
 -- How a store may pack the elements of an array of a type.
-use Rattle.std.specs.Prelude.{ℕ, ◌+◌, List, [], ◌∷◌, Option, Some, None, Bool, true, false, nat_eq, nat_le, if◌then◌else◌}
+use Rattle.std.specs.Prelude.{ℕ, ◌+◌, ◌*◌, List, [], ◌∷◌, Option, Some, None, Bool, true, false, nat_eq, nat_le, if◌then◌else◌}
 use Rattle.pickle_types.specs.declared.integer.IntegerType.{IntegerType}
-use Rattle.pickle_types.specs.Types.{PokeType, IntegerOf, OffsetOf, StringOf, ArrayOf, StructOf, IntegralOf, UnionOf, Fields, NoFields, FieldThen, Parts, NoParts, PartThen, Term, Number, Text, Name, Bracket, Before, Between, Choice, Index, Select, AttributeOf, ToInteger, ToOffset, InUnit}
+use Rattle.pickle_types.specs.Types.{PokeType, IntegerOf, OffsetOf, StringOf, ArrayOf, StructOf, IntegralOf, UnionOf, Bound, Unbounded, ByCount, BySize, Fields, NoFields, FieldThen, Parts, NoParts, PartThen, Term, Number, Text, Name, Bracket, Before, Between, Choice, Index, Select, AttributeOf, ToInteger, ToOffset, InUnit}
 use Rattle.value_store.specs.Packed.{bytes_for}
 use Rattle.value_store.specs.declared.store.slots.Shape.{Shape}
 use Rattle.value_store.specs.declared.store.slots.Shape.TheVariants as value
@@ -97,6 +97,12 @@ sum_of one others = record { bits = one.bits + others.bits; bytes = one.bytes + 
 abbrev pub few_bytes : Layout → Option Layout
 few_bytes own = if nat_le own.bytes 512 then Some own else None
 
+-- A struct or an array has at least one byte. So a struct has at most 512 numbers and arrays, those of structs in it
+-- included.
+abbrev pub some_bytes : Option Layout → Option Layout
+some_bytes None = None
+some_bytes (Some own) = if nat_le 1 own.bytes then Some own else None
+
 -- a field and the fields after it
 abbrev pub layout_then : Option Layout → Option Layout → Option Layout
 layout_then (Some one) (Some others) = few_bytes (sum_of one others)
@@ -110,25 +116,53 @@ field_layout false None None own = None
 field_layout avoids (Some label) condition own = None
 field_layout avoids None (Some condition) own = None
 
--- A struct has at least one byte. So it has at most 512 numbers, whatever structs are in it.
-abbrev pub some_bytes : Option Layout → Option Layout
-some_bytes None = None
-some_bytes (Some own) = if nat_le 1 own.bytes then Some own else None
-
 -- the bits of an integral struct's fields are those of the struct
 abbrev pub whole_number : (width : ℕ) → Option Layout → Option Layout
 whole_number width None = None
 whole_number width (Some own) = if nat_eq own.bits width then Some own else None
 
+-- a literal number
+abbrev pub literal : Term → Option ℕ
+literal (Number type value) = Some value
+literal (Text bytes) = None
+literal (Name level place) = None
+literal (Bracket e) = None
+literal (Before op e) = None
+literal (Between op a b) = None
+literal (Choice common c x y) = None
+literal (Index e i) = None
+literal (Select e place) = None
+literal (AttributeOf attribute e) = None
+literal (ToInteger type e) = None
+literal (ToOffset type unit e) = None
+literal (InUnit unit e) = None
+
+-- the count of an array whose bound is a literal number
+abbrev pub literal_count : Bound → Option ℕ
+literal_count Unbounded = None
+literal_count (ByCount e) = literal e
+literal_count (BySize e) = None
+
+-- so many numbers of a width, one after the other
+abbrev pub numbers_layout : (width count : ℕ) → Layout
+numbers_layout width count = record { bits = width * count; bytes = bytes_for width * count }
+
+-- an array of so many numbers of at most 32 bits, and of at least one
+abbrev pub array_layout : (width count : Option ℕ) → Option Layout
+array_layout None count = None
+array_layout (Some width) None = None
+array_layout (Some width) (Some count) =
+    if nat_le width 32 then some_bytes (few_bytes (numbers_layout width count)) else None
+
 abbrev mutual
-  -- The layout of a type whose values are all alike but for their numbers: integers, offsets, and structs and integral
-  -- structs of such fields, one after the other. No constraint names anything of the frame at that level of the frames
-  -- around a value.
+  -- The layout of a type whose values are all alike but for their numbers: integers, offsets, arrays of a literal count
+  -- of these, and structs and integral structs of such fields, one after the other. No constraint names anything of the
+  -- frame at that level of the frames around a value.
   pub layout_of : (level : ℕ) → PokeType → Option Layout
   layout_of level (IntegerOf type) = Some (number_layout type)
   layout_of level (OffsetOf type unit) = Some (number_layout type)
   layout_of level StringOf = None
-  layout_of level (ArrayOf element bound) = None
+  layout_of level (ArrayOf element bound) = array_layout (scalar_width element) (literal_count bound)
   layout_of level (StructOf name true _) = None
   layout_of level (StructOf name false fields) = some_bytes (fields_layout (level + 1) fields)
   layout_of level (IntegralOf name type fields) =

@@ -1,5 +1,5 @@
 -- What a call that followed a plan has stored at its end, by what holds of the plan whatever it reads.
-use Rattle.std.proofs.Common.{◌≡◌, ℕ, Ok, subst}
+use Rattle.std.proofs.Common.{◌≡◌, ℕ, true, Ok, sym, subst}
 use Rattle.bit_space.specs.declared.order.Order.{Order}
 use Rattle.pickle_types.specs.Types.{PokeType}
 use Rattle.pickle_meaning.specs.Values.{Value, Levels}
@@ -21,13 +21,16 @@ walk_stores (stepped w) h = walk_stores w (past_tick h)
 walk_stores (kept has w) h = walk_stores w (past_made h)
 walk_stores (read n m w) h = walk_stores w (past_read h n)
 
--- a value of fixed layout, before it is packed, is one more member of the innermost frame, with what it takes
+-- a value of fixed layout, before it is packed, is one more member of the innermost frame, with what it takes where
+-- arrays are packed
 pub value_added : {world : World} {limit : ℕ} (m : ℕ) (ty : PokeType) (stride : ℕ) → row_of ty ≡ Values stride →
     (order : Order) (levels : Levels) (s : ℕ) {v : Value} {k j k' j' : ℕ} {state state' : State} →
-    Follows world limit (plan m ty order levels s) k j state k' j' state' (Done (Ok v)) →
+    Follows world limit (plan m ty order levels s) k j state k' j' state' (Done (Ok v)) → packs world.room ≡ true →
     IsAdded stride state v state'
-value_added {world} m ty stride row order levels s {v} {state} h =
-    let adds = element_adding (packs world.room) m ty stride row order levels s state in
+value_added {world} m ty stride row order levels s {v} {state} h packing =
+    let adds = subst (λ b.
+    Stores b Apart Any (Leaves (IsAdded stride state) (λ last. last ≡ state)) (plan m ty order levels s) state)
+    (sym packing) (element_adding m ty stride row order levels s state) in
     let last = past_end (subst (λ p.
     Stores (packs world.room) Apart Any (Leaves (IsAdded stride state) (λ last. last ≡ state)) p h.at) h.ends.0
     (walk_stores h.walk adds)) in

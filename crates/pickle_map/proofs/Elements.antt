@@ -44,7 +44,7 @@ number_alike width OpensRecords state = refl
 number_alike width (PacksRecord count) state = refl
 number_alike width ClosesRecords state = refl
 number_alike width (PacksStruct other) state = refl
-number_alike width (PacksValue size other) state = refl
+number_alike width (PacksValue size template other) state = refl
 
 record_alike : (stride : ℕ) (move : Move) (state : State) →
     moved false (as_struct stride move) state ≡ moved false move state
@@ -62,7 +62,7 @@ record_alike stride OpensRecords state = refl
 record_alike stride (PacksRecord count) state = refl
 record_alike stride ClosesRecords state = refl
 record_alike stride (PacksStruct other) state = refl
-record_alike stride (PacksValue size other) state = refl
+record_alike stride (PacksValue size template other) state = refl
 
 unpacked : (row : Row) (move : Move) (state : State) → moved false (packed row move) state ≡ moved false move state
 unpacked Apart move state = refl
@@ -86,7 +86,7 @@ plainly OpensRecords state = refl
 plainly (PacksRecord count) state = refl
 plainly ClosesRecords state = refl
 plainly (PacksStruct stride) state = refl
-plainly (PacksValue size stride) state = refl
+plainly (PacksValue size template stride) state = refl
 
 needs_alike : (row : Row) (move : Move) (state : State) → needed false (packed row move) state ≡ needed false move state
 needs_alike row move state = plainly (packed row move) state ∙ unpacked row move state ∙ sym (plainly move state)
@@ -106,7 +106,7 @@ takes_number width OpensRecords h = tt
 takes_number width (PacksRecord count) h = tt
 takes_number width ClosesRecords h = h
 takes_number width (PacksStruct other) h = tt
-takes_number width (PacksValue size other) h = tt
+takes_number width (PacksValue size template other) h = tt
 
 takes_record : (stride : ℕ) (move : Move) → TakesMore move → TakesMore (as_struct stride move)
 takes_record stride Opens h = h
@@ -123,7 +123,7 @@ takes_record stride OpensRecords h = tt
 takes_record stride (PacksRecord count) h = tt
 takes_record stride ClosesRecords h = h
 takes_record stride (PacksStruct other) h = tt
-takes_record stride (PacksValue size other) h = tt
+takes_record stride (PacksValue size template other) h = tt
 
 takes_packed : (row : Row) (move : Move) → TakesMore move → TakesMore (packed row move)
 takes_packed Apart move h = h
@@ -147,7 +147,7 @@ number_back width OpensRecords h = h
 number_back width (PacksRecord count) h = h
 number_back width ClosesRecords h = h
 number_back width (PacksStruct other) h = h
-number_back width (PacksValue size other) h = h
+number_back width (PacksValue size template other) h = h
 
 struct_back : (stride : ℕ) (move : Move) → TakesMore (as_struct stride move) → TakesMore move
 struct_back stride Opens h = h
@@ -164,7 +164,7 @@ struct_back stride OpensRecords h = h
 struct_back stride (PacksRecord count) h = h
 struct_back stride ClosesRecords h = h
 struct_back stride (PacksStruct other) h = h
-struct_back stride (PacksValue size other) h = h
+struct_back stride (PacksValue size template other) h = h
 
 pub takes_back : (row : Row) (move : Move) → TakesMore (packed row move) → TakesMore move
 takes_back Apart move h = h

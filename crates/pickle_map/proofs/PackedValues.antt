@@ -1,8 +1,8 @@
 -- Arrays of packed values of fixed layout: what the calls of the store need, and what they leave.
-use Rattle.std.proofs.Common.{◌≡◌, ℕ, ◌+◌, ◌-◌, ◌*◌, ◌^◌, ◌<◌, ◌≤◌, true, List, [], ◌∷◌, ◌++◌, Option, Some, Result, Ok, Err, length, refl, sym, ap, subst, ◌∙◌, arith}
+use Rattle.std.proofs.Common.{◌≡◌, ℕ, ◌+◌, ◌-◌, ◌*◌, ◌^◌, ◌<◌, true, List, [], ◌∷◌, ◌++◌, Option, Some, Result, Ok, Err, length, take, refl, sym, ap, subst, ◌∙◌, arith}
 use Rattle.std.proofs.Math.Nat.{mul-suc}
 use Rattle.std.proofs.lemmas.Bool.{ne_eqb}
-use Rattle.std.proofs.lemmas.List.{length_push}
+use Rattle.std.proofs.lemmas.List.{length_push, length-take}
 use Rattle.pickle_types.specs.declared.node.Node.{Node}
 use Rattle.pickle_types.specs.Types.{PokeType}
 use Rattle.pickle_meaning.specs.Clauses.{FaultAt}
@@ -11,19 +11,18 @@ use Rattle.pickle_meaning.specs.Values.{Value, Levels, start_of, end_of, pushed,
 use Rattle.value_store.specs.declared.store.room.Room.{Room}
 use Rattle.value_store.specs.declared.store.slots.Marks.{Marks}
 use Rattle.value_store.specs.Below.{Extends, KeepsBelow}
-use Rattle.value_store.specs.LayoutArrays.{CannotPackFirst, CannotPackNext, HoldsFirst, IsPackingLike, IsPackingNext, MovesAsFirst, MovesAsNext, TakesFirst, TakesNext, PacksFirst, PacksNext, HasNoText, instances_from}
+use Rattle.value_store.specs.LayoutArrays.{CannotPackFirst, CannotPackNext, HoldsFirst, IsPackingLike, IsPackingNext, MovesAsFirst, MovesAsNext, TakesFirst, TakesNext, PacksFirst, PacksNext, instances_from}
 use Rattle.value_store.specs.Layouts.{row_of, row_length, template_of, value_size, packs_value}
 use Rattle.value_store.specs.Moves.{State, Moves, CannotMove, IsWithin, moved, needed, state_of, with_value}
 use Rattle.value_store.specs.Records.{instance}
-use Rattle.value_store.specs.Slots.{Held, HoldsInRoom, KeepsRoom, Regrown, innermost, level_count, levels, marks_of, packs}
+use Rattle.value_store.specs.Slots.{Slots, Held, HoldsInRoom, KeepsRoom, Regrown, innermost, level_count, levels, marks_of, packs}
 use Rattle.value_store.specs.Takes.{NodesOf, FamiliesOf, LinksOf, PendingOf, TextsOf, BytesOf}
-use Rattle.value_store.proofs.Below.{gathering-text}
-use Rattle.value_store.proofs.Fits.{packs_no_more}
+use Rattle.value_store.proofs.Fits.{innermost-level, packs_no_more}
 use Rattle.value_store.proofs.Taken.{pushed-some}
 use Rattle.value_store.proofs.Layouts.{instance-of_template}
 use Rattle.mapping_plans.specs.Mapping.{packs_last}
 use Rattle.mapping_plans.specs.Plan.{Plan, then_ok}
-use Rattle.mapping_plans.specs.Rows.{Apart, Values, Layout}
+use Rattle.mapping_plans.specs.Rows.{Values, Layout}
 use Rattle.mapping_plans.specs.Rows as rows
 use Rattle.mapping_plans.specs.Widths.{HasWidths}
 use Rattle.mapping_plans.proofs.Adding.{IsAdded}
@@ -40,25 +39,22 @@ use Rattle.pickle_map.proofs.Worlds.{in_later, lacks_these}
 
 -- ---- what an element takes of a store
 
--- nothing of a text, where the frame was opened just before
-pub added_no_text : (before mid : Held) (stride : ℕ) (v : Value) → IsOpened before → mid.frames ≡ before.frames →
-    IsAdded stride (state_of before) v (state_of mid) → HasNoText mid
-added_no_text before mid stride v opened frames added =
-    ap (λ (s : State). s.now.texts) added.is ∙ sym (ap (λ (k : Marks). k.texts) (ap innermost frames ∙ opened))
-
+-- one pending child, and what its value does
 pub added_marks : (before mid : Held) (stride : ℕ) (v : Value) → IsAdded stride (state_of before) v (state_of mid) →
     marks_of mid.slots ≡ with_value (value_size v) (marks_of before.slots)
 added_marks before mid stride v added = ap (λ (s : State). s.now) added.is
 
--- the text of an array stays
-pub added_text : (before mid : Held) (stride : ℕ) (v : Value) →
-    (innermost before.frames).texts + 1 ≤ length before.slots.texts → mid.frames ≡ before.frames →
-    IsAdded stride (state_of before) v (state_of mid) → HasNoText mid → ⊥
-added_text before mid stride v some frames added none =
-    let same : length mid.slots.texts ≡ length before.slots.texts = ap (λ (s : State). s.now.texts) added.is in
-    let marks : (innermost mid.frames).texts ≡ (innermost before.frames).texts =
-    ap (λ (fs : List Marks). (innermost fs).texts) frames in
-    omega (arith, some, same, marks, none)
+-- the array stays a pending child, so it isn't the only one
+pub added_more : (before mid : Held) (stride : ℕ) (v : Value) →
+    length before.slots.pending ≡ (innermost before.frames).pending + 1 → mid.frames ≡ before.frames →
+    IsAdded stride (state_of before) v (state_of mid) →
+    length mid.slots.pending ≡ (innermost mid.frames).pending + 1 → ⊥
+added_more before mid stride v array frames added only =
+    let more : length mid.slots.pending ≡ length before.slots.pending + 1 =
+    ap (λ (n : Marks). n.pending) (added_marks before mid stride v added) in
+    let mark : (innermost mid.frames).pending ≡ (innermost before.frames).pending =
+    ap (λ (fs : List Marks). (innermost fs).pending) frames in
+    omega (arith, array, more, mark, only)
 
 -- ---- a store with other capacities
 
@@ -147,16 +143,16 @@ module _ (nodes : List Node) (mid : Held) (m : ℕ) (ty : PokeType) (stride : �
         packs = packing;
       }
 
-  module _ (is : levels nodes mid ≡ (Some v ∷ []) ∷ outer) (text : HasNoText mid) where
+  module _ (is : levels nodes mid ≡ (Some v ∷ []) ∷ outer) where
     pub first_cannot : CannotPackFirst mid → CannotMove mid (packs_value v)
-    first_cannot cannot = cannot nodes v outer is own.is.fixed text
+    first_cannot cannot = cannot nodes v outer is own.is.fixed
 
     pub first_makes : (after : Held) → MovesAsFirst mid after → Moves mid after (packs_value v)
-    first_makes after moves = moves nodes v outer is own.is.fixed text
+    first_makes after moves = moves nodes v outer is own.is.fixed
 
     pub first_holds : (after : Held) → HoldsFirst mid after →
         IsWithin (needed (packs mid.room) (packs_value v) (state_of mid)) after.capacity
-    first_holds after holds = holds nodes v outer is own.is.fixed text
+    first_holds after holds = holds nodes v outer is own.is.fixed
 
   pub first_added : (after : Held) → levels nodes mid ≡ (Some v ∷ []) ∷ outer → PacksFirst mid after →
       IsLaidArray nodes after ty s outer (end_of v) (Some v ∷ [])
@@ -255,9 +251,10 @@ module _ (nodes : List Node) (before mid : Held) (m : ℕ) (ty : PokeType) (stri
     short = next_short short;
   }
 
-  pub next_cannot : end_of v < 2 ^ 64 → CannotPackNext mid → CannotMove mid (packs_value v)
-  next_cannot short cannot = cannot nodes (template_of a.first 0) a.size start a.rows v outer next_packing
-      more.is.fixed next_is (next_short short)
+  pub next_cannot : IsAdded stride (state_of before) v (state_of mid) → end_of v < 2 ^ 64 → CannotPackNext mid →
+      CannotMove mid (packs_value v)
+  next_cannot added short cannot = cannot nodes (template_of a.first 0) a.size start a.rows v outer next_packing
+      more.is.fixed next_is (next_short short) (added_marks before mid stride v added)
 
   pub next_makes : (after : Held) → IsAdded stride (state_of before) v (state_of mid) → end_of v < 2 ^ 64 →
       MovesAsNext mid after → Moves mid after (packs_value v)
@@ -297,20 +294,29 @@ pub has_frame : (nodes : List Node) (h : Held) (ty : PokeType) (start : ℕ) (ou
 has_frame nodes h ty start outer _ _ (no_values is opened) = record { own = []; are = is }
 has_frame nodes h ty start outer place values (some_values a) = record { own = _; are = a.array.is }
 
--- an array that is there has a text
-pub array_text : (nodes : List Node) (h : Held) (ty : PokeType) (start : ℕ) (outer : Levels) (place : ℕ)
+-- an array that is there is the one pending child of its frame
+pub array_pending : (nodes : List Node) (h : Held) (ty : PokeType) (start : ℕ) (outer : Levels) (place : ℕ)
     (values : List (Option Value)) → IsLaidArray nodes h ty start outer place values →
-    (innermost h.frames).texts + 1 ≤ length h.slots.texts
-array_text nodes h ty start outer place values a =
-    gathering-text h a.array.before _ _ _ _ a.array.gathering
+    length h.slots.pending ≡ (innermost h.frames).pending + 1
+array_pending nodes h ty start outer place values a =
+    let before = a.array.before in
+    let gathering = a.array.gathering in
+    let mark = (innermost h.frames).pending in
+    omega (
+      arith,
+      (innermost-level h.room h.frames before gathering.own).is.within.pending,
+      ap (λ (s : Slots). length s.pending) gathering.is,
+      length_push (take mark before.pending) (Some (length before.nodes)),
+      length-take mark before.pending,
+    )
 
 -- so it isn't just opened
 pub not_opened : (nodes : List Node) (h : Held) (ty : PokeType) (start : ℕ) (outer : Levels) (place : ℕ)
     (values : List (Option Value)) → IsLaidArray nodes h ty start outer place values → IsOpened h → ⊥
 not_opened nodes h ty start outer place values a opened =
-    let text = array_text nodes h ty start outer place values a in
-    let same = ap (λ (k : Marks). k.texts) opened in
-    omega (arith, text, same)
+    let one = array_pending nodes h ty start outer place values a in
+    let same = ap (λ (k : Marks). k.pending) opened in
+    omega (arith, one, same)
 
 -- there are no values
 pub record HasNone (nodes : List Node) (h : Held) (start : ℕ) (outer : Levels) (place : ℕ)
@@ -386,29 +392,29 @@ module _ {first mid last : Held} (call : KeepsRoom first mid) (packing : KeepsRo
         holds;
   }
 
--- the bytes of the next value are behind those that the store has
-abbrev longer : Held → Value → State
-longer mid v = record {
-  now = record (marks_of mid.slots) { bytes = length mid.slots.bytes + row_length v };
+-- the next value gives up its own bytes before those of its struct come
+abbrev given_up : Held → Value → State
+given_up mid v = record {
+  now = record (marks_of mid.slots) { bytes = (length mid.slots.bytes - (value_size v).bytes) + row_length v };
   frames = mid.frames;
 }
 
 module _ {first mid last : Held} (call : KeepsRoom first mid) (packing : KeepsRoom mid last)
     (some : packs first.room ≡ true) (v : Value)
-    (other : length mid.slots.texts ≡ (innermost mid.frames).texts → ⊥) (moves : Moves mid last (packs_value v))
+    (other : length mid.slots.pending ≡ (innermost mid.frames).pending + 1 → ⊥) (moves : Moves mid last (packs_value v))
     (before : HoldsInRoom mid) (after : HoldsInRoom last) where
-  next_needs : needed (packs first.room) (packs_value v) (state_of mid) ≡ longer mid v
-  next_needs = rw (some, ne_eqb (length mid.slots.texts) (innermost mid.frames).texts other) refl
+  next_needs : needed (packs first.room) (packs_value v) (state_of mid) ≡ given_up mid v
+  next_needs = rw (some, ne_eqb (length mid.slots.pending) ((innermost mid.frames).pending + 1) other) refl
 
   next_is_moved : state_of last ≡ moved (packs first.room) (packs_value v) (state_of mid)
   next_is_moved = moves ∙ ap (λ (r : Room). moved (packs r) (packs_value v) (state_of mid)) call.room
 
-  next_bytes : length last.slots.bytes ≡ length mid.slots.bytes + row_length v
+  next_bytes : length last.slots.bytes ≡ (length mid.slots.bytes - (value_size v).bytes) + row_length v
   next_bytes =
       ap (λ (s : State). s.now.bytes) next_is_moved
-      ∙ rw (some, ne_eqb (length mid.slots.texts) (innermost mid.frames).texts other) refl
+      ∙ rw (some, ne_eqb (length mid.slots.pending) ((innermost mid.frames).pending + 1) other) refl
 
-  next_within : IsWithin (longer mid v) last.capacity
+  next_within : IsWithin (given_up mid v) last.capacity
   next_within NodesOf = omega (arith, before.nodes, packing.nodes)
   next_within FamiliesOf = omega (arith, before.families, packing.families)
   next_within LinksOf = omega (arith, before.links, packing.links)

@@ -1,18 +1,93 @@
 -- The sizes of types of fixed layout, as the mapper sums them up.
-use Rattle.std.proofs.Common.{◌≡◌, ℕ, zero, suc, ◌+◌, ◌<◌, Bool, true, false, List, [], ◌∷◌, Option, Some, None, drop, length, get_or, refl, sym, ap, ◌∙◌, arith}
-use Rattle.std.specs.Prelude.{All, if◌then◌else◌}
-use Rattle.std.proofs.lemmas.Bool.{eq-eqb, lt-leb, ne_eqb}
+use Rattle.std.proofs.Common.{◌≡◌, ℕ, zero, suc, ◌+◌, ◌*◌, ◌<◌, ◌≤◌, Bool, true, false, List, [], ◌∷◌, Option, Some, None, drop, length, get_or, refl, sym, ap, ◌∙◌, arith}
+use Rattle.std.specs.Prelude.{All, if◌then◌else◌, nat_le}
+use Rattle.std.proofs.Math.Nat.{mul_assoc, mul-le-mul}
+use Rattle.std.proofs.lemmas.Bool.{eq-eqb, le-leb, lt-leb, ne_eqb}
 use Rattle.std.proofs.lemmas.List.{drop_more}
-use Rattle.pickle_types.specs.Types.{PokeType, Term, StructOf, IntegralOf, Fields, Parts}
+use Rattle.pickle_types.specs.Types.{PokeType, Term, IntegerOf, OffsetOf, StringOf, ArrayOf, StructOf, IntegralOf, UnionOf, Bound, Fields, Parts}
 use Rattle.pickle_types.specs.declared.integer.IntegerType.{IntegerType}
 use Rattle.pickle_types.specs.declared.node.Field.{Field}
 use Rattle.pickle_types.specs.declared.node.Node.{Node}
 use Rattle.pickle_types.specs.declared.node.Part.{Part}
 use Rattle.pickle_types.specs.Table.{open_fields, open_parts, optional_term, FieldsBelow, PartsBelow}
 use Rattle.pickle_meaning.specs.Values.{Naming}
-use Rattle.mapping_plans.specs.Rows.{Row, Apart, Values, Layout, clause_avoids, field_layout, fields_layout, layout_of, layout_then, or_values, parts_layout, row_of, some_bytes, struct_row, whole_number}
+use Rattle.value_store.specs.Packed.{bytes_for}
+use Rattle.mapping_plans.specs.Rows.{Row, Apart, Values, Layout, array_layout, clause_avoids, few_bytes, field_layout, fields_layout, layout_of, layout_then, literal_count, numbers_layout, or_values, parts_layout, row_of, scalar_width, some_bytes, struct_row, whole_number}
+use Rattle.mapping_plans.specs.Widths.{HasWidths}
 use Rattle.pickle_map.specs.declared.mapper.layouts.FixedSize.{FixedSize}
 use Rattle.pickle_map.specs.Layouts.{HasPartPlace, HasPlace, IsSizeOf}
+
+-- ---- numbers of an array
+
+-- an integer or an offset has at least one bit
+scalar_some : (ty : PokeType) (width : ℕ) → HasWidths ty → scalar_width ty ≡ Some width → 1 ≤ width
+unfolding HasWidths
+scalar_some (IntegerOf type) width has is =
+    let some = has.some in let same : type.width ≡ width = cc in omega (arith, some, same)
+scalar_some (OffsetOf type unit) width has is =
+    let some = has.0.some in let same : type.width ≡ width = cc in omega (arith, some, same)
+scalar_some StringOf width has is = absurd cc
+scalar_some (ArrayOf element bound) width has is = absurd cc
+scalar_some (StructOf name pinned _) width has is = absurd cc
+scalar_some (IntegralOf name type _) width has is = absurd cc
+scalar_some (UnionOf name alternatives) width has is = absurd cc
+
+module _ (element : PokeType) (bound : Bound) (width count : ℕ) (scalar : scalar_width element ≡ Some width)
+    (literal : literal_count bound ≡ Some count) where
+  -- numbers of more than 32 bits
+  pub numbers_wide : 32 < width → IsSizeOf None (array_layout (scalar_width element) (literal_count bound))
+  numbers_wide wide = rw (scalar, literal, lt-leb width 32 wide) tt
+
+  -- no numbers
+  pub numbers_none : count ≡ 0 → IsSizeOf None (array_layout (scalar_width element) (literal_count bound))
+  numbers_none none = rw (scalar, literal, none) (no_bytes (nat_le width 32))
+    where
+      no_bytes : (narrow : Bool) →
+          IsSizeOf None (if narrow then some_bytes (few_bytes (numbers_layout width 0)) else None)
+      no_bytes true =
+          let none : bytes_for width * 0 ≡ 0 = omega arith in rw none tt
+      no_bytes false = tt
+
+  -- each number has at least one byte
+  module _ (has : HasWidths element) where
+    each : 1 ≤ bytes_for width
+    each = let some = scalar_some element width has scalar in omega (arith, some)
+
+    all : 1 * count ≤ bytes_for width * count
+    all = mul-le-mul each (omega arith)
+
+    pub numbers_many : 512 < count → IsSizeOf None (array_layout (scalar_width element) (literal_count bound))
+    numbers_many many =
+        let more = all in
+        let beyond : 512 < bytes_for width * count = omega (arith, more, many) in
+        rw (scalar, literal) (too_many (nat_le width 32) (lt-leb (bytes_for width * count) 512 beyond))
+      where
+        too_many : (narrow : Bool) → nat_le (bytes_for width * count) 512 ≡ false →
+            IsSizeOf None (if narrow then some_bytes (few_bytes (numbers_layout width count)) else None)
+        too_many true beyond = rw beyond tt
+        too_many false beyond = tt
+
+    -- so few numbers as have at most 512 bytes
+    pub numbers_few : (size : FixedSize) → width ≤ 32 → 1 ≤ count → bytes_for width * count ≤ 512 →
+        size.bits ≡ width * count → size.bytes ≡ bytes_for width * count →
+        IsSizeOf (Some size) (array_layout (scalar_width element) (literal_count bound))
+    numbers_few size narrow some few bits bytes =
+        let more = all in
+        let one : 1 ≤ bytes_for width * count = omega (arith, more, some) in
+        rw (
+          scalar,
+          literal,
+          le-leb width 32 narrow,
+          le-leb (bytes_for width * count) 512 few,
+          le-leb 1 (bytes_for width * count) one,
+        ) (bits, bytes)
+
+-- the bits of numbers are in their bytes
+pub numbers_bits : (width count : ℕ) → width * count ≤ 8 * (bytes_for width * count)
+numbers_bits width count =
+    let each : width ≤ 8 * bytes_for width = omega arith in
+    let all : width * count ≤ 8 * bytes_for width * count = mul-le-mul each (omega arith) in
+    omega (arith, all, mul_assoc 8 (bytes_for width) count)
 
 -- ---- sums
 

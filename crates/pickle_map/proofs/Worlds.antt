@@ -163,7 +163,7 @@ has_room h k BytesOf = omega (arith, h.bytes, k.bytes)
 
 -- a move that needs no more on its way than what it leaves
 abbrev pub IsDirect : Move → Type 0
-IsDirect (PacksValue size stride) = ⊥
+IsDirect (PacksValue size template stride) = ⊥
 IsDirect move = Unit {0}
 
 direct_needs : (packing : Bool) (move : Move) (state : State) → IsDirect move →
@@ -182,7 +182,7 @@ direct_needs packing OpensRecords state h = refl
 direct_needs packing (PacksRecord count) state h = refl
 direct_needs packing ClosesRecords state h = refl
 direct_needs packing (PacksStruct stride) state h = refl
-direct_needs packing (PacksValue size stride) state h = absurd h
+direct_needs packing (PacksValue size template stride) state h = absurd h
 
 -- a call brought a store to what comes of it by such a move
 pub comes_by : {known : Option (List ℕ)} (first : Held) {after last : Held} {move : Move} {state : State} →

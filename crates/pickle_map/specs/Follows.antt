@@ -52,7 +52,7 @@ TakesMore OpensRecords = Unit {0}
 TakesMore (PacksRecord count) = Unit {0}
 TakesMore ClosesRecords = ⊥
 TakesMore (PacksStruct stride) = Unit {0}
-TakesMore (PacksValue size stride) = Unit {0}
+TakesMore (PacksValue size template stride) = Unit {0}
 
 -- A move to such frames didn't fit: neither in the slots that the store was made with, nor in the capacity of its
 -- vectors.

@@ -1,6 +1,6 @@
 -- Rows of capacity bounds, computed by their definition.
 use Rattle.std.proofs.Common.{◌≡◌, Bool, true, false, ℕ, Some, None, refl}
-use Rattle.pickle_types.specs.Types.{Name, PokeType, IntegerOf, StringOf, ArrayOf, StructOf, IntegralOf, UnionOf, Unbounded, NoFields, FieldThen, NoParts, PartThen}
+use Rattle.pickle_types.specs.Types.{Number, Name, PokeType, IntegerOf, StringOf, ArrayOf, StructOf, IntegralOf, UnionOf, Unbounded, ByCount, NoFields, FieldThen, NoParts, PartThen}
 use Rattle.pickle_types.specs.Bounds.{least_width, room}
 use Rattle.pickle_types.specs.Operators.{whole}
 use Rattle.value_store.specs.Takes.{NodesOf, FamiliesOf, LinksOf, PendingOf, TextsOf, BytesOf}
@@ -49,6 +49,12 @@ nested = ArrayOf (StructOf None false (FieldThen None None
 digits : PokeType
 digits = ArrayOf (IntegralOf None (whole 8 false) (PartThen None None (IntegerOf (whole 4 false)) None
     (PartThen None None (IntegerOf (whole 4 false)) None NoParts))) Unbounded
+
+-- struct { NUMBER[4] id; uint<16> n; }[], where the numbers have so many bits
+identified : (width : ℕ) → PokeType
+identified width = ArrayOf (StructOf None false (FieldThen None None
+    (ArrayOf (IntegerOf (whole width false)) (ByCount (Number (whole 32 true) 4))) None None None
+    (FieldThen None None (IntegerOf (whole 16 false)) None None None NoFields))) Unbounded
 
 -- ten bytes: at most five numbers of 16 bits, and one more is tried
 packed_numbers : AreBounds true numbers 80 1 1 0 1 1 12
@@ -115,7 +121,7 @@ packed_nested =
     record { of_nodes = refl; of_families = refl; of_links = refl; of_pending = refl; of_texts = refl; of_bytes = refl }
 
 -- on one byte there is none, but one is tried
-one_nested : AreBounds true nested 8 11 5 8 6 1 4
+one_nested : AreBounds true nested 8 11 5 8 6 1 0
 unfolding capacity_bound least_width nested
 one_nested =
     record { of_nodes = refl; of_families = refl; of_links = refl; of_pending = refl; of_texts = refl; of_bytes = refl }
@@ -133,4 +139,33 @@ nested_room = refl
 packed_digits : AreBounds true digits 24 10 4 6 4 1 8
 unfolding capacity_bound least_width digits
 packed_digits =
+    record { of_nodes = refl; of_families = refl; of_links = refl; of_pending = refl; of_texts = refl; of_bytes = refl }
+
+-- Arrays add nothing to the least width of a struct: up to six structs of two bytes are counted on twelve bytes, and
+-- one more is tried, whose array may take a byte for each byte of the file, and one more. Each that fits has six bytes,
+-- and the four of its array.
+packed_identified : AreBounds true (identified 8) 96 49 7 45 17 3 73
+unfolding capacity_bound least_width identified
+packed_identified =
+    record { of_nodes = refl; of_families = refl; of_links = refl; of_pending = refl; of_texts = refl; of_bytes = refl }
+
+single_identified : AreBounds false (identified 8) 96 113 15 112 113 0 0
+unfolding capacity_bound least_width identified
+single_identified =
+    record { of_nodes = refl; of_families = refl; of_links = refl; of_pending = refl; of_texts = refl; of_bytes = refl }
+
+identified_room : room (identified 8) 96 ≡ 225
+unfolding room least_width identified
+identified_room = refl
+
+-- on five bytes there is none, but the array of one is tried
+one_identified : AreBounds true (identified 8) 40 28 7 24 10 3 6
+unfolding capacity_bound least_width identified
+one_identified =
+    record { of_nodes = refl; of_families = refl; of_links = refl; of_pending = refl; of_texts = refl; of_bytes = refl }
+
+-- numbers of more than 32 bits: the structs aren't packed, but each has its array packed
+wide_identified : AreBounds true (identified 40) 200 40 27 39 40 13 390
+unfolding capacity_bound least_width identified
+wide_identified =
     record { of_nodes = refl; of_families = refl; of_links = refl; of_pending = refl; of_texts = refl; of_bytes = refl }

@@ -1,17 +1,19 @@
 -- The capacity bound of a type is at most what `room` slots take.
-use Rattle.std.proofs.Common.{◌≡◌, ℕ, zero, suc, ◌+◌, ◌*◌, ◌/◌, ◌≤◌, min, max, length, Bool, true, false, List, [], Some, refl, sym, ap, subst, ◌∙◌, arith}
+use Rattle.std.proofs.Common.{◌≡◌, ℕ, zero, suc, ◌+◌, ◌-◌, ◌*◌, ◌/◌, ◌≤◌, min, max, length, Bool, true, false, List, [], Some, refl, sym, ap, subst, ◌∙◌, arith}
+use Rattle.std.specs.Prelude.{nat_le, if◌then◌else◌}
 use Rattle.std.proofs.Math.Nat.{mul-le-mul_left, mul-le-mul_right}
+use Rattle.std.proofs.lemmas.Bool.{leb-true}
 use Rattle.pickle_types.specs.Types.{PokeType, IntegerOf, OffsetOf, StringOf, ArrayOf, StructOf, IntegralOf, UnionOf, Fields, NoFields, FieldThen, Parts, NoParts, PartThen}
 use Rattle.pickle_types.specs.Bounds.{least_width, count_of, room, fields_room, parts_room, greatest_room}
 use Rattle.pickle_types.specs.Table.{type_of}
 use Rattle.value_store.specs.Packed.{bytes_for}
 use Rattle.value_store.specs.Takes.{Vector, NodesOf, FamiliesOf, LinksOf, PendingOf, TextsOf, BytesOf}
-use Rattle.mapping_plans.specs.Rows.{Row, Apart, Numbers, Records, Values, scalar_width, column_width, column_widths, stride_of, row_of}
+use Rattle.mapping_plans.specs.Rows.{Row, Apart, Numbers, Records, Values, scalar_width, column_width, column_widths, stride_of, layout_of, row_of}
 use Rattle.mapping_plans.specs.Widths.{HasWidths, HaveWidths, PartsHaveWidths}
 use Rattle.mapping_plans.proofs.Layouts.{element_laid}
 use Rattle.mapping_plans.proofs.TableWidths.{table_widths}
 use Rattle.mapping_plans.proofs.StructRows.{both_are, column_is, packed_struct_is}
-use Rattle.type_soundness.specs.Capacity.{number_bound, string_bound, family_bound, link_bound, row_bound, records_bound, values_bound, array_bound, where_rows, capacity_bound, fields_bound, parts_bound, greatest_bound, slot_takes}
+use Rattle.type_soundness.specs.Capacity.{number_bound, string_bound, family_bound, link_bound, row_bound, records_bound, array_bytes, fit_bytes, values_bound, array_bound, where_rows, capacity_bound, fields_bound, parts_bound, greatest_bound, slot_takes}
 use Rattle.type_soundness.specs.CapacityLaws.{BoundsAreSlots}
 use Rattle.type_soundness.proofs.LaidSlots.{FitSlots, laid_slots}
 use Rattle.type_soundness.proofs.Packing.{packed_number_is, is_packed}
@@ -26,8 +28,9 @@ pub record IsSlot (packs : Bool) (vector : Vector) (k m : ℕ) : Type 0 where
   pub row : packs ≡ true → (width count : ℕ) → width ≤ 64 → row_bound vector width count ≤ k * (1 + count * (1 + 1))
   pub records : packs ≡ true → (widths : List ℕ) (count : ℕ) → 1 ≤ count → stride_of widths ≤ 8 * length widths →
       records_bound vector widths count ≤ k * (1 + count * (2 + 2 * length widths))
-  pub values : packs ≡ true → (each : Vector → ℕ) (stride count r : ℕ) → 1 ≤ count → FitSlots each stride r →
-      values_bound vector stride count (each vector) ≤ k * (1 + count * (1 + r))
+  pub values : packs ≡ true → (apart : Vector → ℕ) (each bits bytes r count : ℕ) → 1 ≤ count →
+      FitSlots apart bits bytes m r → each ≤ k * r →
+      values_bound vector count (apart vector) each (if nat_le bits m then bytes else 0) ≤ k * (1 + count * (1 + r))
 
 members_few : (k count family link each r : ℕ) → family ≤ k → link ≤ k → each ≤ k * r →
     family + count * (link + each) ≤ k * (1 + count * (1 + r))
@@ -88,7 +91,8 @@ struct_narrow m type widths e h =
 module _ (packs : Bool) (vector : Vector) (k m : ℕ) (slot : IsSlot packs vector k m) where
   array_slots : (element : PokeType) → (packs ≡ true → HasWidths element) → (row : Row) →
       where_rows packs (row_of element) ≡ row → capacity_bound packs vector element m ≤ k * room element m →
-      array_bound row vector (count_of m (least_width element)) (capacity_bound packs vector element m)
+      array_bound row vector (count_of m (least_width element)) (capacity_bound false vector element m)
+      (capacity_bound packs vector element m) (fit_bytes (layout_of 0 element) (array_bytes element) m)
       ≤ k * (1 + count_of m (least_width element) * (1 + room element m))
   array_slots element narrow Apart e le = members_few k (count_of m (least_width element)) (family_bound vector)
       (link_bound vector) (capacity_bound packs vector element m) (room element m) slot.family slot.link le
@@ -108,10 +112,13 @@ module _ (packs : Bool) (vector : Vector) (k m : ℕ) (slot : IsSlot packs vecto
   array_slots element narrow (Values stride) e le =
       let is = is_packed packs (row_of element) (Values stride) e (λ same. cc) in
       let l = element_laid element stride is.1 in
-      slot.values is.0 (λ kind. capacity_bound packs kind element m) stride (count_of m (least_width element))
-      (room element m) (omega arith)
-      (subst (λ bytes. FitSlots (λ kind. capacity_bound packs kind element m) bytes (room element m)) l.bytes
-      (laid_slots packs m 0 element l.layout l.laid (narrow is.0)))
+      let count = count_of m (least_width element) in
+      subst (λ own. values_bound vector count (capacity_bound false vector element m)
+      (capacity_bound packs vector element m) (fit_bytes own (array_bytes element) m)
+      ≤ k * (1 + count * (1 + room element m))) (sym l.laid)
+      (slot.values is.0 (λ kind. capacity_bound false kind element m) (capacity_bound packs vector element m)
+      l.layout.bits (array_bytes element + l.layout.bytes) (room element m) count (omega arith)
+      (laid_slots m 0 element l.layout l.laid (narrow is.0)) le)
 
   mutual
     unfolding capacity_bound room HasWidths
@@ -187,23 +194,50 @@ few_values (suc (suc n)) e r some le =
     let more = mul-le-mul_right (1 + r) tries in
     omega (arith, all, more, le)
 
-values_slots : (vector : Vector) (each : Vector → ℕ) (stride count r : ℕ) → 1 ≤ count → FitSlots each stride r →
-    values_bound vector stride count (each vector) ≤ slot_takes vector * (1 + count * (1 + r))
-values_slots NodesOf each stride count r some f =
-    let few = few_values count (each NodesOf) r some f.nodes in omega (arith, few)
-values_slots FamiliesOf each stride count r some f =
-    let few = few_values count (each FamiliesOf) r some f.families in omega (arith, few)
-values_slots LinksOf each stride count r some f =
+-- and at most two texts of what a value takes
+few_texts : (count e r : ℕ) → 1 ≤ count → e ≤ r → min 2 count * e ≤ count * (1 + r)
+few_texts count e r some le =
+    let two : min 2 count ≤ count = omega arith in
+    let all = mul-le-mul_right e two in
+    let more : e ≤ 1 + r = omega (arith, le) in
+    let each = mul-le-mul_left count more in
+    omega (arith, all, each)
+
+-- where a value fits, its bytes
+fit_few : (t : Bool) (bits m bytes r : ℕ) → nat_le bits m ≡ t → (bits ≤ m → bytes ≤ 4 * (1 + r)) →
+    (if t then bytes else 0) ≤ 4 * (1 + r)
+fit_few true bits m bytes r e few = few (leb-true bits m e)
+fit_few false bits m bytes r e few = omega arith
+
+all_bytes : (count fit each r : ℕ) → 1 ≤ count → fit ≤ 4 * (1 + r) → each ≤ 4 * r →
+    fit * (count - 1) + max each fit ≤ 4 * (1 + count * (1 + r))
+all_bytes zero fit each r some few le = absurd (omega (arith, some))
+all_bytes (suc n) fit each r some few le =
+    let same : suc n - 1 ≡ n = omega arith in
+    let all = mul-le-mul_right n few in
+    rw same (omega (arith, all, few, le))
+
+values_slots : (vector : Vector) (apart : Vector → ℕ) (m each bits bytes r count : ℕ) → 1 ≤ count →
+    FitSlots apart bits bytes m r → each ≤ slot_takes vector * r →
+    values_bound vector count (apart vector) each (if nat_le bits m then bytes else 0)
+    ≤ slot_takes vector * (1 + count * (1 + r))
+values_slots NodesOf apart m each bits bytes r count some f le =
+    let few = few_values count (apart NodesOf) r some f.nodes in omega (arith, few)
+values_slots FamiliesOf apart m each bits bytes r count some f le =
+    let few = few_values count (apart FamiliesOf) r some f.families in omega (arith, few)
+values_slots LinksOf apart m each bits bytes r count some f le =
     let links = f.links in
-    let few = few_values count (each LinksOf) r some (omega (arith, links)) in
+    let few = few_values count (apart LinksOf) r some (omega (arith, links)) in
     omega (arith, few)
-values_slots PendingOf each stride count r some f =
+values_slots PendingOf apart m each bits bytes r count some f le =
     let pending = f.pending in
     let all = mul-le-mul_right (1 + r) some in
     omega (arith, pending, all)
-values_slots TextsOf each stride count r some f = omega arith
-values_slots BytesOf each stride count r some f =
-    let all = mul-le-mul_right count f.bytes in omega (arith, all)
+values_slots TextsOf apart m each bits bytes r count some f le =
+    let few = few_texts count each r some (omega (arith, le)) in omega (arith, few)
+values_slots BytesOf apart m each bits bytes r count some f le =
+    all_bytes count (if nat_le bits m then bytes else 0) each r some
+    (fit_few (nat_le bits m) bits m bytes r refl f.bytes) le
 
 vector_slot : (packs : Bool) (vector : Vector) (m : ℕ) → IsSlot packs vector (slot_takes vector) m
 vector_slot packs NodesOf m = record {
@@ -213,7 +247,7 @@ vector_slot packs NodesOf m = record {
   link = omega arith;
   row = λ e. row_slots NodesOf;
   records = λ e. records_slots NodesOf;
-  values = λ e. values_slots NodesOf;
+  values = λ e apart. values_slots NodesOf apart m;
 }
 vector_slot packs FamiliesOf m = record {
   number = omega arith;
@@ -222,7 +256,7 @@ vector_slot packs FamiliesOf m = record {
   link = omega arith;
   row = λ e. row_slots FamiliesOf;
   records = λ e. records_slots FamiliesOf;
-  values = λ e. values_slots FamiliesOf;
+  values = λ e apart. values_slots FamiliesOf apart m;
 }
 vector_slot packs LinksOf m = record {
   number = omega arith;
@@ -231,7 +265,7 @@ vector_slot packs LinksOf m = record {
   link = omega arith;
   row = λ e. row_slots LinksOf;
   records = λ e. records_slots LinksOf;
-  values = λ e. values_slots LinksOf;
+  values = λ e apart. values_slots LinksOf apart m;
 }
 vector_slot packs PendingOf m = record {
   number = omega arith;
@@ -240,7 +274,7 @@ vector_slot packs PendingOf m = record {
   link = omega arith;
   row = λ e. row_slots PendingOf;
   records = λ e. records_slots PendingOf;
-  values = λ e. values_slots PendingOf;
+  values = λ e apart. values_slots PendingOf apart m;
 }
 vector_slot packs TextsOf m = record {
   number = omega arith;
@@ -249,7 +283,7 @@ vector_slot packs TextsOf m = record {
   link = omega arith;
   row = λ e. row_slots TextsOf;
   records = λ e. records_slots TextsOf;
-  values = λ e. values_slots TextsOf;
+  values = λ e apart. values_slots TextsOf apart m;
 }
 vector_slot packs BytesOf m = record {
   number = omega arith;
@@ -258,7 +292,7 @@ vector_slot packs BytesOf m = record {
   link = omega arith;
   row = λ e. row_slots BytesOf;
   records = λ e. records_slots BytesOf;
-  values = λ e. values_slots BytesOf;
+  values = λ e apart. values_slots BytesOf apart m;
 }
 
 -- where nothing is packed, a slot of any kind takes one entry
@@ -270,7 +304,7 @@ one_slot NodesOf m = record {
   link = omega arith;
   row = λ e width count le. absurd cc;
   records = λ e widths count some le. absurd cc;
-  values = λ e each stride count r some fit. absurd cc;
+  values = λ e apart each bits bytes r count some fit le. absurd cc;
 }
 one_slot FamiliesOf m = record {
   number = omega arith;
@@ -279,7 +313,7 @@ one_slot FamiliesOf m = record {
   link = omega arith;
   row = λ e width count le. absurd cc;
   records = λ e widths count some le. absurd cc;
-  values = λ e each stride count r some fit. absurd cc;
+  values = λ e apart each bits bytes r count some fit le. absurd cc;
 }
 one_slot LinksOf m = record {
   number = omega arith;
@@ -288,7 +322,7 @@ one_slot LinksOf m = record {
   link = omega arith;
   row = λ e width count le. absurd cc;
   records = λ e widths count some le. absurd cc;
-  values = λ e each stride count r some fit. absurd cc;
+  values = λ e apart each bits bytes r count some fit le. absurd cc;
 }
 one_slot PendingOf m = record {
   number = omega arith;
@@ -297,7 +331,7 @@ one_slot PendingOf m = record {
   link = omega arith;
   row = λ e width count le. absurd cc;
   records = λ e widths count some le. absurd cc;
-  values = λ e each stride count r some fit. absurd cc;
+  values = λ e apart each bits bytes r count some fit le. absurd cc;
 }
 one_slot TextsOf m = record {
   number = omega arith;
@@ -306,7 +340,7 @@ one_slot TextsOf m = record {
   link = omega arith;
   row = λ e width count le. absurd cc;
   records = λ e widths count some le. absurd cc;
-  values = λ e each stride count r some fit. absurd cc;
+  values = λ e apart each bits bytes r count some fit le. absurd cc;
 }
 one_slot BytesOf m = record {
   number = omega arith;
@@ -315,7 +349,7 @@ one_slot BytesOf m = record {
   link = omega arith;
   row = λ e width count le. absurd cc;
   records = λ e widths count some le. absurd cc;
-  values = λ e each stride count r some fit. absurd cc;
+  values = λ e apart each bits bytes r count some fit le. absurd cc;
 }
 
 pub unpacked_slots : (vector : Vector) (ty : PokeType) (m : ℕ) → capacity_bound false vector ty m ≤ room ty m

@@ -17,6 +17,7 @@ mod Taking
 mod Capacity
 mod Packing
 mod LaidBounds
+mod LaidYields
 mod PackedValues
 mod ValueArrays
 mod Moving

@@ -14,13 +14,13 @@ use Rattle.pickle_meaning.specs.Clauses.{FaultAt, condition, field_start, extent
 use Rattle.pickle_meaning.specs.Means.{Opened, Taken, number_type, width_in, first_digits, ordered, field_names, part_names, struct_value}
 use Rattle.mapping_plans.specs.Plan.{Plan, Ended, Read, in_row, then_ok}
 use Rattle.mapping_plans.specs.Mapping.{makes, closes, constrained, number_plan, digits_plan, read_plan, after_byte, text_plan, then_packed, after_element, array_move, element_plan, elements_plan, after_attempt, array_closes, plan, fields_plan, alternatives_plan}
-use Rattle.mapping_plans.specs.Rows.{Row, Apart, Numbers, Records, Values, row_of}
+use Rattle.mapping_plans.specs.Rows.{Row, Apart, Numbers, Records, Values, layout_of, row_of}
 use Rattle.mapping_plans.proofs.Fitting.{longer}
 use Rattle.value_store.specs.declared.store.slots.Marks.{Marks}
 use Rattle.value_store.specs.Moves.{Opens, Clears, Places, Leaves as LeavesOut, Closes, Writes, Ends, ClosesRow, State, moved, needed, with_number, with_text, with_links}
 use Rattle.value_store.specs.Slots.{innermost, around}
 use Rattle.value_store.specs.Takes.{Vector, NodesOf, FamiliesOf, LinksOf, PendingOf, TextsOf, BytesOf, of_vector}
-use Rattle.type_soundness.specs.Capacity.{number_bound, string_bound, family_bound, link_bound, array_bound, values_bound, where_rows, capacity_bound, fields_bound, parts_bound, greatest_bound}
+use Rattle.type_soundness.specs.Capacity.{number_bound, string_bound, family_bound, link_bound, array_bytes, fit_bytes, array_bound, values_bound, where_rows, capacity_bound, fields_bound, parts_bound, greatest_bound}
 use Rattle.mapping_plans.proofs.Stored.{Stores, at_end, at_tick, at_made, at_read, Leaves, weaker_stores, then_stores, ok_stores, told_stores, one_stores, inside_stores, checked_stores, framed_stores, row_stores, apart_stores}
 use Rattle.type_soundness.proofs.Places.{place_bound}
 use Rattle.type_soundness.proofs.Packing.{PacksNumbers, is_packed, closed_row, row_pending, IsPacked, none_packed, packed_elements}
@@ -141,17 +141,21 @@ closes_needs packing (Records widths) state = refl
 closes_needs packing (Values stride) state = refl
 
 -- an array whose elements are packed as values of fixed layout
+abbrev values_full : (packing : Bool) → Vector → PokeType → (m : ℕ) → ℕ
+values_full packing vector element m = values_bound vector (count_of m (least_width element))
+    (capacity_bound false vector element m) (capacity_bound packing vector element m)
+    (fit_bytes (layout_of 0 element) (array_bytes element) m)
+
 values_stores : (packing : Bool) (vector : Vector) (b m : ℕ) (element : PokeType) (order : Order) (stride : ℕ) →
     packing ≡ true → row_of element ≡ Values stride →
     ((l : Levels) (at : ℕ) (now : State) → of_vector vector now.now + capacity_bound packing vector element m ≤ b →
     Stores packing Apart (λ now. of_vector vector now.now ≤ b) (Leaves
     (λ v last. of_vector vector last.now ≤ of_vector vector now.now + capacity_bound packing vector element m)
     (λ last. last ≡ now)) (plan m element order l at) now) → (state : State) →
-    of_vector vector state.now
-    + values_bound vector stride (count_of m (least_width element)) (capacity_bound packing vector element m) ≤ b →
+    of_vector vector state.now + values_full packing vector element m ≤ b →
     (extent : Extent) (levels : Levels) (s : ℕ) →
-    Stores packing Apart (λ now. of_vector vector now.now ≤ b) (Leaves (λ v. IsMember vector
-    (values_bound vector stride (count_of m (least_width element)) (capacity_bound packing vector element m)) state)
+    Stores packing Apart (λ now. of_vector vector now.now ≤ b)
+    (Leaves (λ v. IsMember vector (values_full packing vector element m) state)
     (λ last. last.frames ≡ state.now ∷ state.frames)) (then_ok
     (elements_plan (element_plan element (plan m element order)) m s extent (count_of m (least_width element)) 0
     (opened levels) s) (array_closes element s)) (moved packing Opens state)
@@ -245,6 +249,17 @@ module _ (packing : Bool) (vector : Vector) where
 
     abbrev tries : PokeType → ℕ
     tries element = count_of m (least_width element)
+
+    -- what it takes where nothing is packed, and its bytes where it is packed
+    abbrev apart : PokeType → ℕ
+    apart ty = capacity_bound false vector ty m
+
+    abbrev fit : PokeType → ℕ
+    fit ty = fit_bytes (layout_of 0 ty) (array_bytes ty) m
+
+    -- an array of elements that are kept in such a way
+    abbrev array_full : Row → PokeType → ℕ
+    array_full row element = array_bound row vector (tries element) (apart element) (most element) (fit element)
 
     -- a frame is closed as a value
     closes_stores : (n : ℕ) (make : Levels → Value) (inside : Levels) (state last : State) →
@@ -387,53 +402,54 @@ module _ (packing : Bool) (vector : Vector) where
     -- in a store that packs them
     packed_stores : (element : PokeType) (order : Order) (extent : Extent) (levels : Levels) (s : ℕ) (state : State) →
         packing ≡ true → PacksNumbers (row_of element) →
-        size state + array_bound (row_of element) vector (tries element) (most element) ≤ b →
-        Keeps (λ v. Added (array_bound (row_of element) vector (tries element) (most element)) state)
+        size state + array_full (row_of element) element ≤ b →
+        Keeps (λ v. Added (array_full (row_of element) element) state)
         (Framed (moved packing Opens state)) (array_plan element order extent levels s) (moved packing Opens state)
     packed_stores element order extent levels s state e other le =
         let row = row_of element in
         let count = tries element in
-        let each = most element in
         let start : State = moved true Opens state in
         subst (λ packs.
-        Stores packs Apart Within (Leaves (λ v. Added (array_bound row vector count each) state) (Framed start))
+        Stores packs Apart Within (Leaves (λ v. Added (array_full row element) state) (Framed start))
         (array_plan element order extent levels s) start) (sym e)
-        (ok_stores {P = λ r. IsPacked row count state} {Q = λ v. Added (array_bound row vector count each) state}
+        (ok_stores {P = λ r. IsPacked row count state} {Q = λ v. Added (array_full row element) state}
         {E = Framed start} _
         (λ r last p.
         let inner : innermost last.frames ≡ state.now = ap innermost p.frames in
-        let closed = closed_row vector row state.now last.now count each p.filled p.few in
+        let closed =
+        closed_row vector row state.now last.now count (apart element) (most element) (fit element) p.filled p.few in
         let one = row_pending row state.now last.now p.filled in
-        let a : Added (array_bound row vector count each) state (moved true ClosesRow last) =
+        let a : Added (array_full row element) state (moved true ClosesRow last) =
         rw inner (record { frames = ap around p.frames; few = closed; one = one }) in
-        let a = subst (λ move. Added (array_bound row vector count each) state (moved true move last))
+        let a = subst (λ move. Added (array_full row element) state (moved true move last))
         (sym (packed_closes row other)) a in
         let few = a.few in
         let here : size (moved true (array_move row) last) ≤ b = omega (arith, few, le) in
         at_made (subst Within (sym (closes_needs true row last)) here) (at_end a))
-        (packed_elements vector b m element other order count each s extent state le count 0 0 (opened levels) s start
+        (packed_elements vector b m element other order count (apart element) (most element) (fit element) s extent
+        state le count 0 0 (opened levels) s start
         (none_packed row 0 state) (omega arith)))
 
     packed_row : (element : PokeType) (order : Order) (extent : Extent) (levels : Levels) (s : ℕ) (state : State)
         (row : Row) → where_rows packing (row_of element) ≡ row → (row ≡ Apart → ⊥) → PacksNumbers row →
-        size state + array_bound row vector (tries element) (most element) ≤ b →
-        Keeps (λ v. Added (array_bound row vector (tries element) (most element)) state)
+        size state + array_full row element ≤ b →
+        Keeps (λ v. Added (array_full row element) state)
         (Framed (moved packing Opens state)) (array_plan element order extent levels s) (moved packing Opens state)
     packed_row element order extent levels s state row e other numbers le =
         let is = is_packed packing (row_of element) row e other in
-        subst (λ kept. Keeps (λ v. Added (array_bound kept vector (tries element) (most element)) state)
+        subst (λ kept. Keeps (λ v. Added (array_full kept element) state)
         (Framed (moved packing Opens state)) (array_plan element order extent levels s) (moved packing Opens state))
         is.1
         (packed_stores element order extent levels s state is.0 (subst PacksNumbers (sym is.1) numbers)
-        (subst (λ kept. size state + array_bound kept vector (tries element) (most element) ≤ b) (sym is.1) le))
+        (subst (λ kept. size state + array_full kept element ≤ b) (sym is.1) le))
 
     array_stores : (element : PokeType) (order : Order) →
         ((l : Levels) (at : ℕ) (now : State) → size now + most element ≤ b →
         Keeps (λ v. Added (most element) now) (λ last. last ≡ now) (plan m element order l at) now) →
         (extent : Extent) (levels : Levels) (s : ℕ) (state : State) (row : Row) →
         where_rows packing (row_of element) ≡ row →
-        size state + array_bound row vector (tries element) (most element) ≤ b →
-        Keeps (λ v. Added (array_bound row vector (tries element) (most element)) state)
+        size state + array_full row element ≤ b →
+        Keeps (λ v. Added (array_full row element) state)
         (Framed (moved packing Opens state)) (array_plan element order extent levels s) (moved packing Opens state)
     array_stores element order g extent levels s state Apart e le =
         let start : State = moved packing Opens state in
@@ -456,7 +472,7 @@ module _ (packing : Bool) (vector : Vector) where
         packed_row element order extent levels s state (Records widths) e (λ same. cc) tt le
     array_stores element order g extent levels s state (Values stride) e le =
         let is = is_packed packing (row_of element) (Values stride) e (λ same. cc) in
-        weaker_stores (member_added (values_bound vector stride (tries element) (most element)) state)
+        weaker_stores (member_added (values_full packing vector element m) state)
         (values_stores packing vector b m element order stride is.0 is.1
         (λ l at now up. weaker_stores (few_added (most element) now) (g l at now up)) state le extent levels s)
 

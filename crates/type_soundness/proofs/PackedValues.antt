@@ -14,109 +14,215 @@ use Rattle.mapping_plans.specs.Rows.{Apart}
 use Rattle.mapping_plans.proofs.Adding.{with_one}
 use Rattle.mapping_plans.proofs.Stored.{Stores, at_end, at_tick, at_made, Leaves, then_stores, ok_stores, one_stores}
 use Rattle.value_store.specs.declared.store.slots.Marks.{Marks}
-use Rattle.value_store.specs.Layouts.{row_length, value_size, packs_value}
-use Rattle.value_store.specs.Moves.{ValueSize, Opens, State, moved, needed, with_links, with_row, with_value, with_first_value, with_first_drafted, with_next_value}
+use Rattle.value_store.specs.Layouts.{row_length, value_size, template_size, packs_value}
+use Rattle.value_store.specs.Moves.{ValueSize, TemplateSize, Opens, State, moved, needed, with_links, with_row, with_value, with_first_value, with_first_drafted, with_next_value}
 use Rattle.value_store.proofs.Moved.{same-marks}
 use Rattle.value_store.specs.Takes.{Vector, NodesOf, FamiliesOf, LinksOf, PendingOf, TextsOf, BytesOf, of_vector}
-use Rattle.type_soundness.specs.Capacity.{values_take, values_bound}
+use Rattle.type_soundness.specs.Capacity.{values_bound}
 
 -- ---- lengths
 
+-- what the first value of an array takes, its template and the array, with so many bytes in all
+abbrev some_take : Vector → (apart each bytes : ℕ) → ℕ
+some_take NodesOf apart each bytes = 2 * apart + 1
+some_take FamiliesOf apart each bytes = 2 * apart + 1
+some_take LinksOf apart each bytes = 2 * apart
+some_take PendingOf apart each bytes = 1
+some_take TextsOf apart each bytes = each + 1
+some_take BytesOf apart each bytes = bytes
+
 -- an open array has packed values, `c` or fewer, and began at k
-pub record SomeValues (vector : Vector) (stride each c : ℕ) (k n : Marks) : Type 0 where
+pub record SomeValues (vector : Vector) (apart each fit c : ℕ) (k n : Marks) : Type 0 where
   pub some : 1 ≤ c
-  pub texts : n.texts ≡ k.texts + 1
   pub pending : n.pending ≡ k.pending + 1
   pub nodes : k.nodes < n.nodes
-  pub few : of_vector vector n ≤ of_vector vector k + values_take vector (2 * each) 0 (stride * c)
+  pub few : of_vector vector n ≤ of_vector vector k + some_take vector apart each (fit * c)
 
--- the value after an array takes at most `each`, and a place for each of its nodes while its template is made
-pub record IsSmall (vector : Vector) (size : ValueSize) (each : ℕ) (n : Marks) : Type 0 where
+-- a value takes at most as much as where nothing is packed, but for texts and bytes
+abbrev pub IsFewer : Vector → (each apart : ℕ) → Type 0
+IsFewer NodesOf each apart = each ≤ apart
+IsFewer FamiliesOf each apart = each ≤ apart
+IsFewer LinksOf each apart = each ≤ apart
+IsFewer PendingOf each apart = each ≤ apart
+IsFewer TextsOf each apart = Unit {0}
+IsFewer BytesOf each apart = Unit {0}
+
+-- a template has no texts and no bytes, and each of its nodes has a place while it is made
+abbrev pub template_takes : Vector → TemplateSize → ℕ
+template_takes NodesOf template = template.nodes
+template_takes FamiliesOf template = template.families
+template_takes LinksOf template = template.links
+template_takes PendingOf template = template.nodes
+template_takes TextsOf template = 0
+template_takes BytesOf template = 0
+
+-- the value after an array takes at most `each`, and its template `apart`; packed, it has so many bytes more
+pub record IsSmall (vector : Vector) (size : ValueSize) (template : TemplateSize) (stride apart each fit : ℕ)
+    (n : Marks) : Type 0 where
   pub few : of_vector vector (with_value size n) ≤ of_vector vector n + each
-  pub places : vector ≡ PendingOf → size.nodes ≤ each
+  pub drafted : template_takes vector template ≤ apart
+  pub bytes : size.bytes + stride ≤ fit
 
 -- what is there at most
-twice : (count each : ℕ) → 1 ≤ count → 2 * each ≤ min 3 (count + 1) * each
-twice count each some = let two : 2 ≤ min 3 (count + 1) = omega arith in mul-le-mul_right each two
+twice : (count apart : ℕ) → 1 ≤ count → 2 * apart ≤ min 3 (count + 1) * apart
+twice count apart some = let two : 2 ≤ min 3 (count + 1) = omega arith in mul-le-mul_right apart two
 
-thrice : (count each : ℕ) → 2 ≤ count → 3 * each ≤ min 3 (count + 1) * each
-thrice count each some = let three : 3 ≤ min 3 (count + 1) = omega arith in mul-le-mul_right each three
+thrice : (count apart : ℕ) → 2 ≤ count → 3 * apart ≤ min 3 (count + 1) * apart
+thrice count apart some = let three : 3 ≤ min 3 (count + 1) = omega arith in mul-le-mul_right apart three
 
-stride_in : (stride count : ℕ) → 1 ≤ count → stride ≤ stride * count
-stride_in stride count some =
-    let all = mul-le-mul_left stride some in let one : stride * 1 ≡ stride = omega arith in omega (arith, all, one)
+one_text : (count each : ℕ) → 1 ≤ count → 1 * each ≤ min 2 count * each
+one_text count each some = let one : 1 ≤ min 2 count = omega arith in mul-le-mul_right each one
 
--- the first value, its template and the array
-first_drafted : (vector : Vector) (size : ValueSize) (each apart stride bytes : ℕ) (k : Marks) → 2 * each ≤ apart →
-    stride ≤ bytes → IsSmall vector size each k →
-    of_vector vector (with_first_drafted size stride (with_value size k))
-    ≤ of_vector vector k + values_take vector apart each bytes
-first_drafted NodesOf size each apart stride bytes k two le s = let few = s.few in omega (arith, few, two)
-first_drafted FamiliesOf size each apart stride bytes k two le s = let few = s.few in omega (arith, few, two)
-first_drafted LinksOf size each apart stride bytes k two le s = let few = s.few in omega (arith, few, two)
-first_drafted PendingOf size each apart stride bytes k two le s = let few = s.places refl in omega (arith, few)
-first_drafted TextsOf size each apart stride bytes k two le s = omega arith
-first_drafted BytesOf size each apart stride bytes k two le s = omega (arith, le)
+two_texts : (count each : ℕ) → 2 ≤ count → 2 * each ≤ min 2 count * each
+two_texts count each some = let two : 2 ≤ min 2 count = omega arith in mul-le-mul_right each two
 
-first_size : (vector : Vector) (size : ValueSize) (each stride bytes : ℕ) (k : Marks) → stride ≤ bytes →
-    IsSmall vector size each k →
-    of_vector vector (with_first_value size stride (with_value size k))
-    ≤ of_vector vector k + values_take vector (2 * each) 0 bytes
-first_size NodesOf size each stride bytes k le s = let few = s.few in omega (arith, few)
-first_size FamiliesOf size each stride bytes k le s = let few = s.few in omega (arith, few)
-first_size LinksOf size each stride bytes k le s = let few = s.few in omega (arith, few)
-first_size PendingOf size each stride bytes k le s = omega arith
-first_size TextsOf size each stride bytes k le s = omega arith
-first_size BytesOf size each stride bytes k le s = omega (arith, le)
+-- the bytes of all but one
+other_bytes : (c count fit : ℕ) → c + 1 ≤ count → fit * c ≤ fit * (count - 1)
+other_bytes c count fit le = let others : c ≤ count - 1 = omega (arith, le) in mul-le-mul_left fit others
 
-first_values : (vector : Vector) (size : ValueSize) (each stride c : ℕ) (k : Marks) → IsSmall vector size each k →
-    SomeValues vector stride each (c + 1) k (with_first_value size stride (with_value size k))
-first_values vector size each stride c k s = record {
-  some = omega arith;
-  texts = refl;
-  pending = refl;
-  nodes = omega arith;
-  few = first_size vector size each stride (stride * (c + 1)) k (stride_in stride (c + 1) (omega arith)) s;
-}
+all_bytes : (count fit : ℕ) → 1 ≤ count → fit * count ≤ fit * (count - 1) + fit
+all_bytes count fit some =
+    let le : count ≤ (count - 1) + 1 = omega (arith, some) in
+    let all = mul-le-mul_left fit le in
+    let sum = mul-add fit (count - 1) 1 in
+    omega (arith, all, sum)
 
--- another value after the array
-after_size : (vector : Vector) (size : ValueSize) (each apart stride bytes most : ℕ) (k n : Marks) →
-    3 * each ≤ apart → bytes + stride ≤ most → n.texts ≡ k.texts + 1 → n.pending ≡ k.pending + 1 →
-    of_vector vector n ≤ of_vector vector k + values_take vector (2 * each) 0 bytes → IsSmall vector size each n →
-    of_vector vector (record (with_value size n) { bytes = n.bytes + stride })
-    ≤ of_vector vector k + values_take vector apart each most
-after_size NodesOf size each apart stride bytes most k n three le t p few s =
-    let own = s.few in omega (arith, own, few, three)
-after_size FamiliesOf size each apart stride bytes most k n three le t p few s =
-    let own = s.few in omega (arith, own, few, three)
-after_size LinksOf size each apart stride bytes most k n three le t p few s =
-    let own = s.few in omega (arith, own, few, three)
-after_size PendingOf size each apart stride bytes most k n three le t p few s =
-    let own = s.few in omega (arith, own, p)
-after_size TextsOf size each apart stride bytes most k n three le t p few s = omega (arith, t)
-after_size BytesOf size each apart stride bytes most k n three le t p few s = omega (arith, few, le)
+module _ (apart each fit count : ℕ) where
+  -- the first value, its template and the array
+  first_drafted : (vector : Vector) (size : ValueSize) (template : TemplateSize) (stride : ℕ) (k : Marks) →
+      1 ≤ count → IsFewer vector each apart → IsSmall vector size template stride apart each fit k →
+      of_vector vector (with_first_drafted template stride (with_value size k))
+      ≤ of_vector vector k + values_bound vector count apart each fit
+  first_drafted NodesOf size template stride k some less s =
+      let few = s.few in let more = s.drafted in let two = twice count apart some in omega (arith, few, less, more, two)
+  first_drafted FamiliesOf size template stride k some less s =
+      let few = s.few in let more = s.drafted in let two = twice count apart some in omega (arith, few, less, more, two)
+  first_drafted LinksOf size template stride k some less s =
+      let few = s.few in let more = s.drafted in let two = twice count apart some in omega (arith, few, less, more, two)
+  first_drafted PendingOf size template stride k some less s = let more = s.drafted in omega (arith, more)
+  first_drafted TextsOf size template stride k some less s =
+      let few = s.few in let one = one_text count each some in omega (arith, few, one)
+  first_drafted BytesOf size template stride k some less s = let bytes = s.bytes in omega (arith, bytes)
 
--- while it is mapped
-mapped_size : (vector : Vector) (each apart bytes most : ℕ) (k n : Marks) → 3 * each ≤ apart → bytes ≤ most →
-    (vector ≡ TextsOf → each ≡ 0) → (vector ≡ BytesOf → each ≡ 0) → n.pending ≡ k.pending + 1 →
-    of_vector vector n ≤ of_vector vector k + values_take vector (2 * each) 0 bytes →
-    of_vector vector n + each ≤ of_vector vector k + values_take vector apart each most
-mapped_size NodesOf each apart bytes most k n three le t b p few = omega (arith, few, three)
-mapped_size FamiliesOf each apart bytes most k n three le t b p few = omega (arith, few, three)
-mapped_size LinksOf each apart bytes most k n three le t b p few = omega (arith, few, three)
-mapped_size PendingOf each apart bytes most k n three le t b p few = omega (arith, p)
-mapped_size TextsOf each apart bytes most k n three le t b p few = let none = t refl in omega (arith, few, none)
-mapped_size BytesOf each apart bytes most k n three le t b p few = let none = b refl in omega (arith, few, none, le)
+  first_size : (vector : Vector) (size : ValueSize) (template : TemplateSize) (stride c : ℕ) (k : Marks) →
+      IsFewer vector each apart → IsSmall vector size template stride apart each fit k →
+      of_vector vector (with_first_value template stride (with_value size k))
+      ≤ of_vector vector k + some_take vector apart each (fit * (c + 1))
+  first_size NodesOf size template stride c k less s =
+      let few = s.few in let more = s.drafted in omega (arith, few, less, more)
+  first_size FamiliesOf size template stride c k less s =
+      let few = s.few in let more = s.drafted in omega (arith, few, less, more)
+  first_size LinksOf size template stride c k less s =
+      let few = s.few in let more = s.drafted in omega (arith, few, less, more)
+  first_size PendingOf size template stride c k less s = omega arith
+  first_size TextsOf size template stride c k less s = let few = s.few in omega (arith, few)
+  first_size BytesOf size template stride c k less s =
+      let bytes = s.bytes in let sum = mul-add fit c 1 in omega (arith, bytes, sum)
 
--- while the first is mapped
-alone_size : (vector : Vector) (each apart bytes : ℕ) → 2 * each ≤ apart → (vector ≡ TextsOf → each ≡ 0) →
-    (vector ≡ BytesOf → each ≡ 0) → each ≤ values_take vector apart each bytes
-alone_size NodesOf each apart bytes two t b = omega (arith, two)
-alone_size FamiliesOf each apart bytes two t b = omega (arith, two)
-alone_size LinksOf each apart bytes two t b = omega (arith, two)
-alone_size PendingOf each apart bytes two t b = omega arith
-alone_size TextsOf each apart bytes two t b = let none = t refl in omega (arith, none)
-alone_size BytesOf each apart bytes two t b = let none = b refl in omega (arith, none)
+  first_values : (vector : Vector) (size : ValueSize) (template : TemplateSize) (stride c : ℕ) (k : Marks) →
+      IsFewer vector each apart → IsSmall vector size template stride apart each fit k →
+      SomeValues vector apart each fit (c + 1) k (with_first_value template stride (with_value size k))
+  first_values vector size template stride c k less s = record {
+    some = omega arith;
+    pending = refl;
+    nodes = omega arith;
+    few = first_size vector size template stride c k less s;
+  }
+
+  -- another value after the array, whose own bytes are given up for those that the array gets
+  after_size : (vector : Vector) (size : ValueSize) (template : TemplateSize) (stride c bytes : ℕ) (k n : Marks) →
+      c + 1 ≤ count → IsFewer vector each apart → SomeValues vector apart each fit c k n →
+      IsSmall vector size template stride apart each fit n → bytes ≡ n.bytes + stride →
+      of_vector vector (record (with_value size n) { bytes = bytes })
+      ≤ of_vector vector k + values_bound vector count apart each fit
+  after_size NodesOf size template stride c bytes k n le less h s given =
+      let own = s.few in
+      let few = h.few in
+      let some = h.some in
+      let three = thrice count apart (omega (arith, le, some)) in
+      omega (arith, own, few, less, three)
+  after_size FamiliesOf size template stride c bytes k n le less h s given =
+      let own = s.few in
+      let few = h.few in
+      let some = h.some in
+      let three = thrice count apart (omega (arith, le, some)) in
+      omega (arith, own, few, less, three)
+  after_size LinksOf size template stride c bytes k n le less h s given =
+      let own = s.few in
+      let few = h.few in
+      let some = h.some in
+      let three = thrice count apart (omega (arith, le, some)) in
+      omega (arith, own, few, less, three)
+  after_size PendingOf size template stride c bytes k n le less h s given =
+      let own = s.few in let one = h.pending in omega (arith, own, one, less)
+  after_size TextsOf size template stride c bytes k n le less h s given =
+      let own = s.few in
+      let few = h.few in
+      let some = h.some in
+      let two = two_texts count each (omega (arith, le, some)) in
+      omega (arith, own, few, two)
+  after_size BytesOf size template stride c bytes k n le less h s given =
+      let own = s.bytes in
+      let few = h.few in
+      let others = other_bytes c count fit le in
+      omega (arith, own, few, others, given)
+
+  -- while it is mapped
+  mapped_size : (vector : Vector) (c : ℕ) (k n : Marks) → c + 1 ≤ count → IsFewer vector each apart →
+      SomeValues vector apart each fit c k n →
+      of_vector vector n + each ≤ of_vector vector k + values_bound vector count apart each fit
+  mapped_size NodesOf c k n le less h =
+      let few = h.few in
+      let some = h.some in
+      let three = thrice count apart (omega (arith, le, some)) in
+      omega (arith, few, less, three)
+  mapped_size FamiliesOf c k n le less h =
+      let few = h.few in
+      let some = h.some in
+      let three = thrice count apart (omega (arith, le, some)) in
+      omega (arith, few, less, three)
+  mapped_size LinksOf c k n le less h =
+      let few = h.few in
+      let some = h.some in
+      let three = thrice count apart (omega (arith, le, some)) in
+      omega (arith, few, less, three)
+  mapped_size PendingOf c k n le less h = let one = h.pending in omega (arith, one, less)
+  mapped_size TextsOf c k n le less h =
+      let few = h.few in
+      let some = h.some in
+      let two = two_texts count each (omega (arith, le, some)) in
+      omega (arith, few, two)
+  mapped_size BytesOf c k n le less h =
+      let few = h.few in let others = other_bytes c count fit le in omega (arith, few, others)
+
+  -- while the first is mapped
+  alone_size : (vector : Vector) → 1 ≤ count → IsFewer vector each apart →
+      each ≤ values_bound vector count apart each fit
+  alone_size NodesOf some less = let two = twice count apart some in omega (arith, less, two)
+  alone_size FamiliesOf some less = let two = twice count apart some in omega (arith, less, two)
+  alone_size LinksOf some less = let two = twice count apart some in omega (arith, less, two)
+  alone_size PendingOf some less = omega (arith, less)
+  alone_size TextsOf some less = let one = one_text count each some in omega (arith, one)
+  alone_size BytesOf some less = omega arith
+
+  -- without elements it is a family
+  empty_array : (vector : Vector) (k : Marks) →
+      of_vector vector (with_links k k) ≤ of_vector vector k + values_bound vector count apart each fit
+  empty_array NodesOf k = omega arith
+  empty_array FamiliesOf k = omega arith
+  empty_array LinksOf k = omega arith
+  empty_array PendingOf k = omega arith
+  empty_array TextsOf k = omega arith
+  empty_array BytesOf k = omega arith
+
+  less_taken : (vector : Vector) → 1 ≤ count →
+      some_take vector apart each (fit * count) ≤ values_bound vector count apart each fit
+  less_taken NodesOf some = let two = twice count apart some in omega (arith, two)
+  less_taken FamiliesOf some = let two = twice count apart some in omega (arith, two)
+  less_taken LinksOf some = let two = twice count apart some in omega (arith, two)
+  less_taken PendingOf some = omega arith
+  less_taken TextsOf some = let one = one_text count each some in omega (arith, one)
+  less_taken BytesOf some = let all = all_bytes count fit some in omega (arith, all)
 
 next_marks : (size : ValueSize) (stride : ℕ) (n : Marks) →
     with_next_value size stride (with_value size n) ≡ record n { bytes = n.bytes + stride }
@@ -125,41 +231,42 @@ next_marks size stride n =
     let families : (n.families + size.families) - size.families ≡ n.families = omega arith in
     let links : (n.links + size.links) - size.links ≡ n.links = omega arith in
     let pending : (n.pending + 1) - 1 ≡ n.pending = omega arith in
-    same-marks _ _ nodes families links pending refl refl
+    let texts : (n.texts + size.texts) - size.texts ≡ n.texts = omega arith in
+    let bytes : ((n.bytes + size.bytes) - size.bytes) + stride ≡ n.bytes + stride = omega arith in
+    same-marks _ _ nodes families links pending texts bytes
 
-more_bytes : (vector : Vector) (each stride c : ℕ) (k n : Marks) → n.pending ≡ k.pending + 1 →
-    of_vector vector n ≤ of_vector vector k + values_take vector (2 * each) 0 (stride * c) →
+more_bytes : (vector : Vector) (apart each fit stride c : ℕ) (k n : Marks) → stride ≤ fit →
+    of_vector vector n ≤ of_vector vector k + some_take vector apart each (fit * c) →
     of_vector vector (record n { bytes = n.bytes + stride })
-    ≤ of_vector vector k + values_take vector (2 * each) 0 (stride * (c + 1))
-more_bytes BytesOf each stride c k n p few = let more = mul-add stride c 1 in omega (arith, few, more)
-more_bytes vector each stride c k n p few = few
+    ≤ of_vector vector k + some_take vector apart each (fit * (c + 1))
+more_bytes BytesOf apart each fit stride c k n le few =
+    let more = mul-add fit c 1 in omega (arith, few, more, le)
+more_bytes NodesOf apart each fit stride c k n le few = few
+more_bytes FamiliesOf apart each fit stride c k n le few = few
+more_bytes LinksOf apart each fit stride c k n le few = few
+more_bytes PendingOf apart each fit stride c k n le few = few
+more_bytes TextsOf apart each fit stride c k n le few = few
 
-next_values : (vector : Vector) (each stride c : ℕ) (k n : Marks) → SomeValues vector stride each c k n →
-    SomeValues vector stride each (c + 1) k (record n { bytes = n.bytes + stride })
-next_values vector each stride c k n h = record {
+next_values : (vector : Vector) (apart each fit stride c : ℕ) (k n : Marks) → stride ≤ fit →
+    SomeValues vector apart each fit c k n →
+    SomeValues vector apart each fit (c + 1) k (record n { bytes = n.bytes + stride })
+next_values vector apart each fit stride c k n le h = record {
   some = omega arith;
-  texts = h.texts;
   pending = h.pending;
   nodes = h.nodes;
-  few = more_bytes vector each stride c k n h.pending h.few;
+  few = more_bytes vector apart each fit stride c k n le h.few;
 }
 
-wider_values : (vector : Vector) (each stride c count : ℕ) (k n : Marks) → c ≤ count →
-    SomeValues vector stride each c k n → SomeValues vector stride each count k n
-wider_values vector each stride c count k n le h =
+wider_values : (vector : Vector) (apart each fit c count : ℕ) (k n : Marks) → c ≤ count →
+    SomeValues vector apart each fit c k n → SomeValues vector apart each fit count k n
+wider_values vector apart each fit c count k n le h =
     let some = h.some in
-    record {
-      some = omega (arith, some, le);
-      texts = h.texts;
-      pending = h.pending;
-      nodes = h.nodes;
-      few = wider vector h.few;
-    }
+    record { some = omega (arith, some, le); pending = h.pending; nodes = h.nodes; few = wider vector h.few }
   where
     wider : (vector : Vector) →
-        of_vector vector n ≤ of_vector vector k + values_take vector (2 * each) 0 (stride * c) →
-        of_vector vector n ≤ of_vector vector k + values_take vector (2 * each) 0 (stride * count)
-    wider BytesOf few = let more = mul-le-mul_left stride le in omega (arith, few, more)
+        of_vector vector n ≤ of_vector vector k + some_take vector apart each (fit * c) →
+        of_vector vector n ≤ of_vector vector k + some_take vector apart each (fit * count)
+    wider BytesOf few = let more = mul-le-mul_left fit le in omega (arith, few, more)
     wider NodesOf few = few
     wider FamiliesOf few = few
     wider LinksOf few = few
@@ -169,108 +276,106 @@ wider_values vector each stride c count k n le h =
 -- ---- states
 
 -- what an open array has that began at k: no value yet, or packed ones
-pub data AreValues (vector : Vector) (stride each c : ℕ) (k : Marks) : Marks → Type 0 where
-  no_value : AreValues vector stride each c k k
-  some_values : {n : Marks} → SomeValues vector stride each c k n → AreValues vector stride each c k n
+pub data AreValues (vector : Vector) (apart each fit c : ℕ) (k : Marks) : Marks → Type 0 where
+  no_value : AreValues vector apart each fit c k k
+  some_values : {n : Marks} → SomeValues vector apart each fit c k n → AreValues vector apart each fit c k n
 
 -- so many packed values at most, in the frame of their array, which was opened in `state`
-pub record HasValues (vector : Vector) (stride each c : ℕ) (state last : State) : Type 0 where
+pub record HasValues (vector : Vector) (apart each fit c : ℕ) (state last : State) : Type 0 where
   pub frames : last.frames ≡ state.now ∷ state.frames
-  pub values : AreValues vector stride each c state.now last.now
+  pub values : AreValues vector apart each fit c state.now last.now
 
 -- a value that was mapped after them
-pub record IsAfter (vector : Vector) (stride each : ℕ) (now : State) (v : Value) (last : State) : Type 0 where
+pub record IsAfter (vector : Vector) (apart each fit : ℕ) (now : State) (v : Value) (last : State) : Type 0 where
   pub is : last ≡ with_one v now
-  pub bytes : row_length v ≡ stride
-  pub small : IsSmall vector (value_size v) each now.now
+  pub small : IsSmall vector (value_size v) (template_size v) (row_length v) apart each fit now.now
 
-module _ (vector : Vector) (stride each count : ℕ) (no_texts : vector ≡ TextsOf → each ≡ 0)
-    (no_bytes : vector ≡ BytesOf → each ≡ 0) where
-  fewer : (c : ℕ) → c ≤ count → (state last : State) → HasValues vector stride each c state last →
-      HasValues vector stride each count state last
+module _ (vector : Vector) (apart each fit count : ℕ) (less : IsFewer vector each apart) where
+  -- what the array takes
+  abbrev all : ℕ
+  all = values_bound vector count apart each fit
+
+  abbrev Has : (c : ℕ) → State → State → Type 0
+  Has c state last = HasValues vector apart each fit c state last
+
+  fewer : (c : ℕ) → c ≤ count → (state last : State) → Has c state last → Has count state last
   fewer c le state last h = record { frames = h.frames; values = told h.values }
     where
-      told : {n : Marks} → AreValues vector stride each c state.now n → AreValues vector stride each count state.now n
+      told : {n : Marks} → AreValues vector apart each fit c state.now n →
+          AreValues vector apart each fit count state.now n
       told no_value = no_value
-      told (some_values {n} s) = some_values (wider_values vector each stride c count state.now n le s)
+      told (some_values {n} s) = some_values (wider_values vector apart each fit c count state.now n le s)
 
   -- there is room for one more
-  pub room_for : (c : ℕ) → c + 1 ≤ count → (state last : State) → HasValues vector stride each c state last →
-      of_vector vector last.now + each ≤ of_vector vector state.now + values_bound vector stride count each
+  pub room_for : (c : ℕ) → c + 1 ≤ count → (state last : State) → Has c state last →
+      of_vector vector last.now + each ≤ of_vector vector state.now + all
   room_for c le state last h = told h.values
     where
-      told : {n : Marks} → AreValues vector stride each c state.now n →
-          of_vector vector n + each ≤ of_vector vector state.now + values_bound vector stride count each
+      told : {n : Marks} → AreValues vector apart each fit c state.now n →
+          of_vector vector n + each ≤ of_vector vector state.now + all
       told no_value =
-          let most = alone_size vector each (min 3 (count + 1) * each) (stride * count)
-          (twice count each (omega (arith, le))) no_texts no_bytes in
-          omega (arith, most)
-      told (some_values {n} s) =
-          let some = s.some in
-          mapped_size vector each (min 3 (count + 1) * each) (stride * c) (stride * count) state.now n
-          (thrice count each (omega (arith, le, some))) (mul-le-mul_left stride (omega (arith, le))) no_texts no_bytes
-          s.pending s.few
+          let most = alone_size apart each fit count vector (omega (arith, le)) less in omega (arith, most)
+      told (some_values {n} s) = mapped_size apart each fit count vector c state.now n le less s
 
   -- what the move of a value needs, and what is there after it
   record IsMoved (c : ℕ) (state last : State) (v : Value) : Type 0 where
-    few : of_vector vector (needed true (packs_value v) last).now
-        ≤ of_vector vector state.now + values_bound vector stride count each
-    next : HasValues vector stride each (c + 1) state (moved true (packs_value v) last)
+    few : of_vector vector (needed true (packs_value v) last).now ≤ of_vector vector state.now + all
+    next : Has (c + 1) state (moved true (packs_value v) last)
 
-  first_moved : (c : ℕ) → c + 1 ≤ count → (state : State) (v : Value) → row_length v ≡ stride →
-      IsSmall vector (value_size v) each state.now →
+  first_moved : (c : ℕ) → c + 1 ≤ count → (state : State) (v : Value) →
+      IsSmall vector (value_size v) (template_size v) (row_length v) apart each fit state.now →
       IsMoved c state (record { now = with_value (value_size v) state.now; frames = state.now ∷ state.frames }) v
-  first_moved c le state v bytes s =
+  first_moved c le state v s =
       let size = value_size v in
-      let here = eq-eqb state.now.texts state.now.texts refl in
-      let most = first_drafted vector size each (min 3 (count + 1) * each) stride (stride * count) state.now
-      (twice count each (omega (arith, le))) (stride_in stride count (omega (arith, le))) s in
-      let values = first_values vector size each stride c state.now s in
-      record {
-        few = rw (here, bytes) most;
-        next = rw (here, bytes) (record { frames = refl; values = some_values values });
-      }
+      let template = template_size v in
+      let stride = row_length v in
+      let here = eq-eqb (state.now.pending + 1) (state.now.pending + 1) refl in
+      let most = first_drafted apart each fit count vector size template stride state.now (omega (arith, le)) less s in
+      let values = first_values apart each fit count vector size template stride c state.now less s in
+      record { few = rw here most; next = rw here (record { frames = refl; values = some_values values }) }
 
-  next_moved : (c : ℕ) → c + 1 ≤ count → (state : State) (n : Marks) (v : Value) → row_length v ≡ stride →
-      SomeValues vector stride each c state.now n → IsSmall vector (value_size v) each n →
+  next_moved : (c : ℕ) → c + 1 ≤ count → (state : State) (n : Marks) (v : Value) →
+      SomeValues vector apart each fit c state.now n →
+      IsSmall vector (value_size v) (template_size v) (row_length v) apart each fit n →
       IsMoved c state (record { now = with_value (value_size v) n; frames = state.now ∷ state.frames }) v
-  next_moved c le state n v bytes h s =
+  next_moved c le state n v h s =
       let size = value_size v in
-      let some = h.some in
-      let texts = h.texts in
-      let other = ne_eqb n.texts state.now.texts (λ e. omega (arith, texts, e)) in
-      let sum = mul-add stride c 1 in
-      let all = mul-le-mul_left stride le in
+      let template = template_size v in
+      let stride = row_length v in
+      let one = h.pending in
+      let own = s.bytes in
+      let other = ne_eqb (n.pending + 1) (state.now.pending + 1) (λ e. omega (arith, one, e)) in
+      let bytes = ((n.bytes + size.bytes) - size.bytes) + stride in
       let most =
-      after_size vector size each (min 3 (count + 1) * each) stride (stride * c) (stride * count) state.now n
-      (thrice count each (omega (arith, le, some))) (omega (arith, sum, all)) h.texts h.pending h.few s in
-      let values = next_values vector each stride c state.now n h in
+      after_size apart each fit count vector size template stride c bytes state.now n le less h s (omega arith) in
+      let values = next_values vector apart each fit stride c state.now n (omega (arith, own)) h in
       record {
-        few = rw (other, bytes) most;
-        next = rw (other, bytes) (record {
+        few = rw other most;
+        next = rw other (record {
           frames = refl;
-          values = some_values (subst (SomeValues vector stride each (c + 1) state.now)
+          values = some_values (subst (SomeValues vector apart each fit (c + 1) state.now)
               (sym (next_marks size stride n)) values);
         });
       }
 
   -- a value that was mapped is packed
-  value_moved : (c : ℕ) → c + 1 ≤ count → (state now last : State) (v : Value) →
-      HasValues vector stride each c state now → IsAfter vector stride each now v last → IsMoved c state last v
+  value_moved : (c : ℕ) → c + 1 ≤ count → (state now last : State) (v : Value) → Has c state now →
+      IsAfter vector apart each fit now v last → IsMoved c state last v
   value_moved c le state now last v h b =
       subst (λ after. IsMoved c state after v)
       (sym (b.is ∙ ap (λ frames. record { now = with_value (value_size v) now.now; frames = frames }) h.frames))
       (told h.values b.small)
     where
-      told : {n : Marks} → AreValues vector stride each c state.now n → IsSmall vector (value_size v) each n →
+      told : {n : Marks} → AreValues vector apart each fit c state.now n →
+          IsSmall vector (value_size v) (template_size v) (row_length v) apart each fit n →
           IsMoved c state (record { now = with_value (value_size v) n; frames = state.now ∷ state.frames }) v
-      told no_value s = first_moved c le state v b.bytes s
-      told (some_values {n} values) s = next_moved c le state n v b.bytes values s
+      told no_value s = first_moved c le state v s
+      told (some_values {n} values) s = next_moved c le state n v values s
 
   -- ---- elements
 
   module _ (most : ℕ) (state : State)
-      (room : of_vector vector state.now + values_bound vector stride count each ≤ most) where
+      (room : of_vector vector state.now + all ≤ most) where
     -- what is stored takes at most this
     abbrev Within : State → Type 0
     Within now = of_vector vector now.now ≤ most
@@ -280,13 +385,13 @@ module _ (vector : Vector) (stride each count : ℕ) (no_texts : vector ≡ Text
 
     -- one more element: it is mapped, and then packed
     pub packed_value : (c : ℕ) → c + 1 ≤ count → (levels : Levels) (now : State) →
-        HasValues vector stride each c state now → {p : Plan (Result Value FaultAt)} →
-        Stores true Apart Within (Leaves (IsAfter vector stride each now) (λ last. last ≡ now)) p now →
+        Has c state now → {p : Plan (Result Value FaultAt)} →
+        Stores true Apart Within (Leaves (IsAfter vector apart each fit now) (λ last. last ≡ now)) p now →
         Stores true Apart Within
-        (Leaves (λ v. HasValues vector stride each (c + 1) state) (λ last. last ≡ now)) (then_ok p (packs_last levels))
+        (Leaves (λ v. Has (c + 1) state) (λ last. last ≡ now)) (then_ok p (packs_last levels))
         now
     packed_value c le levels now h g =
-        ok_stores {P = IsAfter vector stride each now} {Q = λ v. HasValues vector stride each (c + 1) state}
+        ok_stores {P = IsAfter vector apart each fit now} {Q = λ v. Has (c + 1) state}
         {E = λ last. last ≡ now} _
         (λ v last b.
         let m = value_moved c le state now last v h b in
@@ -294,32 +399,32 @@ module _ (vector : Vector) (stride each count : ℕ) (no_texts : vector ≡ Text
         at_made (omega (arith, few, room)) (at_end m.next)) g
 
     values_after : (n c : ℕ) (extent : Extent) (next : Levels → ℕ → Plan (Result Opened FaultAt)) (levels : Levels)
-        (last : State) → HasValues vector stride each c state last → c + suc n ≤ count →
-        ((l : Levels) (at : ℕ) (now : State) → HasValues vector stride each (c + 1) state now →
-        Fills (λ r. HasValues vector stride each count state) (next l at) now) →
+        (last : State) → Has c state last → c + suc n ≤ count →
+        ((l : Levels) (at : ℕ) (now : State) → Has (c + 1) state now →
+        Fills (λ r. Has count state) (next l at) now) →
         (at : ℕ) (r : Result Value FaultAt) (now : State) →
-        Leaves (λ v. HasValues vector stride each (c + 1) state) (λ now. now ≡ last) r now →
-        Fills (λ r. HasValues vector stride each count state) (after_element extent next levels at r) now
+        Leaves (λ v. Has (c + 1) state) (λ now. now ≡ last) r now →
+        Fills (λ r. Has count state) (after_element extent next levels at r) now
     unfolding after_element
     values_after n c extent next levels last h le g at (Ok v) now more =
         one_stores (nat_eq (end_of v) at) (at_end more.frames) (g (pushed levels (Some v)) (end_of v) now more)
     values_after n c extent next levels last h le g at (Err f) now same =
-        let here = subst (HasValues vector stride each c state) (sym same) h in
+        let here = subst (Has c state) (sym same) h in
         one_stores (ends_before extent f.0) (at_end (fewer c (omega (arith, le)) state now here)) (at_end here.frames)
 
     module _ (m s : ℕ) (extent : Extent) (element : Levels → ℕ → Plan (Result Value FaultAt))
         (maps : (c : ℕ) → c + 1 ≤ count → (l : Levels) (at : ℕ) (now : State) →
-        HasValues vector stride each c state now →
-        Stores true Apart Within (Leaves (λ v. HasValues vector stride each (c + 1) state) (λ last. last ≡ now))
+        Has c state now →
+        Stores true Apart Within (Leaves (λ v. Has (c + 1) state) (λ last. last ≡ now))
         (element l at) now) where
       pub value_elements : (n i c : ℕ) (levels : Levels) (at : ℕ) (last : State) →
-          HasValues vector stride each c state last → c + n ≤ count →
-          Fills (λ r. HasValues vector stride each count state) (elements_plan element m s extent n i levels at) last
+          Has c state last → c + n ≤ count →
+          Fills (λ r. Has count state) (elements_plan element m s extent n i levels at) last
       unfolding elements_plan
       value_elements zero i c levels at last h le = at_end h.frames
       value_elements (suc n) i c levels at last h le =
           one_stores (is_due extent m s i at)
-          (at_tick (then_stores {P = Leaves (λ v. HasValues vector stride each (c + 1) state) (λ now. now ≡ last)} _
+          (at_tick (then_stores {P = Leaves (λ v. Has (c + 1) state) (λ now. now ≡ last)} _
           (values_after n c extent (elements_plan element m s extent n (i + 1)) levels last h le
           (λ l p now more. value_elements n (i + 1) (c + 1) l p now more (omega (arith, le))) at)
           (maps c (omega (arith, le)) levels at last h)))
@@ -327,43 +432,24 @@ module _ (vector : Vector) (stride each count : ℕ) (no_texts : vector ≡ Text
 
 -- ---- the array
 
-pub none_yet : (vector : Vector) (stride each : ℕ) (state : State) →
-    HasValues vector stride each 0 state (moved true Opens state)
-none_yet vector stride each state = record { frames = refl; values = no_value }
-
--- without elements it is a family
-empty_array : (vector : Vector) (k : Marks) (apart each bytes : ℕ) →
-    of_vector vector (with_links k k) ≤ of_vector vector k + values_take vector apart each bytes
-empty_array NodesOf k apart each bytes = omega arith
-empty_array FamiliesOf k apart each bytes = omega arith
-empty_array LinksOf k apart each bytes = omega arith
-empty_array PendingOf k apart each bytes = omega arith
-empty_array TextsOf k apart each bytes = omega arith
-empty_array BytesOf k apart each bytes = omega arith
-
-less_taken : (vector : Vector) (each apart bytes : ℕ) → 2 * each ≤ apart →
-    values_take vector (2 * each) 0 bytes ≤ values_take vector apart each bytes
-less_taken NodesOf each apart bytes two = omega (arith, two)
-less_taken FamiliesOf each apart bytes two = omega (arith, two)
-less_taken LinksOf each apart bytes two = omega (arith, two)
-less_taken PendingOf each apart bytes two = omega arith
-less_taken TextsOf each apart bytes two = omega arith
-less_taken BytesOf each apart bytes two = omega arith
+pub none_yet : (vector : Vector) (apart each fit : ℕ) (state : State) →
+    HasValues vector apart each fit 0 state (moved true Opens state)
+none_yet vector apart each fit state = record { frames = refl; values = no_value }
 
 -- the array, once it is closed
 pub record IsClosed (vector : Vector) (most : ℕ) (k n : Marks) : Type 0 where
   pub few : of_vector vector (with_row true k n) ≤ of_vector vector k + most
   pub one : (with_row true k n).pending ≡ k.pending + 1
 
-pub closed_values : (vector : Vector) (stride each count : ℕ) (k n : Marks) → AreValues vector stride each count k n →
-    IsClosed vector (values_bound vector stride count each) k n
-closed_values vector stride each count k _ no_value =
+pub closed_values : (vector : Vector) (apart each fit count : ℕ) (k n : Marks) →
+    AreValues vector apart each fit count k n → IsClosed vector (values_bound vector count apart each fit) k n
+closed_values vector apart each fit count k _ no_value =
     let here = eq-eqb k.nodes k.nodes refl in
-    let few = empty_array vector k (min 3 (count + 1) * each) each (stride * count) in
+    let few = empty_array apart each fit count vector k in
     record { few = rw here few; one = rw here refl }
-closed_values vector stride each count k _ (some_values {n} s) =
+closed_values vector apart each fit count k _ (some_values {n} s) =
     let nodes = s.nodes in
     let few = s.few in
-    let less = less_taken vector each (min 3 (count + 1) * each) (stride * count) (twice count each s.some) in
+    let less = less_taken apart each fit count vector s.some in
     let other = ne_eqb n.nodes k.nodes (λ e. omega (arith, nodes, e)) in
     record { few = rw other (omega (arith, few, less)); one = rw other s.pending }

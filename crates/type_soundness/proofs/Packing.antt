@@ -118,34 +118,37 @@ empty_size : (vector : Vector) (k : Marks) →
 empty_size LinksOf k = omega arith
 empty_size vector k = omega arith
 
-family_few : (row : Row) (vector : Vector) (count each : ℕ) → family_bound vector ≤ array_bound row vector count each
-family_few Apart vector count each = omega arith
-family_few (Numbers width) NodesOf count each = omega arith
-family_few (Numbers width) vector count each = omega arith
-family_few (Records widths) NodesOf count each = omega arith
-family_few (Records widths) vector count each = omega arith
-family_few (Values stride) NodesOf count each = omega arith
-family_few (Values stride) vector count each = omega arith
+family_few : (row : Row) (vector : Vector) (count apart each fit : ℕ) →
+    family_bound vector ≤ array_bound row vector count apart each fit
+family_few Apart vector count apart each fit = omega arith
+family_few (Numbers width) NodesOf count apart each fit = omega arith
+family_few (Numbers width) vector count apart each fit = omega arith
+family_few (Records widths) NodesOf count apart each fit = omega arith
+family_few (Records widths) vector count apart each fit = omega arith
+family_few (Values stride) NodesOf count apart each fit = omega arith
+family_few (Values stride) vector count apart each fit = omega arith
 
-filled_size : (vector : Vector) (row : Row) (k n : Marks) (count each : ℕ) → IsFilled row k n →
+filled_size : (vector : Vector) (row : Row) (k n : Marks) (count apart each fit : ℕ) → IsFilled row k n →
     n.bytes ≤ k.bytes + bytes_each row * count →
-    of_vector vector n ≤ of_vector vector k + array_bound row vector count each
-filled_size vector row k _ count each no_element le = omega arith
-filled_size vector _ k _ count each (some_numbers {width} {bytes}) le = numbers_size vector k bytes width count le
-filled_size vector _ k _ count each (some_structs {widths} {bytes}) le = structs_size vector k widths bytes count le
+    of_vector vector n ≤ of_vector vector k + array_bound row vector count apart each fit
+filled_size vector row k _ count apart each fit no_element le = omega arith
+filled_size vector _ k _ count apart each fit (some_numbers {width} {bytes}) le =
+    numbers_size vector k bytes width count le
+filled_size vector _ k _ count apart each fit (some_structs {widths} {bytes}) le =
+    structs_size vector k widths bytes count le
 
 -- the array, once it is closed
-pub closed_row : (vector : Vector) (row : Row) (k n : Marks) (count each : ℕ) → IsFilled row k n →
+pub closed_row : (vector : Vector) (row : Row) (k n : Marks) (count apart each fit : ℕ) → IsFilled row k n →
     n.bytes ≤ k.bytes + bytes_each row * count →
-    of_vector vector (with_row true k n) ≤ of_vector vector k + array_bound row vector count each
-closed_row vector row k _ count each no_element le =
-    let few = family_few row vector count each in
+    of_vector vector (with_row true k n) ≤ of_vector vector k + array_bound row vector count apart each fit
+closed_row vector row k _ count apart each fit no_element le =
+    let few = family_few row vector count apart each fit in
     let empty = empty_size vector k in
     rw (eq-eqb k.nodes k.nodes refl) (omega (arith, few, empty))
-closed_row vector _ k _ count each (some_numbers {width} {bytes}) le =
+closed_row vector _ k _ count apart each fit (some_numbers {width} {bytes}) le =
     let other : k.nodes + 1 ≡ k.nodes → ⊥ = λ e. omega (arith, e) in
     rw (ne_eqb (k.nodes + 1) k.nodes other) (numbers_size vector k bytes width count le)
-closed_row vector _ k _ count each (some_structs {widths} {bytes}) le =
+closed_row vector _ k _ count apart each fit (some_structs {widths} {bytes}) le =
     let other : k.nodes + (length widths + 2) ≡ k.nodes → ⊥ = λ e. omega (arith, e) in
     rw (ne_eqb (k.nodes + (length widths + 2)) k.nodes other) (structs_size vector k widths bytes count le)
 
@@ -281,10 +284,11 @@ module _ (vector : Vector) (b m : ℕ) where
       Plan (Result A FaultAt) → State → Type 0
   Keeps row Q E p state = Stores true row Within (Leaves Q E) p state
 
-  packed_within : (row : Row) (count each : ℕ) (state last : State) →
-      of_vector vector state.now + array_bound row vector count each ≤ b → IsPacked row count state last → Within last
-  packed_within row count each state last room p =
-      let up = filled_size vector row state.now last.now count each p.filled p.few in omega (arith, up, room)
+  packed_within : (row : Row) (count apart each fit : ℕ) (state last : State) →
+      of_vector vector state.now + array_bound row vector count apart each fit ≤ b →
+      IsPacked row count state last → Within last
+  packed_within row count apart each fit state last room p =
+      let up = filled_size vector row state.now last.now count apart each fit p.filled p.few in omega (arith, up, room)
 
   struct_within : (widths : List ℕ) (count : ℕ) (state last : State) →
       of_vector vector state.now + records_bound vector widths count ≤ b → IsPacked (Records widths) count state last →
@@ -337,7 +341,7 @@ module _ (vector : Vector) (b m : ℕ) where
   struct_stores name fields widths e c count less order levels at state last room p =
       let start : State = moved true Opens last in
       let all = fewer_packed (Records widths) c count (omega (arith, less)) state last p in
-      let here = packed_within (Records widths) count 0 state last room all in
+      let here = packed_within (Records widths) count 0 0 0 state last room all in
       let none : 0 + length widths ≡ length widths = omega arith in
       inside_stores m
       at refl (at_tick (framed_stores {Q = λ v. IsPacked (Records widths) (c + 1) state} levels here here
@@ -347,7 +351,7 @@ module _ (vector : Vector) (b m : ℕ) where
       let next = struct_packed widths c state last now p h in
       let closed =
       fewer_packed (Records widths) (c + 1) count less state (element_moved true (Records widths) Closes now) next in
-      at_made (packed_within (Records widths) count 0 state (element_moved true (Records widths) Closes now) room
+      at_made (packed_within (Records widths) count 0 0 0 state (element_moved true (Records widths) Closes now) room
       closed) (at_end next))
       (columns_stores widths (length widths) start
       (λ done now le h. rw h.now (struct_within widths count state last room all done le))
@@ -362,18 +366,20 @@ module _ (vector : Vector) (b m : ℕ) where
       let next = one_packed width c state last p in
       let all = fewer_packed (Numbers width) (c + 1) count less state (moved true (Packs width) last) next in
       scalar_stores {Q = IsPacked (Numbers width) (c + 1) state} m ty width e order levels
-      at last (packed_within (Numbers width) count 0 state (moved true (Packs width) last) room all) next
+      at last (packed_within (Numbers width) count 0 0 0 state (moved true (Packs width) last) room all) next
 
   -- one more element
-  element_stores : (element : PokeType) (row : Row) → row_of element ≡ row → PacksNumbers row → (c count each : ℕ) →
+  element_stores : (element : PokeType) (row : Row) → row_of element ≡ row → PacksNumbers row →
+      (c count apart each fit : ℕ) →
       c + 1 ≤ count → (order : Order) (levels : Levels) (at : ℕ) (state last : State) →
-      of_vector vector state.now + array_bound row vector count each ≤ b → IsPacked row c state last →
+      of_vector vector state.now + array_bound row vector count apart each fit ≤ b → IsPacked row c state last →
       Keeps row (λ v. IsPacked row (c + 1) state) (λ now. now ≡ last) (plan m element order levels at) last
-  element_stores element Apart e other c count each less order levels at state last room p = absurd other
-  element_stores element (Values stride) e other c count each less order levels at state last room p = absurd other
-  element_stores element (Numbers width) e other c count each less order levels at state last room p =
+  element_stores element Apart e other c count apart each fit less order levels at state last room p = absurd other
+  element_stores element (Values stride) e other c count apart each fit less order levels at state last room p =
+      absurd other
+  element_stores element (Numbers width) e other c count apart each fit less order levels at state last room p =
       number_stores element width (packed_number_is element width e) c count less order levels at state last room p
-  element_stores element (Records widths) e other c count each less order levels at state last room p =
+  element_stores element (Records widths) e other c count apart each fit less order levels at state last room p =
       let r = packed_struct_is element widths e in
       subst (λ ty. Keeps (Records widths) (λ v. IsPacked (Records widths) (c + 1) state)
       (λ now. now ≡ last) (plan m ty order levels at) last) (sym r.is)
@@ -409,9 +415,9 @@ module _ (vector : Vector) (b m : ℕ) where
       one_stores (ends_before extent f.0) (at_end (fewer_packed row c count (omega arith) state now here))
       (at_end here.frames)
 
-  module _ (element : PokeType) (other : PacksNumbers (row_of element)) (order : Order) (count each s : ℕ)
+  module _ (element : PokeType) (other : PacksNumbers (row_of element)) (order : Order) (count apart each fit s : ℕ)
       (extent : Extent) (state : State)
-      (room : of_vector vector state.now + array_bound (row_of element) vector count each ≤ b) where
+      (room : of_vector vector state.now + array_bound (row_of element) vector count apart each fit ≤ b) where
     pub packed_elements : (n i c : ℕ) (levels : Levels) (at : ℕ) (last : State) →
         IsPacked (row_of element) c state last → c + n ≤ count →
         Fills (λ r. IsPacked (row_of element) count state) state
@@ -424,7 +430,8 @@ module _ (vector : Vector) (b m : ℕ) where
         (packed_after (row_of element) count n c extent
         (elements_plan (element_plan element (plan m element order)) m s extent n (i + 1)) levels state last p le
         (λ l p now more. packed_elements n (i + 1) (c + 1) l p now more (omega arith)) at)
-        (element_packed (row_of element) other levels (element_stores element (row_of element) refl other c count each
+        (element_packed (row_of element) other levels
+        (element_stores element (row_of element) refl other c count apart each fit
         (omega arith) order levels at state last room p))))
         (one_stores (is_met extent s at)
         (at_end (fewer_packed (row_of element) c count (omega arith) state last p)) (at_end p.frames))

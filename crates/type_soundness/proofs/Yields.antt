@@ -32,6 +32,13 @@ weaker g (on_tick h) = on_tick (weaker g h)
 weaker g (on_made h) = on_made (weaker g h)
 weaker g (on_read h) = on_read (λ n. weaker g (h n))
 
+-- two facts about the same results
+pub both_yields : {A : Type 0} {P Q : A → Type 0} {p : Plan A} → Yields P p → Yields Q p → Yields (λ a. P a × Q a) p
+both_yields (yields h) (yields g) = yields (h, g)
+both_yields (on_tick h) (on_tick g) = on_tick (both_yields h g)
+both_yields (on_made h) (on_made g) = on_made (both_yields h g)
+both_yields (on_read h) (on_read g) = on_read (λ n. both_yields (h n) (g n))
+
 as_row_yields : {A : Type 0} {Q : A → Type 0} (row : Row) {p : Plan A} → Yields Q p → Yields Q (as_row row p)
 as_row_yields row (yields h) = yields h
 as_row_yields row (on_tick h) = on_tick (as_row_yields row h)

@@ -1,8 +1,8 @@
 -- How much of each vector of a store a mapping of a type takes at most, on m bits.
-use Rattle.std.specs.Prelude.{ℕ, ◌+◌, ◌*◌, ◌/◌, min, max, Bool, true, false, List, length}
+use Rattle.std.specs.Prelude.{ℕ, ◌+◌, ◌-◌, ◌*◌, ◌/◌, min, max, Bool, true, false, List, length, Option, Some, None, nat_le, if◌then◌else◌}
 use Rattle.pickle_types.specs.Types.{PokeType, IntegerOf, OffsetOf, StringOf, ArrayOf, StructOf, IntegralOf, UnionOf, Fields, NoFields, FieldThen, Parts, NoParts, PartThen}
 use Rattle.pickle_types.specs.Bounds.{least_width, count_of}
-use Rattle.mapping_plans.specs.Rows.{Row, Apart, Numbers, Records, Values, row_of, stride_of}
+use Rattle.mapping_plans.specs.Rows.{Row, Apart, Numbers, Records, Values, Layout, scalar_width, literal_count, array_layout, layout_of, row_of, stride_of}
 use Rattle.value_store.specs.Packed.{bytes_for}
 use Rattle.value_store.specs.Takes.{Vector, NodesOf, FamiliesOf, LinksOf, PendingOf, TextsOf, BytesOf}
 
@@ -62,27 +62,55 @@ records_bound PendingOf widths count = length widths + 1
 records_bound TextsOf widths count = 1
 records_bound BytesOf widths count = stride_of widths * count
 
--- what packed values of fixed layout take: `apart` for values that are there as others are, one text with so many
--- bytes, and a place in a frame for each part of a value that is mapped, which takes `each`; without elements a family
-abbrev pub values_take : Vector → (apart each bytes : ℕ) → ℕ
-values_take NodesOf apart each bytes = apart + 1
-values_take FamiliesOf apart each bytes = apart + 1
-values_take LinksOf apart each bytes = apart
-values_take PendingOf apart each bytes = each + 1
-values_take TextsOf apart each bytes = 1
-values_take BytesOf apart each bytes = bytes
+-- how many bytes a value of such a layout has
+abbrev pub bytes_in : Option Layout → ℕ
+bytes_in None = 0
+bytes_in (Some own) = own.bytes
 
--- The first value stays, and its template takes as much again. While another one is mapped there are three.
-abbrev pub values_bound : Vector → (stride count each : ℕ) → ℕ
-values_bound vector stride count each = values_take vector (min 3 (count + 1) * each) each (stride * count)
+abbrev mutual
+  -- how many bytes the arrays in a value of fixed layout take, each of which is packed while the value is mapped
+  pub array_bytes : PokeType → ℕ
+  array_bytes (IntegerOf type) = 0
+  array_bytes (OffsetOf type unit) = 0
+  array_bytes StringOf = 0
+  array_bytes (ArrayOf element bound) = bytes_in (array_layout (scalar_width element) (literal_count bound))
+  array_bytes (StructOf name pinned fields) = fields_bytes fields
+  array_bytes (IntegralOf name type fields) = parts_bytes fields
+  array_bytes (UnionOf name alternatives) = 0
 
--- an array of at most `count` elements: values that take `each`, packed numbers of a width, packed structs of numbers
--- of such widths, or packed values of fixed layout
-abbrev pub array_bound : Row → Vector → (count each : ℕ) → ℕ
-array_bound Apart vector count each = family_bound vector + count * (link_bound vector + each)
-array_bound (Numbers width) vector count each = row_bound vector width count
-array_bound (Records widths) vector count each = records_bound vector widths count
-array_bound (Values stride) vector count each = values_bound vector stride count each
+  pub fields_bytes : Fields → ℕ
+  fields_bytes NoFields = 0
+  fields_bytes (FieldThen name order type constraint label condition rest) = array_bytes type + fields_bytes rest
+
+  pub parts_bytes : Parts → ℕ
+  parts_bytes NoParts = 0
+  parts_bytes (PartThen name order type constraint rest) = array_bytes type + parts_bytes rest
+
+-- How many bytes a packed value takes at most: those of all its numbers side by side, and those of its arrays, which
+-- were packed before it. None fits in fewer bits than it has.
+abbrev pub fit_bytes : Option Layout → (arrays m : ℕ) → ℕ
+fit_bytes None arrays m = 0
+fit_bytes (Some own) arrays m = if nat_le own.bits m then arrays + own.bytes else 0
+
+-- Packed values of fixed layout: the first one stays, and so does its template, which takes `apart`, as any of them
+-- does where nothing is packed. While another one is mapped there are three, and it takes `each`, which is more than
+-- `apart` in texts and bytes alone. The array has a text and a place in a frame, where each node of the template waits
+-- for its link while that is made. Each value takes `fit` bytes. Without elements the array takes a family.
+abbrev pub values_bound : Vector → (count apart each fit : ℕ) → ℕ
+values_bound NodesOf count apart each fit = min 3 (count + 1) * apart + 1
+values_bound FamiliesOf count apart each fit = min 3 (count + 1) * apart + 1
+values_bound LinksOf count apart each fit = min 3 (count + 1) * apart
+values_bound PendingOf count apart each fit = apart + 1
+values_bound TextsOf count apart each fit = min 2 count * each + 1
+values_bound BytesOf count apart each fit = fit * (count - 1) + max each fit
+
+-- An array of at most `count` elements: values that take `each`, packed numbers of a width, packed structs of numbers
+-- of such widths, or packed values of fixed layout. These take `apart` where nothing is packed, and `fit` bytes.
+abbrev pub array_bound : Row → Vector → (count apart each fit : ℕ) → ℕ
+array_bound Apart vector count apart each fit = family_bound vector + count * (link_bound vector + each)
+array_bound (Numbers width) vector count apart each fit = row_bound vector width count
+array_bound (Records widths) vector count apart each fit = records_bound vector widths count
+array_bound (Values stride) vector count apart each fit = values_bound vector count apart each fit
 
 -- how a store keeps the elements of an array: one that doesn't pack keeps all as other values
 abbrev pub where_rows : (packs : Bool) → Row → Row
@@ -98,7 +126,8 @@ unfoldable mutual
   capacity_bound packs vector StringOf m = string_bound vector m
   capacity_bound packs vector (ArrayOf element bound) m =
       array_bound (where_rows packs (row_of element)) vector (count_of m (least_width element))
-      (capacity_bound packs vector element m)
+      (capacity_bound false vector element m) (capacity_bound packs vector element m)
+      (fit_bytes (layout_of 0 element) (array_bytes element) m)
   capacity_bound packs vector (StructOf name pinned fields) m = family_bound vector + fields_bound packs vector fields m
   capacity_bound packs vector (IntegralOf name type fields) m = family_bound vector + parts_bound packs vector fields m
   capacity_bound packs vector (UnionOf name alternatives) m =

@@ -100,6 +100,12 @@ levels_at-replaced names room (k ∷ ks) s u vs h g =
     ap (λ (j : Marks). levels_at names (j ∷ ks) u) (sym (marks-cut k s h.1.0.within))
     ∙ levels_at-above names room ks (cut_to k s) u vs g
 
+-- the parts of the innermost open value
+pub top-level : (names : Names) (ks : List Marks) (s : Slots) →
+    top_of (levels_at names ks s) ≡ level_of names (innermost ks) s
+top-level names [] s = refl
+top-level names (k ∷ ks) s = refl
+
 -- the innermost open value, and the store without it
 pub record Innermost (room : Room) (k : Marks) (ks : List Marks) (s : Slots) : Type 0 where
   pub is : IsLevel room k s

@@ -13,7 +13,7 @@ use Rattle.value_store.specs.declared.store.slots.Shape.TheVariants.{Integer, Of
 use Rattle.pickle_meaning.specs.Values.{Label, IntegerLabel, OffsetLabel, TextLabel, ArrayLabel, StructLabel, UnionLabel, Value, Mapped, Levels, label_of, start_of, end_of, top_of, outer_of, value_at as part_value}
 use Rattle.value_store.specs.Gathering.{with_records, last_value, EndsWithTemplate, IsGathering, TakesRecord}
 use Rattle.value_store.specs.LayoutArrays.{HasGrown, HasRowAt, IsRowAt, IsCopied, DraftsTemplate, HoldsFirst, with_array, EndsWithFamily, IsPackingLike, PlacesTemplate, IsInStruct, TakesFirst, PacksFirst, MovesFirst, MovesAsFirst, CannotDraftArray, CannotPackFirst}
-use Rattle.value_store.specs.Layouts.{label_place, row_of, row_length, template_of, value_size, IsFixed, IsStructLabel}
+use Rattle.value_store.specs.Layouts.{label_place, row_of, row_length, template_of, value_size, template_size, IsFixed, IsStructLabel}
 use Rattle.value_store.specs.Lent.{place_value}
 use Rattle.value_store.specs.Levels.{extended}
 use Rattle.value_store.specs.Moves.{PacksRecord, State, IsWithin, with_first_drafted, state_of, moved}
@@ -21,7 +21,7 @@ use Rattle.value_store.specs.Takes.{Vector, NodesOf, FamiliesOf, LinksOf, Pendin
 use Rattle.value_store.specs.Names.{Names}
 use Rattle.value_store.specs.Slots.{Slots, Held, no_value, packs, opened, trees, stack, value_at, levels, levels_at, innermost, label_in, size_in, family_at, cut_to, marks_of, level_of, IsRead, IsFamily, IsContent, IsComposite, IsTemplatePart, AreLevels, HasSlots, KeepsRoom, Regrown, with_more}
 use Rattle.value_store.proofs.Counted.{levels-more, levels_at-more}
-use Rattle.value_store.proofs.Fits.{innermost-level}
+use Rattle.value_store.proofs.Fits.{top-level}
 use Rattle.value_store.proofs.Found.{read-node}
 use Rattle.value_store.proofs.Gathering.{gathering-none, gathers}
 use Rattle.value_store.proofs.Grown.{length-stack}
@@ -300,20 +300,26 @@ no-texts v at h =
     let own = fixed-texts v h in
     (omega (arith, own.0, template-takes TextsOf v at), omega (arith, own.1, template-takes BytesOf v at))
 
--- the frame has one pending child
-one-part : (h : Held) → AreLevels h.room h.frames h.slots → TakesFirst h →
-    length h.slots.pending ≡ (innermost h.frames).pending + 1
+-- a frame with some parts has a pending child for each
+pub parts-pending : (names : Names) (h : Held) (top : List (Option Value)) (outer : Levels) →
+    levels names h ≡ top ∷ outer → 1 ≤ length top →
+    length h.slots.pending ≡ (innermost h.frames).pending + length top
 unfolding levels
-one-part h all q =
+parts-pending names h top outer is some =
     let k = innermost h.frames in
-    let i = innermost-level h.room h.frames h.slots all in
-    let top : level_of q.names k h.slots ≡ Some q.value ∷ [] = sym (i.top q.names) ∙ ap top_of q.is in
+    let own : level_of names k h.slots ≡ top = sym (top-level names h.frames h.slots) ∙ ap top_of is in
     omega (
       arith,
-      ap length top,
-      length-drop k.pending (stack q.names h.slots),
-      length-stack q.names h.slots,
+      some,
+      ap length own,
+      length-drop k.pending (stack names h.slots),
+      length-stack names h.slots,
     )
+
+-- one for the only part
+one-part : (names : Names) (h : Held) (value : Value) (outer : Levels) → levels names h ≡ (Some value ∷ []) ∷ outer →
+    length h.slots.pending ≡ (innermost h.frames).pending + 1
+one-part names h value outer is = parts-pending names h (Some value ∷ []) outer is (omega arith)
 
 module _ (h r : Held) (root : ℕ) (own : Node) (size count end : ℕ) (row : List ℕ)
     (all : AreLevels h.room h.frames h.slots) (f : IsFirstRead h root own size count row)
@@ -392,7 +398,7 @@ module _ (h r : Held) (root : ℕ) (own : Node) (size count end : ℕ) (row : Li
   pub placed-mark : (innermost r.frames).pending + 2 ≤ length r.slots.pending
   placed-mark =
       let own_frames = ap (λ (x : Held). (innermost x.frames).pending) t.same in
-      let some = one-part h all f.takes in
+      let some = one-part f.takes.names h f.takes.value f.takes.outer f.takes.is in
       omega (arith, own_frames, some, ap length t.pending, length_push h.slots.pending (Some t.node))
 
   module _ (n : Held)
@@ -449,7 +455,7 @@ module _ (h r : Held) (root : ℕ) (own : Node) (size count end : ℕ) (row : Li
           length-take mark r.slots.pending,
           placed-mark,
           frame,
-          one-part h all f.takes,
+          one-part f.takes.names h f.takes.value f.takes.outer f.takes.is,
         ) in
         let none = no-texts value 0 fixed in
         let texts : length n.slots.texts ≡ length h.slots.texts + 1 =
@@ -477,11 +483,12 @@ module _ (h r : Held) (root : ℕ) (own : Node) (size count end : ℕ) (row : Li
 
 -- the call's move is that of the struct
 pub first-as_move : (h l : Held) → packs h.room ≡ true → MovesFirst h l → MovesAsFirst h l
-first-as_move h l packed moves = λ names value outer e fixed none.
-    let size = value_size value in
+first-as_move h l packed moves = λ names value outer e fixed.
+    let only = one-part names h value outer e in
     moves names value outer e fixed
     ∙ ap (framed h.frames) (first-size value (row_length value) (marks_of h.slots))
-    ∙ sym (first-moved (packs h.room) (state_of h) size (row_length value) packed none)
+    ∙ sym (first-moved (packs h.room) (state_of h) (value_size value) (template_size value) (row_length value) packed
+    only)
 
 -- there is capacity for the most that the move needs
 pub first-holds : (h r l : Held) (root end count : ℕ) (row : List ℕ) → packs h.room ≡ true →
@@ -492,20 +499,22 @@ pub first-holds : (h r l : Held) (root end count : ℕ) (row : List ℕ) → pac
       frames = [];
     }) l.capacity →
     HoldsFirst h l
-first-holds h r l root end count row packed part rows counted t within = λ names value outer e fixed none vector.
+first-holds h r l root end count row packed part rows counted t within = λ names value outer e fixed vector.
     let is = part-is (levels names h) (value_at names h.slots root) value outer (part names) e in
     let own = rows names value (alone (levels names h) value outer e) in
     let stride : count ≡ row_length value = counted ∙ ap length own ∙ length-row value in
-    let most = first-needed (packs h.room) (state_of h) (value_size value) (row_length value) packed none in
+    let most =
+    first-needed (packs h.room) (state_of h) (value_size value) (template_size value) (row_length value) packed
+    (one-part names h value outer e) in
     let v = value_at names h.slots root in
     let k = marks_of h.slots in
     let fits =
     drafted-within vector k (marks_of r.slots) l.capacity v 0 count (subst IsFixed (sym is) fixed) (t.takes names)
     within in
-    let same : of_vector vector (with_first_drafted (value_size v) count k)
-    ≡ of_vector vector (with_first_drafted (value_size value) (row_length value) k) =
-    ap (λ v. of_vector vector (with_first_drafted (value_size v) count k)) is
-    ∙ ap (λ n. of_vector vector (with_first_drafted (value_size value) n k)) stride in
+    let same : of_vector vector (with_first_drafted (template_size v) count k)
+    ≡ of_vector vector (with_first_drafted (template_size value) (row_length value) k) =
+    ap (λ v. of_vector vector (with_first_drafted (template_size v) count k)) is
+    ∙ ap (λ n. of_vector vector (with_first_drafted (template_size value) n k)) stride in
     omega (arith, fits, same, ap (λ (s : State). of_vector vector s.now) most)
 
 -- what was reserved for the array stays
@@ -525,18 +534,20 @@ drafted-stays h m n l place count d one two BytesOf = omega (arith, d.bytes, one
 pub first-lacks : (h : Held) (root : ℕ) (count : ℕ) (row : List ℕ) → packs h.room ≡ true →
     ((names : Names) → Some (value_at names h.slots root) ≡ part_value (levels names h) 0 0) → IsRowAt h 0 row →
     count ≡ length row → CannotDraftArray h (place.Node root) count → CannotPackFirst h
-first-lacks h root count row packed part rows counted lacks = λ names value outer e fixed none.
+first-lacks h root count row packed part rows counted lacks = λ names value outer e fixed.
     let is = part-is (levels names h) (value_at names h.slots root) value outer (part names) e in
     let own = rows names value (alone (levels names h) value outer e) in
     let stride : count ≡ row_length value = counted ∙ ap length own ∙ length-row value in
     let l = lacks names (subst IsFixed (sym is) fixed) in
     let vector = l.0 in
-    let most = first-needed (packs h.room) (state_of h) (value_size value) (row_length value) packed none in
+    let most =
+    first-needed (packs h.room) (state_of h) (value_size value) (template_size value) (row_length value) packed
+    (one-part names h value outer e) in
     let same : of_vector vector
-    (with_first_drafted (value_size (value_at names h.slots root)) count (marks_of h.slots))
-    ≡ of_vector vector (with_first_drafted (value_size value) (row_length value) (marks_of h.slots)) =
-    ap (λ v. of_vector vector (with_first_drafted (value_size v) count (marks_of h.slots))) is
-    ∙ ap (λ n. of_vector vector (with_first_drafted (value_size value) n (marks_of h.slots))) stride in
+    (with_first_drafted (template_size (value_at names h.slots root)) count (marks_of h.slots))
+    ≡ of_vector vector (with_first_drafted (template_size value) (row_length value) (marks_of h.slots)) =
+    ap (λ v. of_vector vector (with_first_drafted (template_size v) count (marks_of h.slots))) is
+    ∙ ap (λ n. of_vector vector (with_first_drafted (template_size value) n (marks_of h.slots))) stride in
     (vector, omega (arith, l.1, same, ap (λ (s : State). of_vector vector s.now) most))
 
 -- what was placed is cut off again

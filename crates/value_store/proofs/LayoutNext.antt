@@ -10,8 +10,8 @@ use Rattle.value_store.specs.declared.store.slots.Shape.TheVariants.{Records}
 use Rattle.pickle_meaning.specs.Values.{Value, Levels, outer_of, pushed, value_at as part_value}
 use Rattle.value_store.specs.Below.{Extends}
 use Rattle.value_store.specs.Gathering.{with_records, EndsWithTemplate, IsGathering, TakesRecord}
-use Rattle.value_store.specs.LayoutArrays.{joined_rows, HasRowAt, IsRowAt, IsPackingLike, IsPackingNext, TakesNext}
-use Rattle.value_store.specs.Layouts.{row_of, row_length, template_of, value_size, packs_value, FitsRow, IsFixed}
+use Rattle.value_store.specs.LayoutArrays.{joined_rows, packed_array, HasRowAt, IsRowAt, IsPackingLike, IsPackingNext, TakesNext}
+use Rattle.value_store.specs.Layouts.{row_of, row_length, template_of, value_size, template_size, packs_value, FitsRow, IsFixed}
 use Rattle.value_store.specs.Moves.{PacksRecord, CannotMove, State, with_value, with_next_value, state_of, moved}
 use Rattle.value_store.specs.Names.{Names}
 use Rattle.value_store.specs.Records.{instance}
@@ -24,6 +24,7 @@ use Rattle.value_store.proofs.Gathering.{gathering-frames, gathering-levels, gat
 use Rattle.value_store.proofs.Grown.{Grows-cut}
 use Rattle.value_store.proofs.Layouts.{length-row, template-length, instance-length, fits-own, instance-fits}
 use Rattle.value_store.proofs.Held.{regrown-levels}
+use Rattle.value_store.proofs.LayoutFirst.{parts-pending}
 use Rattle.value_store.proofs.LayoutArrays.{joined-count, joined-push, lengths-push, packing-like}
 use Rattle.value_store.proofs.LayoutSizes.{next-moved, next-needed, value-given_up}
 use Rattle.value_store.proofs.LayoutTemplates.{template-again}
@@ -221,13 +222,11 @@ module _ (names : Names) (h : Held) (template : Value) (size start : ℕ) (rows 
     next-stride : row_length value ≡ stride
     next-stride = omega (arith, next-length, length-row value)
 
-    -- the array has a text in its frame
-    next-text : (innermost h.frames).texts < length h.slots.texts
-    next-text = omega (
-      arith,
-      (innermost-level h.room h.frames b k.gathering.own).is.within.texts,
-      array-at.texts,
-    )
+    -- the array is a pending child of the frame too
+    next-pending : (innermost h.frames).pending + 1 < length h.slots.pending
+    next-pending =
+        let parts = Some (packed_array template size start rows) ∷ Some value ∷ [] in
+        omega (arith, parts-pending names h parts outer p.is (omega arith))
 
     -- the call's move is that of the struct
     pub next-as_move : (l : Held) →
@@ -236,19 +235,22 @@ module _ (names : Names) (h : Held) (template : Value) (size start : ℕ) (rows 
         state_of l ≡ moved (packs h.room) (packs_value value) (state_of h)
     next-as_move l is after =
         let size = value_size value in
+        let template = template_size value in
         is ∙ ap (λ n. framed h.frames (record (marks_of p.slots) { bytes = length p.slots.bytes + n }))
         (sym next-stride)
-        ∙ sym (next-moved (packs h.room) (state_of h) size (row_length value) k.gathering.packs next-text
+        ∙ sym (next-moved (packs h.room) (state_of h) size template (row_length value) k.gathering.packs next-pending
         ∙ ap (λ n. framed h.frames (with_next_value size (row_length value) n)) after
         ∙ ap (framed h.frames) (value-given_up size (row_length value) (marks_of p.slots)))
 
     -- the bytes don't fit
-    pub next-lacks : h.capacity.bytes < length p.slots.bytes + stride → CannotMove h (packs_value value)
-    next-lacks more =
+    pub next-lacks : h.capacity.bytes < length p.slots.bytes + stride →
+        marks_of h.slots ≡ with_value (value_size value) (marks_of p.slots) → CannotMove h (packs_value value)
+    next-lacks more after =
         let most =
-        next-needed (packs h.room) (state_of h) (value_size value) (row_length value) k.gathering.packs next-text in
-        let within = bytes-within (marks_of p.slots) refl in
-        (BytesOf, omega (arith, more, within, next-stride, ap (λ (s : State). s.now.bytes) most))
+        next-needed (packs h.room) (state_of h) (value_size value) (template_size value) (row_length value)
+        k.gathering.packs next-pending in
+        let given_back = ap (λ (n : Marks). n.bytes) after in
+        (BytesOf, omega (arith, more, given_back, next-stride, ap (λ (s : State). s.now.bytes) most))
 
     -- after the cut
     module _ (marks : Marks) (are : marks ≡ marks_of p.slots) (n : Held)

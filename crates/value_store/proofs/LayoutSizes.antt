@@ -4,8 +4,8 @@ use Rattle.std.specs.Prelude.{if◌then◌else◌}
 use Rattle.value_store.specs.declared.store.slots.Marks.{Marks}
 use Rattle.pickle_meaning.specs.Values.{Label, IntegerLabel, OffsetLabel, TextLabel, ArrayLabel, StructLabel, UnionLabel, Value, Mapped, Members, NoMembers, MemberThen, AbsentThen, label_of, members_of, member_at, member_count}
 use Rattle.value_store.specs.LayoutArrays.{drafts, with_array, with_first}
-use Rattle.value_store.specs.Layouts.{label_length, label_place, row_length, template_of, templates_of, templates_upto, value_size, IsFixed, AreFixed}
-use Rattle.value_store.specs.Moves.{ValueSize, PacksValue, State, IsWithin, with_number, with_links, with_value, with_first_value, with_first_drafted, with_next_value, packed_value, drafted_value, moved, needed}
+use Rattle.value_store.specs.Layouts.{label_length, label_place, row_length, template_of, templates_of, templates_upto, template_size, IsFixed, AreFixed}
+use Rattle.value_store.specs.Moves.{ValueSize, TemplateSize, PacksValue, State, IsWithin, with_number, with_links, with_value, with_first_value, with_first_drafted, with_next_value, packed_value, drafted_value, moved, needed}
 use Rattle.value_store.specs.Slots.{innermost}
 use Rattle.value_store.specs.Takes.{Vector, NodesOf, FamiliesOf, LinksOf, PendingOf, TextsOf, BytesOf, of_vector, packed_width, families_taken, own_takes, value_takes, members_take, place_takes, level_takes}
 use Rattle.value_store.proofs.Layouts.{templates-all}
@@ -69,7 +69,7 @@ mutual
       omega (arith, template-takes vector v at, templates-take vector rest (at + row_length v))
   templates-take vector (AbsentThen rest) at = templates-take vector rest at
 
--- a value of fixed layout has no text
+-- where nothing is packed, a value of fixed layout has no text
 mutual
   pub fixed-texts : (v : Value) → IsFixed v → (value_takes false TextsOf v ≡ 0) × (value_takes false BytesOf v ≡ 0)
   fixed-texts (Mapped (IntegerLabel z type) s e ms) h =
@@ -203,7 +203,7 @@ branch-drafts BytesOf n m (Mapped label start end ms) at h one takes =
 
 -- an array after the template
 pub drafts-array : (vector : Vector) (n : Marks) (v : Value) (count : ℕ) →
-    of_vector vector n + drafts vector v ≤ of_vector vector (with_first_drafted (value_size v) count n)
+    of_vector vector n + drafts vector v ≤ of_vector vector (with_first_drafted (template_size v) count n)
 drafts-array NodesOf n v count = omega arith
 drafts-array FamiliesOf n v count = omega arith
 drafts-array LinksOf n v count = omega arith
@@ -215,7 +215,7 @@ pub array-drafts : (vector : Vector) (n m : Marks) (v : Value) (at waiting count
     ((vector : Vector) → of_vector vector m
     ≡ of_vector vector n + level_takes false vector (Some (template_of v at) ∷ [])) →
     n.nodes + 1 + waiting ≡ m.nodes →
-    of_vector vector (with_array waiting count m) ≤ of_vector vector (with_first_drafted (value_size v) count n)
+    of_vector vector (with_array waiting count m) ≤ of_vector vector (with_first_drafted (template_size v) count n)
 array-drafts NodesOf n m v at waiting count h takes more = omega (arith, takes NodesOf, template-takes NodesOf v at)
 array-drafts FamiliesOf n m v at waiting count h takes more =
     omega (arith, takes FamiliesOf, template-takes FamiliesOf v at)
@@ -238,7 +238,7 @@ pub drafted-within : (vector : Vector) (n m k : Marks) (v : Value) (at count : �
     ((vector : Vector) → of_vector vector m
     ≡ of_vector vector n + level_takes false vector (Some (template_of v at) ∷ [])) →
     IsWithin (record { now = with_array (m.nodes - (n.nodes + 1)) count m; frames = [] }) k →
-    of_vector vector (with_first_drafted (value_size v) count n) ≤ of_vector vector k
+    of_vector vector (with_first_drafted (template_size v) count n) ≤ of_vector vector k
 drafted-within NodesOf n m k v at count h takes w =
     omega (arith, takes NodesOf, template-takes NodesOf v at, w NodesOf)
 drafted-within FamiliesOf n m k v at count h takes w =
@@ -263,49 +263,50 @@ drafted-within BytesOf n m k v at count h takes w =
 
 -- the first one
 pub first-size : (v : Value) (stride : ℕ) (n : Marks) →
-    with_first (template_of v 0) stride n ≡ with_first_value (value_size v) stride n
+    with_first (template_of v 0) stride n ≡ with_first_value (template_size v) stride n
 first-size v stride n =
     same-marks _ _ (ap (λ k. n.nodes + k + 1) (template-takes NodesOf v 0))
     (ap (λ k. n.families + k) (template-takes FamiliesOf v 0)) (ap (λ k. n.links + k) (template-takes LinksOf v 0))
     refl refl refl
 
-module _ (packs : Bool) (s : State) (size : ValueSize) (stride : ℕ) (packed : packs ≡ true) where
-  pub first-moved : s.now.texts ≡ (innermost s.frames).texts →
-      moved packs (PacksValue size stride) s
-      ≡ record { now = with_first_value size stride s.now; frames = s.frames }
-  first-moved none =
-      ap (λ b. packed_value b size stride s) packed
-      ∙ ap (λ b. framed s.frames
-      (if b then with_first_value size stride s.now else with_next_value size stride s.now)) (eq-eqb _ _ none)
+module _ (packs : Bool) (s : State) (size : ValueSize) (template : TemplateSize) (stride : ℕ) (packed : packs ≡ true)
+  where
+    pub first-moved : s.now.pending ≡ (innermost s.frames).pending + 1 →
+        moved packs (PacksValue size template stride) s
+        ≡ record { now = with_first_value template stride s.now; frames = s.frames }
+    first-moved only =
+        ap (λ b. packed_value b size template stride s) packed
+        ∙ ap (λ b. framed s.frames
+        (if b then with_first_value template stride s.now else with_next_value size stride s.now)) (eq-eqb _ _ only)
 
-  pub first-needed : s.now.texts ≡ (innermost s.frames).texts →
-      needed packs (PacksValue size stride) s
-      ≡ record { now = with_first_drafted size stride s.now; frames = s.frames }
-  first-needed none =
-      ap (λ b. drafted_value b size stride s) packed
-      ∙ ap (λ b. framed s.frames (if b then with_first_drafted size stride s.now
-      else record s.now { bytes = s.now.bytes + stride })) (eq-eqb _ _ none)
+    pub first-needed : s.now.pending ≡ (innermost s.frames).pending + 1 →
+        needed packs (PacksValue size template stride) s
+        ≡ record { now = with_first_drafted template stride s.now; frames = s.frames }
+    first-needed only =
+        ap (λ b. drafted_value b size template stride s) packed
+        ∙ ap (λ b. framed s.frames (if b then with_first_drafted template stride s.now
+        else record s.now { bytes = (s.now.bytes - size.bytes) + stride })) (eq-eqb _ _ only)
 
-  -- the next one
-  pub next-moved : (innermost s.frames).texts < s.now.texts →
-      moved packs (PacksValue size stride) s
-      ≡ record { now = with_next_value size stride s.now; frames = s.frames }
-  next-moved some =
-      ap (λ b. packed_value b size stride s) packed
-      ∙ ap (λ b. framed s.frames
-      (if b then with_first_value size stride s.now else with_next_value size stride s.now))
-      (ne_eqb _ _ (λ e. omega (arith, some, e)))
+    -- the next one
+    pub next-moved : (innermost s.frames).pending + 1 < s.now.pending →
+        moved packs (PacksValue size template stride) s
+        ≡ record { now = with_next_value size stride s.now; frames = s.frames }
+    next-moved more =
+        ap (λ b. packed_value b size template stride s) packed
+        ∙ ap (λ b. framed s.frames
+        (if b then with_first_value template stride s.now else with_next_value size stride s.now))
+        (ne_eqb _ _ (λ e. omega (arith, more, e)))
 
-  pub next-needed : (innermost s.frames).texts < s.now.texts →
-      needed packs (PacksValue size stride) s
-      ≡ record { now = record s.now { bytes = s.now.bytes + stride }; frames = s.frames }
-  next-needed some =
-      ap (λ b. drafted_value b size stride s) packed
-      ∙ ap (λ b. framed s.frames (if b then with_first_drafted size stride s.now
-      else record s.now { bytes = s.now.bytes + stride })) (ne_eqb _ _ (λ e. omega (arith, some, e)))
+    pub next-needed : (innermost s.frames).pending + 1 < s.now.pending →
+        needed packs (PacksValue size template stride) s
+        ≡ record { now = record s.now { bytes = (s.now.bytes - size.bytes) + stride }; frames = s.frames }
+    next-needed more =
+        ap (λ b. drafted_value b size template stride s) packed
+        ∙ ap (λ b. framed s.frames (if b then with_first_drafted template stride s.now
+        else record s.now { bytes = (s.now.bytes - size.bytes) + stride })) (ne_eqb _ _ (λ e. omega (arith, more, e)))
 
 -- a value that was placed is given up
 pub value-given_up : (size : ValueSize) (stride : ℕ) (n : Marks) →
     with_next_value size stride (with_value size n) ≡ record n { bytes = n.bytes + stride }
 value-given_up size stride n =
-    same-marks _ _ (omega arith) (omega arith) (omega arith) (omega arith) refl refl
+    same-marks _ _ (omega arith) (omega arith) (omega arith) (omega arith) (omega arith) (omega arith)

@@ -7,7 +7,7 @@ use Rattle.value_store.specs.declared.store.slots.Place.{Place}
 use Rattle.value_store.specs.declared.store.slots.Place.TheVariants as place
 use Rattle.value_store.specs.declared.stored.StoredValue.{StoredValue}
 use Rattle.value_store.specs.Gathering.{last_value, IsGathering}
-use Rattle.value_store.specs.Layouts.{row_of, row_length, template_of, templates_upto, length_upto, value_size, packs_value, IsFixed, IsStructLabel}
+use Rattle.value_store.specs.Layouts.{row_of, row_length, template_of, templates_upto, length_upto, value_size, template_size, packs_value, IsFixed, IsStructLabel}
 use Rattle.value_store.specs.Lent.{place_value, IsPlace}
 use Rattle.value_store.specs.Moves.{PacksRecord, Moves, CannotMove, IsWithin, state_of, moved, needed, with_value, with_links, with_first_drafted}
 use Rattle.value_store.specs.Names.{Names}
@@ -115,27 +115,21 @@ MovesFirst before after = (names : Names) (value : Value) (outer : Levels) →
       frames = before.frames;
     }
 
--- the innermost open value has no text and no packed array
-abbrev pub HasNoText : Held → Type 0
-HasNoText h = length h.slots.texts ≡ (innermost h.frames).texts
-
--- then the call makes the move of the struct
+-- the call makes the move of the struct
 abbrev pub MovesAsFirst : (before after : Held) → Type 0
 MovesAsFirst before after = (names : Names) (value : Value) (outer : Levels) →
-    levels names before ≡ (Some value ∷ []) ∷ outer → IsFixed value → HasNoText before →
-    Moves before after (packs_value value)
+    levels names before ≡ (Some value ∷ []) ∷ outer → IsFixed value → Moves before after (packs_value value)
 
 -- there is capacity for the most that the move needs
 abbrev pub HoldsFirst : (before after : Held) → Type 0
 HoldsFirst before after = (names : Names) (value : Value) (outer : Levels) →
-    levels names before ≡ (Some value ∷ []) ∷ outer → IsFixed value → HasNoText before →
+    levels names before ≡ (Some value ∷ []) ∷ outer → IsFixed value →
     IsWithin (needed (packs before.room) (packs_value value) (state_of before)) after.capacity
 
 -- that move needs more of some vector than its capacity
 abbrev pub CannotPackFirst : Held → Type 0
 CannotPackFirst before = (names : Names) (value : Value) (outer : Levels) →
-    levels names before ≡ (Some value ∷ []) ∷ outer → IsFixed value → HasNoText before →
-    CannotMove before (packs_value value)
+    levels names before ≡ (Some value ∷ []) ∷ outer → IsFixed value → CannotMove before (packs_value value)
 
 -- the innermost open value has an array of packed structs and a struct, which may be the next
 pub record TakesNext (h : Held) : Type 0 where
@@ -185,12 +179,13 @@ MovesAsNext before after =
     marks_of before.slots ≡ with_value (value_size value) (marks_of next.slots) →
     Moves before after (packs_value value)
 
--- that move needs more of some vector than its capacity
+-- where the struct takes all that was stored after the array, that move needs more of some vector than its capacity
 abbrev pub CannotPackNext : Held → Type 0
 CannotPackNext before =
-    (names : Names) (template : Value) (size start : ℕ) (rows : List (List ℕ)) (value : Value) (outer : Levels) →
-    IsPackingNext names before template size start rows value outer → IsFixed value →
+    (names : Names) (template : Value) (size start : ℕ) (rows : List (List ℕ)) (value : Value) (outer : Levels)
+    (next : IsPackingNext names before template size start rows value outer) → IsFixed value →
     value ≡ instance template (size * length rows) (row_of value) → start + size * (length rows + 1) < 2 ^ 64 →
+    marks_of before.slots ≡ with_value (value_size value) (marks_of next.slots) →
     CannotMove before (packs_value value)
 
 -- the array is one more member of the value around it
@@ -229,8 +224,8 @@ pub record HasGrown (before after : Held) : Type 0 where
   pub adds : Adds before.room before.slots after.slots values
   pub same : HasSlots before after after.slots
 
--- The template of a value needs more of some vector than its capacity: at most as much as the value takes, and a
--- pending child for each of its nodes.
+-- The template of a value needs more of some vector than its capacity: at most as much as the value takes where nothing
+-- is packed, and a pending child for each of its nodes.
 abbrev pub drafts : Vector → Value → ℕ
 drafts NodesOf v = value_takes false NodesOf v
 drafts FamiliesOf v = value_takes false FamiliesOf v
@@ -248,7 +243,7 @@ CannotDraft before place = (names : Names) → IsFixed (place_value names before
 abbrev pub CannotDraftArray : Held → Place → (count : ℕ) → Type 0
 CannotDraftArray before place count = (names : Names) → IsFixed (place_value names before.slots place) →
     (vector : Vector) × (of_vector vector before.capacity < of_vector vector
-    (with_first_drafted (value_size (place_value names before.slots place)) count (marks_of before.slots)))
+    (with_first_drafted (template_size (place_value names before.slots place)) count (marks_of before.slots)))
 
 -- the pending children above a mark don't fit as links of one value
 abbrev pub CannotJoin : Held → (mark : ℕ) → Type 0

@@ -1,15 +1,15 @@
 -- Values of fixed layout, which are trees of numbers, arrays and structs: the bytes of their numbers, and their
 -- templates.
-use Rattle.std.specs.Prelude.{◌≡◌, ℕ, zero, suc, ◌+◌, ◌^◌, ◌<◌, ◌≤◌, ℤ, pos, false, List, [], ◌∷◌, ◌++◌, take, drop, Option, Some, None}
+use Rattle.std.specs.Prelude.{◌≡◌, ℕ, zero, suc, ◌+◌, ◌^◌, ◌<◌, ◌≤◌, ℤ, pos, true, false, List, [], ◌∷◌, ◌++◌, take, drop, Option, Some, None}
 use Rattle.value_store.specs.declared.store.slots.Shape.{Shape}
 use Rattle.value_store.specs.declared.store.slots.Shape.TheVariants.{Integer, Offset, Text, Integers, Offsets, Records, Array, Struct, Union}
 use Rattle.pickle_types.specs.declared.integer.IntegerType.{IntegerType}
 use Rattle.pickle_types.specs.Table.{IsWidth}
 use Rattle.pickle_meaning.specs.Arithmetic.{modulo, converted}
 use Rattle.pickle_meaning.specs.Values.{Label, IntegerLabel, OffsetLabel, TextLabel, ArrayLabel, StructLabel, UnionLabel, Value, Mapped, Members, NoMembers, MemberThen, AbsentThen, end_of}
-use Rattle.value_store.specs.Moves.{ValueSize, Move, PacksValue}
+use Rattle.value_store.specs.Moves.{ValueSize, TemplateSize, Move, PacksValue}
 use Rattle.value_store.specs.Packed.{bytes_for, number_bytes, bytes_number}
-use Rattle.value_store.specs.Takes.{NodesOf, FamiliesOf, LinksOf, value_takes}
+use Rattle.value_store.specs.Takes.{NodesOf, FamiliesOf, LinksOf, TextsOf, BytesOf, value_takes}
 
 -- the bytes of a number of a type: its binary digits, in two's complement
 abbrev pub digits_row : IntegerType → ℤ → List ℕ
@@ -73,9 +73,19 @@ abbrev mutual
   templates_of (MemberThen v rest) at = MemberThen (template_of v at) (templates_of rest (at + row_length v))
   templates_of (AbsentThen rest) at = AbsentThen (templates_of rest at)
 
--- how many nodes, families and links a value takes where nothing is packed
+-- how much a value takes where arrays of numbers are packed
 abbrev pub value_size : Value → ValueSize
 value_size v = record {
+  nodes = value_takes true NodesOf v;
+  families = value_takes true FamiliesOf v;
+  links = value_takes true LinksOf v;
+  texts = value_takes true TextsOf v;
+  bytes = value_takes true BytesOf v;
+}
+
+-- how much its template takes: nothing is packed in it
+abbrev pub template_size : Value → TemplateSize
+template_size v = record {
   nodes = value_takes false NodesOf v;
   families = value_takes false FamiliesOf v;
   links = value_takes false LinksOf v;
@@ -83,7 +93,7 @@ value_size v = record {
 
 -- the move by which it becomes a struct of an array of packed structs
 abbrev pub packs_value : Value → Move
-packs_value v = PacksValue (value_size v) (row_length v)
+packs_value v = PacksValue (value_size v) (template_size v) (row_length v)
 
 -- a number in the range of its type, which takes just its bits
 pub record IsFixedNumber (type : IntegerType) (number : ℤ) (start end : ℕ) (members : Members) : Type 0 where

@@ -5,8 +5,16 @@ use Rattle.value_store.specs.Packed.{bytes_for}
 use Rattle.value_store.specs.Slots.{Held, packs, root_marks, innermost, marks_of, around}
 use Rattle.value_store.specs.Takes.{Vector, of_vector}
 
--- how many nodes, families and links a value takes that has no text and no packed array
+-- how much a value takes where arrays of numbers are packed
 pub record ValueSize : Type 0 where
+  pub nodes : ℕ
+  pub families : ℕ
+  pub links : ℕ
+  pub texts : ℕ
+  pub bytes : ℕ
+
+-- how much its template takes, where nothing is packed
+pub record TemplateSize : Type 0 where
   pub nodes : ℕ
   pub families : ℕ
   pub links : ℕ
@@ -43,7 +51,7 @@ pub data Move : Type 0 where
   PacksStruct : (stride : ℕ) → Move
   -- The last member of the innermost frame, a value of this size, becomes one more struct of so many bytes of an array
   -- in that frame, where such arrays are packed; the first makes the array, after its template. Else nothing changes.
-  PacksValue : (size : ValueSize) (stride : ℕ) → Move
+  PacksValue : (size : ValueSize) (template : TemplateSize) (stride : ℕ) → Move
 
 -- the lengths of the vectors, and what they were when each open value was opened, the innermost first
 pub record State : Type 0 where
@@ -112,16 +120,16 @@ with_value size n = record {
   families = n.families + size.families;
   links = n.links + size.links;
   pending = n.pending + 1;
-  texts = n.texts;
-  bytes = n.bytes;
+  texts = n.texts + size.texts;
+  bytes = n.bytes + size.bytes;
 }
 
 -- the value that is the one member of a frame has a template after it, and an array that has its bytes is the member
-abbrev pub with_first_value : (size : ValueSize) → (stride : ℕ) → Marks → Marks
-with_first_value size stride n = record {
-  nodes = n.nodes + size.nodes + 1;
-  families = n.families + size.families;
-  links = n.links + size.links;
+abbrev pub with_first_value : (template : TemplateSize) → (stride : ℕ) → Marks → Marks
+with_first_value template stride n = record {
+  nodes = n.nodes + template.nodes + 1;
+  families = n.families + template.families;
+  links = n.links + template.links;
   pending = n.pending;
   texts = n.texts + 1;
   bytes = n.bytes + stride;
@@ -134,23 +142,25 @@ with_next_value size stride n = record {
   families = n.families - size.families;
   links = n.links - size.links;
   pending = n.pending - 1;
-  texts = n.texts;
-  bytes = n.bytes + stride;
+  texts = n.texts - size.texts;
+  bytes = (n.bytes - size.bytes) + stride;
 }
 
--- a frame that began at k has such an array where it has a text
-abbrev pub with_packed_value : (size : ValueSize) → (stride : ℕ) → (k n : Marks) → Marks
-with_packed_value size stride k n =
-    if nat_eq n.texts k.texts then with_first_value size stride n else with_next_value size stride n
+-- a frame that began at k has such an array where the value isn't its only member
+abbrev pub with_packed_value : (size : ValueSize) → (template : TemplateSize) → (stride : ℕ) → (k n : Marks) → Marks
+with_packed_value size template stride k n =
+    if nat_eq n.pending (k.pending + 1) then with_first_value template stride n else with_next_value size stride n
 
 -- the most that there is on the way: the nodes of the template wait for their links
-abbrev pub with_first_drafted : (size : ValueSize) → (stride : ℕ) → Marks → Marks
-with_first_drafted size stride n = record (with_first_value size stride n) { pending = n.pending + size.nodes }
+abbrev pub with_first_drafted : (template : TemplateSize) → (stride : ℕ) → Marks → Marks
+with_first_drafted template stride n =
+    record (with_first_value template stride n) { pending = n.pending + template.nodes }
 
--- the value that is given up is still there when its bytes are
-abbrev pub with_value_drafted : (size : ValueSize) → (stride : ℕ) → (k n : Marks) → Marks
-with_value_drafted size stride k n =
-    if nat_eq n.texts k.texts then with_first_drafted size stride n else record n { bytes = n.bytes + stride }
+-- the bytes of the value that is given up are given back first; all else of it is still there
+abbrev pub with_value_drafted : (size : ValueSize) → (template : TemplateSize) → (stride : ℕ) → (k n : Marks) → Marks
+with_value_drafted size template stride k n =
+    if nat_eq n.pending (k.pending + 1) then with_first_drafted template stride n
+    else record n { bytes = (n.bytes - size.bytes) + stride }
 
 -- what the innermost frame had is now its one member
 abbrev pub joined : State → State
@@ -174,16 +184,17 @@ packed_struct true stride s = record {
 packed_struct false stride s = lifted (joined s)
 
 -- a value becomes a struct of an array in its frame
-abbrev pub packed_value : (packs : Bool) → (size : ValueSize) → (stride : ℕ) → State → State
-packed_value true size stride s =
-    record { now = with_packed_value size stride (innermost s.frames) s.now; frames = s.frames }
-packed_value false size stride s = s
+abbrev pub packed_value : (packs : Bool) → (size : ValueSize) → (template : TemplateSize) → (stride : ℕ) → State → State
+packed_value true size template stride s =
+    record { now = with_packed_value size template stride (innermost s.frames) s.now; frames = s.frames }
+packed_value false size template stride s = s
 
 -- the most that there is on the way
-abbrev pub drafted_value : (packs : Bool) → (size : ValueSize) → (stride : ℕ) → State → State
-drafted_value true size stride s =
-    record { now = with_value_drafted size stride (innermost s.frames) s.now; frames = s.frames }
-drafted_value false size stride s = s
+abbrev pub drafted_value : (packs : Bool) → (size : ValueSize) → (template : TemplateSize) → (stride : ℕ) →
+    State → State
+drafted_value true size template stride s =
+    record { now = with_value_drafted size template stride (innermost s.frames) s.now; frames = s.frames }
+drafted_value false size template stride s = s
 
 abbrev pub moved : (packs : Bool) → Move → State → State
 moved packs Opens s = record { now = s.now; frames = s.now ∷ s.frames }
@@ -200,7 +211,7 @@ moved packs OpensRecords s = record { now = with_template (innermost s.frames) s
 moved packs (PacksRecord count) s = record { now = record s.now { bytes = s.now.bytes + count }; frames = s.frames }
 moved packs ClosesRecords s = lifted s
 moved packs (PacksStruct stride) s = packed_struct packs stride s
-moved packs (PacksValue size stride) s = packed_value packs size stride s
+moved packs (PacksValue size template stride) s = packed_value packs size template stride s
 
 -- the most that a move needs on its way
 abbrev pub needed : (packs : Bool) → Move → State → State
@@ -218,7 +229,7 @@ needed packs OpensRecords s = moved packs OpensRecords s
 needed packs (PacksRecord count) s = moved packs (PacksRecord count) s
 needed packs ClosesRecords s = moved packs ClosesRecords s
 needed packs (PacksStruct stride) s = moved packs (PacksStruct stride) s
-needed packs (PacksValue size stride) s = drafted_value packs size stride s
+needed packs (PacksValue size template stride) s = drafted_value packs size template stride s
 
 -- a call makes this move
 abbrev pub Moves : (before after : Held) → Move → Type 0

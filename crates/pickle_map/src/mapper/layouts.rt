@@ -1,13 +1,13 @@
 //! Types whose values are all alike but for their numbers, so that arrays of them are packed.
 
 ghost use Rattle.std.specs.Prelude.{◌≡◌, ◌+◌, ◌<◌, Option, Some, None, length, All, if◌then◌else◌};
-ghost use Rattle.mapping_plans.specs.Rows.{Layout, clause_avoids, field_layout, fields_layout, layout_of, number_layout, parts_layout, some_bytes};
+ghost use Rattle.mapping_plans.specs.Rows.{Layout, array_layout, clause_avoids, field_layout, fields_layout, layout_of, literal_count, number_layout, parts_layout, scalar_width, some_bytes};
 ghost use Rattle.pickle_map.specs.Layouts.{HasPlace, HasPartPlace, IsFew, IsLaid, IsSizeOf};
-ghost use Rattle.pickle_types.specs.Table.{IsTable, IsWidth, type_of, open_fields, open_parts, optional_term};
+ghost use Rattle.pickle_types.specs.Table.{IsTable, IsWidth, bound_of, type_of, open_fields, open_parts, optional_term};
 
-use crate::mapper::packed_fields::clause_avoids;
+use crate::mapper::packed_fields::{clause_avoids, scalar_width};
 use pickle_types::integer::IntegerType;
-use pickle_types::view::{Field, Node, Part, Shape};
+use pickle_types::view::{Extent, Field, Node, Part, Resolved, Shape};
 
 /// How many bits each value of such a type takes, and how many bytes its numbers take side by side.
 #[derive(Clone, Copy)]
@@ -16,7 +16,7 @@ pub(crate) struct FixedSize {
     pub bytes: u32,
 }
 
-// The most bytes of a struct.
+// The most bytes of a struct or an array.
 const MOST_BYTES: u32 = 512;
 
 // The size of a number of a type.
@@ -30,6 +30,48 @@ fn number_size(number: IntegerType) -> FixedSize
         bits,
         bytes: (bits + 7) / 8,
     }
+}
+
+// The count of an array whose bound is a literal number.
+fn literal_count(bound: &Extent) -> Option<u64>
+    ensures { result ≡ literal_count (bound_of bound.now) }
+{
+    match bound {
+        Extent::Count(count) => match &**count {
+            Resolved::Number(_, count) => Some(*count),
+            _ => None,
+        },
+        Extent::Unbounded | Extent::Size(_) => None,
+    }
+}
+
+// The most bits of a number of an array.
+const MOST_BITS: u32 = 32;
+
+// The size of an array of at least one number. Each has a byte, so there are no more of them than bytes.
+fn numbers_size(nodes: &[Node], element: usize, bound: &Extent) -> Option<FixedSize>
+    requires table { IsTable nodes.now }
+    requires element { element < length nodes.now }
+    ensures size { IsSizeOf result
+        (array_layout (scalar_width (type_of nodes.now element)) (literal_count (bound_of bound.now))) }
+    ensures few { IsFew result }
+{
+    let (width, count) = match (scalar_width(nodes, element), literal_count(bound)) {
+        (Some(width), Some(count)) => (u32::from(width), count),
+        _ => return None,
+    };
+    if MOST_BITS < width || count == 0 || u64::from(MOST_BYTES) < count {
+        return None;
+    }
+    let count = count as u32;
+    let bytes = (width + 7) / 8 * count;
+    if MOST_BYTES < bytes {
+        return None;
+    }
+    Some(FixedSize {
+        bits: width * count,
+        bytes,
+    })
 }
 
 // Whether a field is always there, right after the one before it, and its constraint names nothing of the frame at that
@@ -81,8 +123,8 @@ fn size_at(nodes: &[Node], at: usize, level: usize) -> Option<FixedSize>
             }
             None => None,
         },
+        Shape::Array(element, bound) => numbers_size(nodes, *element, bound),
         Shape::String => None,
-        Shape::Array(..) => None,
         Shape::Union { .. } => None,
     }
 }

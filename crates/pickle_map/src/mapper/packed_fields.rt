@@ -62,8 +62,8 @@ pub(crate) fn clause_avoids(e: &Option<Box<Resolved>>, level: usize) -> bool
     }
 }
 
-// The width of an integer or an offset in bits.
-fn scalar_width(nodes: &[Node], at: usize) -> Option<u8>
+/// The width of an integer or an offset in bits.
+pub(crate) fn scalar_width(nodes: &[Node], at: usize) -> Option<u8>
     requires table { IsTable nodes.now }
     requires at { at < length nodes.now }
     ensures { result ≡ scalar_width (type_of nodes.now at) }

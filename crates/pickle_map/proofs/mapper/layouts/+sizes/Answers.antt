@@ -71,7 +71,7 @@ size_at-returns-in-String-clause-size t c = rw (opened_as c.args.nodes.now c.req
 
 pub size_at-returns-in-Array-clause-size : goal.size_at-returns-in-Array-clause-size
 size_at-returns-in-Array-clause-size t c = rw (opened_as c.args.nodes.now c.requires.table c.args.at
-    (omega (arith, c.requires.at)) c.index-nodes-at.result _ c.in-Array.is) tt
+    (omega (arith, c.requires.at)) c.index-nodes-at.result _ c.in-Array.is) c.numbers_size.ensures.size
 
 pub size_at-returns-in-Union-clause-size : goal.size_at-returns-in-Union-clause-size
 size_at-returns-in-Union-clause-size t c = rw (opened_as c.args.nodes.now c.requires.table c.args.at

@@ -132,7 +132,7 @@ returns-clause-moves c = λ names template size start rows value outer p fixed l
 
 pub returns-in_err-reserve_struct-clause-lacks : goal.returns-in_err-reserve_struct-clause-lacks
 returns-in_err-reserve_struct-clause-lacks c =
-    let lacks : CannotPackNext c.args.self.now = λ names template size start rows value outer p fixed like short.
+    let lacks : CannotPackNext c.args.self.now = λ names template size start rows value outer p fixed like short after.
     let h = c.args.self.now in
     let marks = c.array_marks-marks.result in
     let are = c.array_marks-marks.ensures names template size start rows value outer p in
@@ -150,7 +150,7 @@ returns-in_err-reserve_struct-clause-lacks c =
       ap length row,
       next-length names h template size start rows value outer p fixed like short,
       ap (λ (m : Marks). m.bytes) are,
-    )) in
+    )) after in
     refused _ lacks
 
 pub returns-clause-below : goal.returns-clause-below

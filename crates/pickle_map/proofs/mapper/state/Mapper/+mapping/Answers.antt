@@ -19,7 +19,7 @@ use Rattle.pickle_map.proofs.Followed.{followed_fits, followed_wide}
 use Rattle.value_store.specs.Moves.{State}
 use Rattle.pickle_map.proofs.Keeping.{added_stays, cleared_keeps, closes_level, keeps_then, regrown_stays, pushed_stays, same_adds, same_stays, stays_then, stopped_stays}
 use Rattle.pickle_map.proofs.Added.{value_added}
-use Rattle.pickle_map.proofs.PackedValues.{added_no_text, added_text, first_taken, first_cannot, first_makes, first_holds, first_added, first_adds, first_moves, next_taken, next_cannot, next_makes, next_added, next_adds, next_moves, not_opened, value_packed, value_refused, value_frames, values_stay, packed_stays, stopped_regrown, array_text}
+use Rattle.pickle_map.proofs.PackedValues.{added_more, first_taken, first_cannot, first_makes, first_holds, first_added, first_adds, first_moves, next_taken, next_cannot, next_makes, next_added, next_adds, next_moves, not_opened, value_packed, value_refused, value_frames, values_stay, packed_stays, stopped_regrown, array_pending}
 use Rattle.pickle_map.proofs.RecordArrays.{none_moves, some_moves, none_lacks}
 use Rattle.pickle_map.proofs.RecordElements.{ends_with_memory}
 use Rattle.pickle_map.proofs.ValueElements.{among_values, none_there, some_there, value_goes, value_stops}
@@ -976,11 +976,9 @@ map_value-returns-in_err-pack_first-clause-is g t c =
     let k = c.requires.packs in
     let among = rw c.if-first.true at c.requires.among in
     let widths = table_widths nodes c.requires.table.below c.args.at in
-    let added = value_added _ _ k.stride k.row _ _ _ m.is.follows in
     let cannot = first_cannot nodes mid (8 * (g.S.Space.view c.args.space.now).len) (type_of nodes c.args.at) k.stride
     k.row widths (levels nodes before) c.args.start.bit m.is.value among.0 (followed_fits _ _ _ _ _ m.is.follows)
-    (m.is.kept ∙ ap (λ ls. pushed ls (Some m.is.value)) among.1)
-    (added_no_text before mid k.stride m.is.value among.2 m.level.frames added) e.lacks in
+    (m.is.kept ∙ ap (λ ls. pushed ls (Some m.is.value)) among.1) e.lacks in
     rw (p.1, p.2) (
       value_refused m.frame.left.room e.room _ (levels nodes before) m.is.follows k.packs cannot,
       λ other. absurd (other refl),
@@ -1007,7 +1005,8 @@ map_value-returns-in_err-pack_next-clause-is g t c =
     let cannot = next_cannot nodes before c.map_inside.new.self.store.now (8 * (g.S.Space.view c.args.space.now).len)
     (type_of nodes c.args.at) k.stride k.row widths (levels nodes before) among.start c.args.start.bit m.is.value
     among.outer among.values (followed_fits _ _ _ _ _ m.is.follows) among.array m.level.frames m.frame.left.room.room
-    m.level.extends m.is.kept (omega (arith, m.is.ends, m.ends.1, short)) e.lacks in
+    m.level.extends m.is.kept (value_added _ _ k.stride k.row _ _ _ m.is.follows k.packs)
+    (omega (arith, m.is.ends, m.ends.1, short)) e.lacks in
     rw (p.1, p.2) (
       value_refused m.frame.left.room e.room _ (levels nodes before) m.is.follows k.packs cannot,
       λ other. absurd (other refl),
@@ -1031,16 +1030,14 @@ map_value-returns-in_ok-pack_first-clause-is g t c =
     let bits = 8 * (g.S.Space.view c.args.space.now).len in
     let widths = table_widths nodes c.requires.table.below c.args.at in
     let fits = followed_fits _ _ _ _ _ m.is.follows in
-    let added = value_added _ _ k.stride k.row _ _ _ m.is.follows in
     let e = c.in_ok-pack_first.ensures in
     let after = c.pack_first.new.self in
     let among = rw c.if-first.true at c.requires.among in
     let is = m.is.kept ∙ ap (λ ls. pushed ls (Some m.is.value)) among.1 in
-    let none = added_no_text before mid k.stride m.is.value among.2 m.level.frames added in
     let makes = first_makes nodes mid bits ty k.stride k.row widths (levels nodes before) c.args.start.bit m.is.value
-    among.0 fits is none after e.moves in
+    among.0 fits is after e.moves in
     let holds = first_holds nodes mid bits ty k.stride k.row widths (levels nodes before) c.args.start.bit m.is.value
-    among.0 fits is none after e.holds in
+    among.0 fits is after e.holds in
     record {
       value = m.is.value;
       m = bits;
@@ -1064,14 +1061,12 @@ map_value-returns-in_ok-pack_first-clause-level g t c =
     let bits = 8 * (g.S.Space.view c.args.space.now).len in
     let widths = table_widths nodes c.requires.table.below c.args.at in
     let fits = followed_fits _ _ _ _ _ m.is.follows in
-    let added = value_added _ _ k.stride k.row _ _ _ m.is.follows in
     let e = c.in_ok-pack_first.ensures in
     let after = c.pack_first.new.self in
     let among = rw c.if-first.true at c.requires.among in
     let is = m.is.kept ∙ ap (λ ls. pushed ls (Some m.is.value)) among.1 in
-    let none = added_no_text before mid k.stride m.is.value among.2 m.level.frames added in
     let makes = first_makes nodes mid bits ty k.stride k.row widths (levels nodes before) c.args.start.bit m.is.value
-    among.0 fits is none after e.moves in
+    among.0 fits is after e.moves in
     let adds = first_added nodes mid bits ty k.stride k.row widths (levels nodes before) c.args.start.bit m.is.value
     among.0 fits after is e.ok in
     packed_stays nodes before mid after c.in_ok-end.end m.level e.below
@@ -1089,7 +1084,7 @@ map_value-returns-in_ok-pack_next-clause-is g t c =
     let bits = 8 * (g.S.Space.view c.args.space.now).len in
     let widths = table_widths nodes c.requires.table.below c.args.at in
     let fits = followed_fits _ _ _ _ _ m.is.follows in
-    let added = value_added _ _ k.stride k.row _ _ _ m.is.follows in
+    let added = value_added _ _ k.stride k.row _ _ _ m.is.follows k.packs in
     let short = g.met.S.Space.short c.args.space.now in
     let small : end_of m.is.value < 2 ^ 64 = omega (arith, m.is.ends, m.ends.1, short) in
     let e = c.in_ok-pack_next.ensures in
@@ -1098,7 +1093,7 @@ map_value-returns-in_ok-pack_next-clause-is g t c =
     let makes = next_makes nodes before mid bits ty k.stride k.row widths (levels nodes before) among.start
     c.args.start.bit m.is.value among.outer among.values fits among.array m.level.frames m.frame.left.room.room
     m.level.extends m.is.kept after added small e.moves in
-    let some = added_text before mid k.stride m.is.value (array_text nodes before ty among.start among.outer
+    let more = added_more before mid k.stride m.is.value (array_pending nodes before ty among.start among.outer
     c.args.start.bit among.values among.array) m.level.frames added in
     record {
       value = m.is.value;
@@ -1110,7 +1105,7 @@ map_value-returns-in_ok-pack_next-clause-is g t c =
           among.array) m.level.frames m.frame.left.room.room m.level.extends small e.ok;
       ends = m.is.ends;
       runs = value_packed m.frame.left.room e.room _ (levels nodes before) m.is.follows
-          (next_moves m.frame.left.room e.room k.packs m.is.value some makes m.level.within e.within);
+          (next_moves m.frame.left.room e.room k.packs m.is.value more makes m.level.within e.within);
     }
 
 pub map_value-returns-in_ok-pack_next-clause-level : goal.map_value-returns-in_ok-pack_next-clause-level
@@ -1124,7 +1119,7 @@ map_value-returns-in_ok-pack_next-clause-level g t c =
     let bits = 8 * (g.S.Space.view c.args.space.now).len in
     let widths = table_widths nodes c.requires.table.below c.args.at in
     let fits = followed_fits _ _ _ _ _ m.is.follows in
-    let added = value_added _ _ k.stride k.row _ _ _ m.is.follows in
+    let added = value_added _ _ k.stride k.row _ _ _ m.is.follows k.packs in
     let short = g.met.S.Space.short c.args.space.now in
     let small : end_of m.is.value < 2 ^ 64 = omega (arith, m.is.ends, m.ends.1, short) in
     let e = c.in_ok-pack_next.ensures in
