@@ -27,6 +27,7 @@ pub mod RecordsRead
 pub mod LayoutSizes
 pub mod LayoutRows
 pub mod LayoutNodes
+mod PackedNumbers
 pub mod LayoutJoined
 pub mod LayoutPlaced
 pub mod Gathering

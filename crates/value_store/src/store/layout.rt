@@ -8,7 +8,7 @@ ghost use Rattle.value_store.specs.LayoutArrays.{AreArrayMarks, CannotDraft, Can
 ghost use Rattle.value_store.specs.Layouts.{digits_row, row_of};
 ghost use Rattle.value_store.specs.Moves.{Moves, PacksRecord};
 ghost use Rattle.value_store.specs.Names.{Names};
-ghost use Rattle.value_store.specs.Packed.{bytes_for, number_bytes};
+ghost use Rattle.value_store.specs.Packed.{bytes_for, number_bytes, packed, numbers_in};
 ghost use Rattle.value_store.specs.Refs.{value_of};
 ghost use Rattle.value_store.specs.Slots.{level_count, value_at, cut_to, with_family, with_more, AreLevels, HasSlots, HoldsInRoom, IsComposite, KeepsRoom, Regrown};
 
@@ -43,6 +43,17 @@ fn append_digits(row: &mut Row, number_type: IntegerType, number: i128)
     ensures { row.new.items ≡ row.old.items ++ digits_row number_type number }
 {
     append_number(row, number_type.width, modulo(number_type.width, number));
+}
+
+// Appends the bytes of packed numbers of `width` binary digits. They are stored as a row has them.
+fn append_packed(row: &mut Row, width: u8, bytes: &[u8])
+    requires width { 1 ≤ width }
+    requires room { array_vec_len row.old + length (packed (bytes_for width) (numbers_in width bytes.now)) ≤ 512 }
+    ensures { row.new.items ≡ row.old.items ++ packed (bytes_for width) (numbers_in width bytes.now) }
+{
+    let size = bytes_for(width);
+    let whole = bytes.len() / size * size;
+    let _fits = row.try_extend_from_slice(&bytes[..whole]);
 }
 
 // Appends the bytes of the numbers of a value.
@@ -214,6 +225,11 @@ impl Store {
         let width = node.shape.number_bits();
         if width > 0 {
             append_number(row, width, low_digits(width, u128::from(node.content)));
+            return;
+        }
+        let element = node.shape.element_width();
+        if element > 0 {
+            append_packed(row, element, self.text(node.content as usize));
             return;
         }
         let value = StoredValue::new(self, Place::Node(at));

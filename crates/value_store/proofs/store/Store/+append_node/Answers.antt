@@ -3,10 +3,11 @@ use Rattle.std.specs.Prelude.{slice_get}
 use Rattle.std.proofs.lemmas.Option.{slice_get-get_or}
 use Rattle.value_store.specs.declared.store.slots.Place.TheVariants as place
 use Rattle.value_store.specs.Lent.{place_links, place_packed}
-use Rattle.value_store.specs.Packed.{bytes_for, number_bytes}
+use Rattle.value_store.specs.Packed.{bytes_for, number_bytes, packed, numbers_in}
 use Rattle.value_store.specs.Slots.{value_at}
 use Rattle.value_store.proofs.LayoutRows.{rows-more, rows-skipped, rows-none, member-room, rows-whole}
 use Rattle.value_store.proofs.LayoutNodes.{node-width, node-row, node-room, copied-room, link-found, link-none, links-all, link-below, link-there}
+use Rattle.value_store.proofs.PackedNumbers.{numbers-row, numbers-room}
 use Rattle.value_store.proofs.store.Store.+append_node.Goals.{in-Some, in-None}
 use Rattle.value_store.proofs.store.Store.+append_node.Goals as goal
 
@@ -28,6 +29,23 @@ returns-then-width-gt0 t c = λ names.
     (ap (number_bytes (bytes_for w)) digits
     ∙ sym (node-row c.args.self.now.slots c.args.at c.node_at-node.result w c.node_at-node.ensures.read
     c.number_bits-width.ensures c.if-width-gt0.true below names))
+
+pub append_packed-requires-clause-room : goal.append_packed-requires-clause-room
+append_packed-requires-clause-room t c =
+    let w = c.element_width-element.result in
+    let room =
+    numbers-room c.args.self.now.slots c.args.at c.node_at-node.result w c.node_at-node.ensures.read
+    c.element_width-element.ensures c.if-element-gt0.true (length c.args.row.now.items) c.requires in
+    omega (arith, room, ap (λ bs. length (packed (bytes_for w) (numbers_in w bs))) c.text.ensures)
+
+pub returns-then-element-gt0 : goal.returns-then-element-gt0
+returns-then-element-gt0 t c = λ names.
+    let w = c.element_width-element.result in
+    c.append_packed.ensures
+    ∙ ap (λ bs. c.args.row.now.items ++ bs)
+    (ap (λ bs. packed (bytes_for w) (numbers_in w bs)) c.text.ensures
+    ∙ sym (numbers-row c.args.self.now.slots c.args.at c.node_at-node.result w c.node_at-node.ensures.read
+    c.element_width-element.ensures c.if-element-gt0.true names))
 
 pub loop-i-init : goal.loop-i-init
 loop-i-init t c =
