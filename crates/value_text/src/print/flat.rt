@@ -96,7 +96,10 @@ impl<W: Write> Printer<'_, W> {
             if self.failed {
                 return;
             }
-            if let Some(element) = elements.get(place) {
+            if let Some(number) = elements.scalar(place) {
+                self.put_numbered(style, first, None, number);
+                first = false;
+            } else if let Some(element) = elements.get(place) {
                 self.put_member(style, first, None, &element);
                 first = false;
             }

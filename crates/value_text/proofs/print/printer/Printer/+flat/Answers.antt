@@ -9,7 +9,7 @@ use Rattle.value_text.proofs.Cuts.{kept_before, kept_within}
 use Rattle.value_text.proofs.Puts.{told_none, told_next, told_same, told_last, told_all, told_failed}
 use Rattle.value_text.proofs.StyledTexts.{text_numbered, text_present, text_absent, text_left, text_end}
 use Rattle.value_text.proofs.RowTexts.{byte_row}
-use Rattle.value_text.proofs.print.printer.Printer.+flat.Goals.{put_members-in-Some, put_members-in_default+in-Some-get, put_members-in_default+in_default-get, put_each-in-Some, put_each-in_default}
+use Rattle.value_text.proofs.print.printer.Printer.+flat.Goals.{put_members-in-Some, put_members-in_default+in-Some-get, put_members-in_default+in_default-get, put_each-in-Some, put_each-in_default+in-Some-get, put_each-in_default+in_default-get}
 use Rattle.value_text.proofs.print.printer.Printer.+flat.Goals as goal
 
 pub put_each-loop-place-preserved : goal.put_each-loop-place-preserved
@@ -24,20 +24,28 @@ put_each-loop-place-preserved g t c =
     let before : is_past limit i ≡ false =
     kept_before limit (member_count all) i (omega (arith, kept, c.loop-place-test.true)) in
     let lt : i < member_count all = omega (arith, kept, kept_within limit (member_count all), c.loop-place-test.true) in
-    elim c.match-get.branch [
+    elim c.match-scalar.branch [
       | put_each-in-Some w ↦
-          (let is : Some (typed_shown w.in-Some.element) ≡ member_at all i =
-          w.in-Some.ensures.member ∙ ap (λ v. member_at (members_of (typed_shown v)) i) c.new-elements.ensures in
+          (let is : Some (scalar_label w.in-Some.number) ≡ scalar_if (member_at all i) =
+          w.in-Some.ensures ∙ ap (λ v. scalar_if (member_at (members_of (typed_shown v)) i)) c.new-elements.ensures in
+          rw (w.self-is, w.first-is) (record {
+            within = omega (arith, kept, c.loop-place-test.true);
+            told = told_next (text_numbered c.args.style.now limit ArrayLabel all i c.loop-place.first _ lt before is)
+                c.loop-place.invariant.told w.put_numbered.ensures;
+          }))
+      | put_each-in_default+in-Some-get w ↦
+          (let is : Some (typed_shown w.in-Some-get.element) ≡ member_at all i =
+          w.in-Some-get.ensures.member ∙ ap (λ v. member_at (members_of (typed_shown v)) i) c.new-elements.ensures in
           rw (w.self-is, w.first-is) (record {
             within = omega (arith, kept, c.loop-place-test.true);
             told = told_next (text_present c.args.style.now limit ArrayLabel all i c.loop-place.first _ lt before is)
                 c.loop-place.invariant.told w.put_member.ensures;
           }))
-      | put_each-in_default w ↦
+      | put_each-in_default+in_default-get w ↦
           rw (w.self-is, w.first-is) (record {
             within = omega (arith, kept, c.loop-place-test.true);
             told = told_same (text_absent c.args.style.now limit ArrayLabel all i c.loop-place.first lt before
-                (w.in_default.ensures.member
+                (w.in_default-get.ensures.member
                 ∙ ap (λ v. member_at (members_of (typed_shown v)) i) c.new-elements.ensures))
                 c.loop-place.invariant.told;
           })
