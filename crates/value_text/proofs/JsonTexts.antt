@@ -4,6 +4,9 @@ use Rattle.std.specs.List.{prefix_len}
 use Rattle.std.proofs.lemmas.List.{append_assoc, append-nil, take_all}
 use Rattle.value_store.specs.declared.value.Kind.TheVariants as kind
 use Rattle.pickle_meaning.specs.Values.{Value, Mapped, IntegerLabel, OffsetLabel, TextLabel, ArrayLabel, StructLabel, UnionLabel, Members, label_of, member_count, member_at}
+use Rattle.value_store.specs.declared.scalar.Scalar.{Scalar}
+use Rattle.value_store.specs.declared.scalar.Scalar.TheVariants as scalar
+use Rattle.value_store.specs.Scalars.{scalar_label, scalar_if}
 use Rattle.value_store.specs.Labels.{kind_of, number_of, unit_of, bytes_of}
 use Rattle.value_text.specs.ValueText.{spelled, is_plain, comma}
 use Rattle.value_text.specs.JsonText.{no_key, json_string, json_escape}
@@ -13,8 +16,8 @@ use Rattle.text_output.specs.declared.style.Style.{Style}
 use Rattle.value_text.specs.StyledNumbers.{json_number, json_offset_in}
 use Rattle.value_text.specs.StyledJson.{styled_json, styled_json_members}
 use Rattle.value_text.specs.CutArrays.{is_past, kept_count, left_text, more_item}
-use Rattle.value_text.specs.JsonParts.{array_json, object_json, plain_key}
-use Rattle.value_text.proofs.MemberTexts.{members_from, with_member, from_at, from_end}
+use Rattle.value_text.specs.JsonParts.{array_json, object_json, plain_key, scalar_json, numbered_json}
+use Rattle.value_text.proofs.MemberTexts.{members_from, with_member, from_at, from_end, found_scalar}
 use Rattle.value_text.proofs.Cuts.{left_is}
 use Rattle.value_text.proofs.StringTexts.{plain_text}
 
@@ -74,6 +77,22 @@ element_present style limit all i first value lt kept is =
     json_present style limit no_key all i first value lt kept is
     ∙ ap (λ s. (s ++ styled_json style value)
     ++ styled_json_members style limit no_key (i + 1) false (members_from (i + 1) all)) (append-nil (comma first))
+
+-- an element that is an integer or an offset
+json_scalar : (style : Style) (value : Value) (number : Scalar) → label_of value ≡ scalar_label number →
+    styled_json style value ≡ scalar_json style.numbers number
+json_scalar style (Mapped label start end all) (scalar.Integer number type) e = rw e refl
+json_scalar style (Mapped label start end all) (scalar.Offset magnitude type unit) e = rw e refl
+
+pub element_numbered : (style : Style) (limit : Option ℕ) (all : Members) (i : ℕ) (first : Bool) (number : Scalar)
+    → i < member_count all → is_past limit i ≡ false → Some (scalar_label number) ≡ scalar_if (member_at all i)
+    → styled_json_members style limit no_key i first (members_from i all) ≡ numbered_json style.numbers first number
+    ++ styled_json_members style limit no_key (i + 1) false (members_from (i + 1) all)
+element_numbered style limit all i first number lt kept is =
+    let found = found_scalar (member_at all i) number is in
+    element_present style limit all i first found.value lt kept found.there
+    ∙ ap (λ s. (comma first ++ s) ++ styled_json_members style limit no_key (i + 1) false (members_from (i + 1) all))
+    (json_scalar style found.value number found.label)
 
 pub json_absent : (style : Style) (limit : Option ℕ) (before : ℕ → List ℕ) (all : Members) (i : ℕ) (first : Bool)
     → i < member_count all → is_past limit i ≡ false → None ≡ member_at all i

@@ -1,6 +1,8 @@
 -- Members from a place on.
 use Rattle.std.proofs.Common.{◌≡◌, ℕ, zero, suc, add-one, ◌+◌, ◌<◌, ◌≤◌, Option, Some, None, refl, arith}
-use Rattle.pickle_meaning.specs.Values.{Value, Members, NoMembers, MemberThen, AbsentThen, member_count, member_at}
+use Rattle.pickle_meaning.specs.Values.{Value, Mapped, IntegerLabel, OffsetLabel, TextLabel, ArrayLabel, StructLabel, UnionLabel, Members, NoMembers, MemberThen, AbsentThen, label_of, member_count, member_at}
+use Rattle.value_store.specs.declared.scalar.Scalar.{Scalar}
+use Rattle.value_store.specs.Scalars.{scalar_label, scalar_if}
 
 -- the members from a place on
 abbrev pub members_from : ℕ → Members → Members
@@ -33,3 +35,21 @@ from_end (MemberThen value rest) zero h = absurd (omega (arith, h))
 from_end (AbsentThen rest) zero h = absurd (omega (arith, h))
 from_end (MemberThen value rest) (suc i) h = from_end rest i (omega (arith, h))
 from_end (AbsentThen rest) (suc i) h = from_end rest i (omega (arith, h))
+
+-- a member that is an integer or an offset
+pub record IsScalarOf (member : Option Value) (number : Scalar) : Type 0 where
+  pub value : Value
+  pub there : Some value ≡ member
+  pub label : label_of value ≡ scalar_label number
+
+pub found_scalar : (member : Option Value) (number : Scalar) → Some (scalar_label number) ≡ scalar_if member →
+    IsScalarOf member number
+found_scalar None number e = cc
+found_scalar (Some (Mapped (IntegerLabel n t) start end all)) number e =
+    record { value = Mapped (IntegerLabel n t) start end all; there = refl; label = cc }
+found_scalar (Some (Mapped (OffsetLabel m t u) start end all)) number e =
+    record { value = Mapped (OffsetLabel m t u) start end all; there = refl; label = cc }
+found_scalar (Some (Mapped (TextLabel bytes) start end all)) number e = cc
+found_scalar (Some (Mapped ArrayLabel start end all)) number e = cc
+found_scalar (Some (Mapped (StructLabel name fields) start end all)) number e = cc
+found_scalar (Some (Mapped (UnionLabel name index alternative) start end all)) number e = cc

@@ -15,7 +15,7 @@ use Rattle.value_text.specs.StyledNumbers.{integer_in, offset_in}
 use Rattle.value_text.specs.StyledValue.{styled_value, styled_members}
 use Rattle.value_text.specs.CutArrays.{is_past, kept_count, left_text, more_member}
 use Rattle.value_text.specs.PartText.{type_of, scalar_text, numbered_text, array_text, titled_text, member_text}
-use Rattle.value_text.proofs.MemberTexts.{members_from, with_member, from_at, from_end}
+use Rattle.value_text.proofs.MemberTexts.{members_from, with_member, from_at, from_end, found_scalar}
 use Rattle.value_text.proofs.Cuts.{left_is}
 
 -- a member that isn't past the limit, and one that is
@@ -64,26 +64,10 @@ text_absent style limit label all i first lt before is =
     ∙ ap (λ n. styled_members style limit label n first (members_from (i + 1) all)) (sym (add-one i))
 
 -- a member that is an integer or an offset
-record IsScalarOf (style : Style) (member : Option Value) (number : Scalar) : Type 0 where
-  value : Value
-  there : Some value ≡ member
-  text : styled_value style value ≡ scalar_text style.numbers number
-
-found_scalar : (style : Style) (member : Option Value) (number : Scalar) →
-    Some (scalar_label number) ≡ scalar_if member → IsScalarOf style member number
-found_scalar style None number e = cc
-found_scalar style (Some (Mapped (IntegerLabel n t) start end all)) (scalar.Integer number type) e =
-    let same : integer_in style.numbers t n ≡ integer_in style.numbers type number = cc in
-    record { value = Mapped (IntegerLabel n t) start end all; there = refl; text = same }
-found_scalar style (Some (Mapped (OffsetLabel m t u) start end all)) (scalar.Integer number type) e = cc
-found_scalar style (Some (Mapped (IntegerLabel n t) start end all)) (scalar.Offset magnitude type unit) e = cc
-found_scalar style (Some (Mapped (OffsetLabel m t u) start end all)) (scalar.Offset magnitude type unit) e =
-    let same : offset_in style.numbers t u m ≡ offset_in style.numbers type unit magnitude = cc in
-    record { value = Mapped (OffsetLabel m t u) start end all; there = refl; text = same }
-found_scalar style (Some (Mapped (TextLabel bytes) start end all)) number e = cc
-found_scalar style (Some (Mapped ArrayLabel start end all)) number e = cc
-found_scalar style (Some (Mapped (StructLabel name fields) start end all)) number e = cc
-found_scalar style (Some (Mapped (UnionLabel name index alternative) start end all)) number e = cc
+text_scalar : (style : Style) (value : Value) (number : Scalar) → label_of value ≡ scalar_label number →
+    styled_value style value ≡ scalar_text style.numbers number
+text_scalar style (Mapped label start end all) (scalar.Integer number type) e = rw e refl
+text_scalar style (Mapped label start end all) (scalar.Offset magnitude type unit) e = rw e refl
 
 pub text_numbered : (style : Style) (limit : Option ℕ) (label : Label) (all : Members) (i : ℕ) (first : Bool)
     (number : Scalar) → i < member_count all → is_past limit i ≡ false
@@ -92,10 +76,11 @@ pub text_numbered : (style : Style) (limit : Option ℕ) (label : Label) (all : 
     ≡ numbered_text style.numbers first (member_name label i) number
     ++ styled_members style limit label (i + 1) false (members_from (i + 1) all)
 text_numbered style limit label all i first number lt before is =
-    let found = found_scalar style (member_at all i) number is in
+    let found = found_scalar (member_at all i) number is in
     text_present style limit label all i first found.value lt before found.there
     ∙ ap (λ s. ((comma first ++ name_text (member_name label i)) ++ s)
-    ++ styled_members style limit label (i + 1) false (members_from (i + 1) all)) found.text
+    ++ styled_members style limit label (i + 1) false (members_from (i + 1) all))
+    (text_scalar style found.value number found.label)
 
 -- the end of those that are printed
 pub text_left : (style : Style) (limit : Option ℕ) (label : Label) (all : Members) (i : ℕ) (first : Bool)

@@ -7,7 +7,7 @@ ghost use Rattle.value_text.specs.ValueText.{is_plain};
 ghost use Rattle.value_text.specs.StyledNumbers.{json_number, json_offset_in, quoted_hex};
 ghost use Rattle.value_text.specs.StyledJson.{styled_json_line, styled_json};
 ghost use Rattle.value_text.specs.CutArrays.{left_text, more_item};
-ghost use Rattle.value_text.specs.JsonParts.{array_json, elements_json, object_json, fields_json, element_json, start_json, field_json, name_start, place_start};
+ghost use Rattle.value_text.specs.JsonParts.{array_json, elements_json, scalar_json, numbered_json, object_json, fields_json, element_json, start_json, field_json, name_start, place_start};
 
 use super::bytes::SHORT;
 use super::cut::kept_count;
@@ -18,6 +18,7 @@ use crate::style::{Numbers, Style};
 use crate::typed::{Parts, Typed};
 use std::io::Write;
 use value_store::Kind;
+use value_store::scalar::Scalar;
 
 impl<W: Write> Printer<'_, W> {
     /// Writes a value in JSON, and a line feed.
@@ -104,7 +105,10 @@ impl<W: Write> Printer<'_, W> {
             if self.failed {
                 return;
             }
-            if let Some(element) = elements.get(place) {
+            if let Some(number) = elements.scalar(place) {
+                self.put_json_numbered(style.numbers, first, number);
+                first = false;
+            } else if let Some(element) = elements.get(place) {
                 self.put_json_element(style, first, &element);
                 first = false;
             }
@@ -133,6 +137,26 @@ impl<W: Write> Printer<'_, W> {
         self.put(b"{\"..\":");
         self.put_count(left);
         self.put(b"}");
+    }
+
+    // Writes an element that is an integer or an offset.
+    #[tactic(auto, using(crate::proofs::Puts::puts))]
+    #[inline(always)]
+    fn put_json_numbered(&mut self, numbers: Numbers, first: bool, number: Scalar)
+        ensures { Puts W.contents self.old self.new (numbered_json numbers first number) }
+    {
+        self.put_comma(first);
+        self.put_json_scalar(numbers, number);
+    }
+
+    #[inline(always)]
+    fn put_json_scalar(&mut self, numbers: Numbers, number: Scalar)
+        ensures { Puts W.contents self.old self.new (scalar_json numbers number) }
+    {
+        match number {
+            Scalar::Integer(number, _) => self.put_json_number(numbers, number),
+            Scalar::Offset(magnitude, _, unit) => self.put_json_offset(numbers, magnitude, unit),
+        }
     }
 
     #[tactic(auto, using(crate::proofs::Puts::puts))]

@@ -1,12 +1,13 @@
 use Rattle.std.proofs.Common.{◌≡◌, ◌∙◌, ◌<◌, ap, sym, arith, Some, None, false, refl}
 use Rattle.pickle_meaning.specs.Values.{label_of, members_of, member_at, member_count}
+use Rattle.value_store.specs.Scalars.{scalar_label, scalar_if}
 use Rattle.value_text.specs.TypedValue.{typed_shown}
 use Rattle.value_text.specs.JsonText.{key_before, no_key}
 use Rattle.value_text.specs.CutArrays.{is_past, kept_count}
 use Rattle.value_text.proofs.Cuts.{kept_before, kept_within}
 use Rattle.value_text.proofs.Puts.{told_none, told_next, told_same, told_last, told_all, told_failed}
-use Rattle.value_text.proofs.JsonTexts.{element_present, json_present, json_absent, json_left, json_end}
-use Rattle.value_text.proofs.print.printer.Printer.+json.Goals.{put_fields-in-Some, put_fields-in_default, put_json_elements-in-Some, put_json_elements-in_default}
+use Rattle.value_text.proofs.JsonTexts.{element_present, element_numbered, json_present, json_absent, json_left, json_end}
+use Rattle.value_text.proofs.print.printer.Printer.+json.Goals.{put_fields-in-Some, put_fields-in_default, put_json_elements-in-Some, put_json_elements-in_default+in-Some-get, put_json_elements-in_default+in_default-get}
 use Rattle.value_text.proofs.print.printer.Printer.+json.Goals as goal
 
 pub put_json_elements-loop-place-preserved : goal.put_json_elements-loop-place-preserved
@@ -21,20 +22,28 @@ put_json_elements-loop-place-preserved g t c =
     let before : is_past limit i ≡ false =
     kept_before limit (member_count all) i (omega (arith, kept, c.loop-place-test.true)) in
     let lt : i < member_count all = omega (arith, kept, kept_within limit (member_count all), c.loop-place-test.true) in
-    elim c.match-get.branch [
+    elim c.match-scalar.branch [
       | put_json_elements-in-Some w ↦
-          (let is : Some (typed_shown w.in-Some.element) ≡ member_at all i =
-          w.in-Some.ensures.member ∙ ap (λ v. member_at (members_of (typed_shown v)) i) c.new-elements.ensures in
+          (let is : Some (scalar_label w.in-Some.number) ≡ scalar_if (member_at all i) =
+          w.in-Some.ensures ∙ ap (λ v. scalar_if (member_at (members_of (typed_shown v)) i)) c.new-elements.ensures in
+          rw (w.self-is, w.first-is) (record {
+            within = omega (arith, kept, c.loop-place-test.true);
+            told = told_next (element_numbered c.args.style.now limit all i c.loop-place.first _ lt before is)
+                c.loop-place.invariant.told w.put_json_numbered.ensures;
+          }))
+      | put_json_elements-in_default+in-Some-get w ↦
+          (let is : Some (typed_shown w.in-Some-get.element) ≡ member_at all i =
+          w.in-Some-get.ensures.member ∙ ap (λ v. member_at (members_of (typed_shown v)) i) c.new-elements.ensures in
           rw (w.self-is, w.first-is) (record {
             within = omega (arith, kept, c.loop-place-test.true);
             told = told_next (element_present c.args.style.now limit all i c.loop-place.first _ lt before is)
                 c.loop-place.invariant.told w.put_json_element.ensures;
           }))
-      | put_json_elements-in_default w ↦
+      | put_json_elements-in_default+in_default-get w ↦
           rw (w.self-is, w.first-is) (record {
             within = omega (arith, kept, c.loop-place-test.true);
             told = told_same (json_absent c.args.style.now limit no_key all i c.loop-place.first lt before
-                (w.in_default.ensures.member
+                (w.in_default-get.ensures.member
                 ∙ ap (λ v. member_at (members_of (typed_shown v)) i) c.new-elements.ensures))
                 c.loop-place.invariant.told;
           })
