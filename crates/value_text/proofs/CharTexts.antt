@@ -1,6 +1,6 @@
 -- Arrays of chars as texts.
 use Rattle.std.proofs.Common.{◌≡◌, ◌≢◌, ℕ, zero, suc, ◌+◌, ◌<◌, ◌≤◌, List, [], ◌∷◌, ◌++◌, length, take, drop, get_or, Option, Some, None, true, false, inl, inr, refl, sym, ◌∙◌, ap, subst, arith}
-use Rattle.std.specs.Prelude.{◌==◌, IfSome}
+use Rattle.std.specs.Prelude.{◌%◌, ◌==◌, IfSome, unsigned_abs}
 use Rattle.std.specs.Option.{option_map}
 use Rattle.std.proofs.lemmas.Bool.{cases_Bool}
 use Rattle.std.proofs.lemmas.List.{drop_more, drop_all, get_or-take, length-take-le}
@@ -8,12 +8,15 @@ use Rattle.pickle_types.specs.declared.integer.IntegerType.{IntegerType}
 use Rattle.pickle_types.specs.declared.node.Node.{Node}
 use Rattle.pickle_meaning.specs.Values.{Label, IntegerLabel, OffsetLabel, TextLabel, ArrayLabel, StructLabel, UnionLabel, Value, Mapped, Members, NoMembers, MemberThen, AbsentThen, label_of, start_of, end_of, members_of, member_at, member_count}
 use Rattle.value_store.specs.Integers.{IsIntegerOf, AreIntegersOf, AreBytesOf, byte_members}
-use Rattle.value_store.specs.Scalars.{scalar_in, scalar_if}
+use Rattle.value_store.specs.declared.scalar.Scalar.{Scalar}
+use Rattle.value_store.specs.Labels.{number_of}
+use Rattle.value_store.specs.Scalars.{scalar_label, scalar_in, scalar_if}
 use Rattle.pickle_meaning.specs.Arithmetic.{with_sign}
 use Rattle.value_text.specs.PartTypes.{part_node}
 use Rattle.value_text.specs.CharTexts.{is_node, has_chars, char_if, chars_in, kept_before, trimmed, with_texts, parts_with_texts}
 use Rattle.value_text.specs.ValueText.{spelled, spelled_byte}
 use Rattle.value_text.proofs.CharArrays.{no_chars}
+use Rattle.value_text.proofs.MemberTexts.{found_scalar}
 
 module _ (nodes : List Node) (chars : Option ℕ) where
   -- what a label says of a text as of an array
@@ -151,6 +154,22 @@ pub chars_count : (all : Members) → length (chars_in all) ≡ member_count all
 chars_count NoMembers = refl
 chars_count (AbsentThen rest) = omega (arith, chars_count rest)
 chars_count (MemberThen value rest) = omega (arith, chars_count rest)
+
+-- an element that is a number, and one that is none
+pub char_numbered : (member : Option Value) (number : Scalar) → Some (scalar_label number) ≡ scalar_if member →
+    char_if member ≡ unsigned_abs (number_of (scalar_label number)) % 256
+char_numbered member number e =
+    let found = found_scalar member number e in
+    ap char_if (sym found.there) ∙ ap (λ label. unsigned_abs (number_of label) % 256) found.label
+
+pub char_none : (member : Option Value) → None ≡ scalar_if member → char_if member ≡ 0
+char_none None e = refl
+char_none (Some (Mapped (IntegerLabel number type) start end all)) e = cc
+char_none (Some (Mapped (OffsetLabel magnitude type unit) start end all)) e = cc
+char_none (Some (Mapped (TextLabel bytes) start end all)) e = refl
+char_none (Some (Mapped ArrayLabel start end all)) e = refl
+char_none (Some (Mapped (StructLabel name fields) start end all)) e = refl
+char_none (Some (Mapped (UnionLabel name index alternative) start end all)) e = refl
 
 -- one more byte at the end
 pub trimmed_zero : (bytes : List ℕ) (byte : ℕ) → byte ≡ 0 → trimmed (bytes ++ byte ∷ []) ≡ trimmed bytes

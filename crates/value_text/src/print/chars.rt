@@ -1,9 +1,10 @@
 //! Prints strings and arrays of chars.
-ghost use Rattle.std.specs.Prelude.{◌≡◌, ◌≤◌, ◌++◌, codes, take, get_or};
+ghost use Rattle.std.specs.Prelude.{◌≡◌, ◌≤◌, ◌%◌, ◌++◌, codes, take, get_or, unsigned_abs};
 ghost use Rattle.pickle_meaning.specs.Values.{label_of, members_of, member_count};
-ghost use Rattle.value_store.specs.Labels.{bytes_of};
+ghost use Rattle.value_store.specs.Labels.{bytes_of, number_of};
 ghost use Rattle.value_store.specs.Owners.{owner_of};
 ghost use Rattle.value_store.specs.Refs.{value_shown};
+ghost use Rattle.value_store.specs.Scalars.{scalar_label};
 ghost use Rattle.value_text.specs.Puts.{Puts};
 ghost use Rattle.value_text.specs.CharTexts.{chars_in, trimmed};
 ghost use Rattle.value_text.specs.Escaped.{quoted_by, spelled_by};
@@ -13,6 +14,7 @@ use super::escape::Escapes;
 use super::printer::Printer;
 use crate::typed::Typed;
 use std::io::Write;
+use value_store::scalar::Scalar;
 use value_store::value::Members;
 
 impl<W: Write> Printer<'_, W> {
@@ -72,8 +74,19 @@ fn trimmed_len(elements: Members<'_>) -> usize
 fn char_at(elements: Members<'_>, place: usize) -> u8
     ensures { result ≡ get_or (chars_in (members_of (value_shown (owner_of elements.entry)))) place 0 }
 {
-    match elements.get(place) {
-        Some(element) => (element.number().unsigned_abs() % 256) as u8,
+    match elements.scalar(place) {
+        Some(number) => char_of(number),
         None => 0,
+    }
+}
+
+// The byte that an element is.
+#[inline(always)]
+fn char_of(element: Scalar) -> u8
+    ensures { result ≡ unsigned_abs (number_of (scalar_label element)) % 256 }
+{
+    match element {
+        Scalar::Integer(number, _) => (number.unsigned_abs() % 256) as u8,
+        Scalar::Offset(magnitude, ..) => (magnitude.unsigned_abs() % 256) as u8,
     }
 }
