@@ -1,5 +1,6 @@
--- How many digits a number has.
-use Rattle.std.proofs.Common.{◌≡◌, ℕ, zero, suc, ◌+◌, ◌*◌, ◌/◌, ◌^◌, ◌<◌, ◌≤◌, List, ◌++◌, take, drop, length, decimal, ◌∙◌, ap, subst, arith, length-append, take-add}
+-- The digits of a number, and how many it has.
+use Rattle.std.proofs.Common.{◌≡◌, ℕ, zero, suc, ◌+◌, ◌*◌, ◌/◌, ◌%◌, ◌^◌, ◌<◌, ◌≤◌, List, [], ◌∷◌, ◌++◌, take, drop, length, decimal, ◌∙◌, ap, sym, subst, arith, append_assoc, length-append, take-add}
+use Rattle.itoa.proofs.Decimal.{pair, decimal_pair}
 use Rattle.std.proofs.Math.Seq.{take-append_seam}
 use Rattle.std.proofs.lemmas.Fmt.{decimal_digit, decimal_step, decimal_nonempty, length-decimal-le}
 
@@ -18,8 +19,18 @@ pub digits_of_power : (k n : ℕ) → 10 ^ k ≤ n → n < 10 * 10 ^ k → n < 2
 digits_of_power k n low high fits =
     omega (arith, least_digits k n low fits, length-decimal-le (suc k) n (omega arith) (omega (arith, high)) fits)
 
-pub one_digit : (n : ℕ) → n < 10 → length (decimal n) ≡ 1
-one_digit n h = ap length (decimal_digit n h)
+three_digits : (n : ℕ) → 100 ≤ n → n < 1000
+    → decimal n ≡ (48 + n / 100) ∷ (48 + n % 100 / 10) ∷ (48 + n % 100 % 10) ∷ []
+three_digits n low high =
+    decimal_pair n low (omega (arith, high))
+    ∙ ap (λ s. s ++ pair (n % 100)) (decimal_digit (n / 100) (omega (arith, high)))
+
+-- three digits that are laid out in two steps
+pub laid_in_steps : (n : ℕ) (line first all : List ℕ) → 100 ≤ n → n < 1000 → first ≡ line ++ (48 + n / 100) ∷ []
+    → all ≡ first ++ (48 + n % 100 / 10) ∷ (48 + n % 100 % 10) ∷ [] → all ≡ line ++ decimal n
+laid_in_steps n line first all low high e f =
+    f ∙ ap (λ s. s ++ (48 + n % 100 / 10) ∷ (48 + n % 100 % 10) ∷ []) e ∙ append_assoc line _ _
+    ∙ ap (λ s. line ++ s) (sym (three_digits n low high))
 
 pub longest : (n : ℕ) → n < 2 ^ 64 → length (decimal n) ≤ 20
 longest n h = length-decimal-le 20 n (omega arith) (omega arith) h

@@ -1,5 +1,5 @@
 //! Lays out integers in bytes.
-ghost use Rattle.std.specs.Prelude.{◌≡◌, ◌+◌, ◌≤◌, [], ◌∷◌, ◌++◌, length, take, codes, decimal, unsigned_abs};
+ghost use Rattle.std.specs.Prelude.{◌≡◌, ◌+◌, ◌/◌, ◌%◌, ◌<◌, ◌≤◌, [], ◌∷◌, ◌++◌, length, take, codes, decimal, unsigned_abs};
 ghost use Rattle.std.specs.Fmt.{signed_decimal};
 ghost use Rattle.value_text.specs.Suffixes.{sign_letter, letter_text, suffix_text};
 ghost use Rattle.text_output.specs.Brackets.{in_brackets};
@@ -100,6 +100,59 @@ fn push_digits(bytes: &mut Bytes, at: usize, number: u64) -> usize
     ensures text { take result bytes.new ≡ take at bytes.old ++ decimal number }
     ensures len { result ≤ at + 20 }
 {
+    if number < 1_000 {
+        push_few_digits(bytes, at, number)
+    } else {
+        push_many_digits(bytes, at, number)
+    }
+}
+
+// Most numbers have so few digits that counting them first costs more than writing them.
+#[inline(always)]
+fn push_few_digits(bytes: &mut Bytes, at: usize, number: u64) -> usize
+    requires few { number < 1000 }
+    requires room { at + 3 ≤ LINE_ROOM }
+    ensures text { take result bytes.new ≡ take at bytes.old ++ decimal number }
+    ensures len { result ≤ at + 3 }
+{
+    if number < 10 {
+        push_digit(bytes, at, number)
+    } else if number < 100 {
+        push_two_digits(bytes, at, number)
+    } else {
+        let at = push_digit(bytes, at, number / 100);
+        push_two_digits(bytes, at, number % 100)
+    }
+}
+
+#[inline(always)]
+fn push_two_digits(bytes: &mut Bytes, at: usize, number: u64) -> usize
+    requires two { number < 100 }
+    requires room { at + 2 ≤ LINE_ROOM }
+    ensures text { take result bytes.new ≡ take at bytes.old ++ ((48 + number / 10) ∷ (48 + number % 10) ∷ []) }
+    ensures len { result ≡ at + 2 }
+{
+    let at = push_digit(bytes, at, number / 10);
+    push_digit(bytes, at, number % 10)
+}
+
+#[inline(always)]
+fn push_digit(bytes: &mut Bytes, at: usize, digit: u64) -> usize
+    requires one { digit < 10 }
+    requires room { at + 1 ≤ LINE_ROOM }
+    ensures text { take result bytes.new ≡ take at bytes.old ++ (48 + digit) ∷ [] }
+    ensures len { result ≡ at + 1 }
+{
+    push(bytes, at, b'0' + digit as u8)
+}
+
+#[inline(always)]
+fn push_many_digits(bytes: &mut Bytes, at: usize, number: u64) -> usize
+    requires some { 0 < number }
+    requires room { at + 20 ≤ LINE_ROOM }
+    ensures text { take result bytes.new ≡ take at bytes.old ++ decimal number }
+    ensures len { result ≤ at + 20 }
+{
     let end = at + digit_count(number);
     itoa::write_digits(number, bytes, end);
     end
@@ -108,14 +161,11 @@ fn push_digits(bytes: &mut Bytes, at: usize, number: u64) -> usize
 #[tactic(auto, using(crate::proofs::DigitCounts::longest))]
 #[inline(always)]
 fn digit_count(number: u64) -> usize
+    requires some { 0 < number }
     ensures count { result ≡ length (decimal number) }
     ensures most { result ≤ 20 }
 {
-    if number < 10 {
-        1
-    } else {
-        number.ilog10() as usize + 1
-    }
+    number.ilog10() as usize + 1
 }
 
 /// Lays out a suffix, and returns the place after it.

@@ -1,6 +1,6 @@
 use Rattle.std.proofs.Common.{◌+◌, decimal, ap, sym}
 use Rattle.value_text.proofs.DigitCounts.{laid_out}
-use Rattle.value_text.proofs.print.digits.push_digits.Goals as goal
+use Rattle.value_text.proofs.print.digits.push_many_digits.Goals as goal
 
 pub returns-clause-text : goal.returns-clause-text
 returns-clause-text c =
