@@ -1,18 +1,19 @@
 -- The texts of rows of integers.
-use Rattle.std.proofs.Common.{◌≡◌, ℕ, suc, ℤ, ◌+◌, ◌<◌, List, [], ◌∷◌, ◌++◌, length, drop, get_or, Option, Bool, true, false, None, refl, sym, ap, ◌∙◌, arith}
+use Rattle.std.proofs.Common.{◌≡◌, ℕ, suc, ℤ, ◌+◌, ◌<◌, List, [], ◌∷◌, ◌++◌, length, drop, get_or, codes, decimal, Option, Bool, true, false, None, refl, sym, ap, ◌∙◌, arith}
 use Rattle.std.proofs.lemmas.List.{append-nil, drop_more}
 use Rattle.pickle_types.specs.declared.integer.IntegerType.{IntegerType}
 use Rattle.text_output.specs.declared.style.Numbers.{Numbers}
+use Rattle.text_output.specs.declared.style.Numbers.TheVariants.{Decimal}
 use Rattle.text_output.specs.declared.style.Style.{Style}
 use Rattle.pickle_meaning.specs.Arithmetic.{with_sign}
 use Rattle.pickle_meaning.specs.Values.{Value, Mapped, IntegerLabel, OffsetLabel, TextLabel, ArrayLabel, StructLabel, UnionLabel, label_of, start_of, members_of, member_count}
 use Rattle.value_store.specs.Labels.{number_of}
 use Rattle.value_store.specs.Integers.{IsIntegerOf, AreBytesOf, byte_members}
-use Rattle.value_text.specs.ValueText.{comma}
+use Rattle.value_text.specs.ValueText.{comma, integer_text}
 use Rattle.value_text.specs.StyledNumbers.{integer_in}
 use Rattle.value_text.specs.StyledValue.{styled_members}
 use Rattle.value_text.specs.CutArrays.{is_past, is_cut}
-use Rattle.value_text.specs.PartText.{type_of, member_text, elements_text, byte_row_text}
+use Rattle.value_text.specs.PartText.{type_of, member_text, elements_text, byte_type, byte_row_text}
 use Rattle.value_text.proofs.Cuts.{whole_before}
 
 -- an integer as a member without a name
@@ -64,3 +65,17 @@ byte_first numbers type bytes first i number lt is =
     ap (λ bytes. byte_row_text numbers type first bytes) (drop_more bytes i 0 lt)
     ∙ ap (λ n. (comma first ++ integer_in numbers type n) ++ byte_row_text numbers type false (drop (i + 1) bytes))
     (sym is)
+
+-- most bytes
+plain_byte : (byte : ℕ) → integer_in Decimal byte_type (with_sign byte_type byte) ≡ decimal byte ++ codes "UB"
+unfolding with_sign integer_text
+plain_byte byte = refl
+
+pub plain_first : (bytes : List ℕ) (first : Bool) (i : ℕ) → i < length bytes
+    → byte_row_text Decimal byte_type first (drop i bytes)
+    ≡ (comma first ++ (decimal (get_or bytes i 0) ++ codes "UB"))
+    ++ byte_row_text Decimal byte_type false (drop (i + 1) bytes)
+plain_first bytes first i lt =
+    byte_first Decimal byte_type bytes first i (with_sign byte_type (get_or bytes i 0)) lt refl
+    ∙ ap (λ text. (comma first ++ text) ++ byte_row_text Decimal byte_type false (drop (i + 1) bytes))
+    (plain_byte (get_or bytes i 0))

@@ -25,6 +25,10 @@ scalar_text numbers (scalar.Offset magnitude type unit) = offset_in numbers type
 abbrev pub numbered_text : Numbers → (first : Bool) → Naming → Scalar → List ℕ
 numbered_text numbers first name number = (comma first ++ name_text name) ++ scalar_text numbers number
 
+-- the type of most bytes
+abbrev pub byte_type : IntegerType
+byte_type = record { width = 8; signed = false }
+
 -- integers of a type whose bits are these bytes
 abbrev pub byte_row_text : Numbers → IntegerType → (first : Bool) → List ℕ → List ℕ
 byte_row_text numbers type first [] = []

@@ -52,8 +52,9 @@ pub fn push_key(bytes: &mut Bytes, at: usize, first: bool, name: &[u8]) -> usize
     push(bytes, at, b':')
 }
 
+/// Lays out a comma, but not before the first, and returns the place after it.
 #[inline(always)]
-fn push_comma(bytes: &mut Bytes, at: usize, first: bool) -> usize
+pub fn push_comma(bytes: &mut Bytes, at: usize, first: bool) -> usize
     requires { at + 1 ≤ LINE_ROOM }
     ensures text { take result bytes.new ≡ take at bytes.old ++ comma first }
     ensures len { result ≤ at + 1 }

@@ -3,10 +3,11 @@ ghost use Rattle.std.specs.Prelude.{◌≡◌, ◌+◌, ◌/◌, ◌%◌, ◌<�
 ghost use Rattle.std.specs.Fmt.{signed_decimal};
 ghost use Rattle.value_text.specs.Suffixes.{sign_letter, letter_text, suffix_text};
 ghost use Rattle.text_output.specs.Brackets.{in_brackets};
+ghost use Rattle.value_text.specs.ValueText.{comma};
 ghost use Rattle.value_text.specs.JsonText.{place_key};
 ghost use Rattle.value_text.specs.LinesText.{bits_cell};
 
-use crate::print::bytes::{Bytes, LINE_ROOM, push};
+use crate::print::bytes::{Bytes, LINE_ROOM, push, push_comma};
 use crate::print::suffix::Suffix;
 
 /// A minus, 20 digits and a suffix of two letters.
@@ -44,6 +45,19 @@ pub fn push_signed(bytes: &mut Bytes, at: usize, number: i128, magnitude: u64) -
     } else {
         push_digits(bytes, at, magnitude)
     }
+}
+
+/// Lays out a byte with the suffix of its type, after a comma unless it is the first, and returns the place after it.
+#[inline(always)]
+pub fn push_byte_item(bytes: &mut Bytes, at: usize, first: bool, byte: u8) -> usize
+    requires { at + LONGEST_NUMBER ≤ LINE_ROOM }
+    ensures text { take result bytes.new ≡ take at bytes.old ++ (comma first ++ (decimal byte ++ codes "UB")) }
+    ensures len { result ≤ LINE_ROOM }
+{
+    let at = push_comma(bytes, at, first);
+    let at = push_few_digits(bytes, at, u64::from(byte));
+    let at = push(bytes, at, b'U');
+    push(bytes, at, b'B')
 }
 
 /// Lays out a number in brackets, and returns the place after it.

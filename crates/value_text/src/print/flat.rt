@@ -9,7 +9,8 @@ ghost use Rattle.value_text.specs.ValueText.{comma};
 ghost use Rattle.value_text.specs.StyledNumbers.{integer_in};
 ghost use Rattle.value_text.specs.StyledValue.{styled_flat, styled_value};
 ghost use Rattle.value_text.specs.CutArrays.{is_cut, left_text, more_text, more_member};
-ghost use Rattle.value_text.specs.PartText.{scalar_text, array_text, elements_text, byte_row_text, titled_text, all_members_text};
+ghost use Rattle.text_output.specs.declared.style.Numbers.TheVariants.{Decimal};
+ghost use Rattle.value_text.specs.PartText.{byte_type, scalar_text, array_text, elements_text, byte_row_text, titled_text, all_members_text};
 ghost use Rattle.value_text.specs.Lent.{lent_member, numbered_member};
 
 use super::cut::{is_cut, kept_count};
@@ -132,12 +133,30 @@ impl<W: Write> Printer<'_, W> {
         requires below { All (λ byte. byte < 2 ^ number.width) bytes.now }
         ensures { Puts W.contents self.old self.new (byte_row_text numbers number true bytes.now) }
     {
+        if are_plain(numbers, number) {
+            return self.put_plain_bytes(bytes);
+        }
         let mut first = true;
         for byte in bytes {
             if self.failed {
                 return;
             }
             self.put_item(numbers, first, number, with_sign(number, u64::from(*byte)));
+            first = false;
+        }
+    }
+
+    // Writes bytes as unsigned integers of 8 bits, in decimal digits.
+    #[inline(never)]
+    fn put_plain_bytes(&mut self, bytes: &[u8])
+        ensures { Puts W.contents self.old self.new (byte_row_text Decimal byte_type true bytes.now) }
+    {
+        let mut first = true;
+        for byte in bytes {
+            if self.failed {
+                return;
+            }
+            self.put_byte_item(first, *byte);
             first = false;
         }
     }
@@ -237,5 +256,17 @@ impl<W: Write> Printer<'_, W> {
     {
         self.put_start(first, name);
         self.put_value(style, member);
+    }
+}
+
+// Whether integers of a type are printed as decimal digits and `UB`, as most bytes are.
+#[inline]
+fn are_plain(numbers: Numbers, number: IntegerType) -> bool
+    ensures numbers { result ≡ true → numbers ≡ Decimal }
+    ensures number { result ≡ true → number ≡ byte_type }
+{
+    match numbers {
+        Numbers::Decimal => number.width == 8 && !number.signed,
+        Numbers::Hexadecimal | Numbers::Digits => false,
     }
 }

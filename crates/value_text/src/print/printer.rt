@@ -144,6 +144,16 @@ impl<W: Write> Printer<'_, W> {
         self.line.push_suffix(suffix);
     }
 
+    /// Puts a byte with the suffix of its type, after a comma unless it is the first.
+    #[tactic(auto, using(crate::proofs::Puts::puts))]
+    #[inline(always)]
+    pub fn put_byte_item(&mut self, first: bool, byte: u8)
+        ensures { Puts W.contents self.old self.new (comma first ++ (decimal byte ++ codes "UB")) }
+    {
+        self.make_room();
+        self.line.push_byte_item(first, byte);
+    }
+
     /// Puts an integer.
     #[tactic(auto, using(crate::proofs::Puts::puts))]
     #[inline(always)]
