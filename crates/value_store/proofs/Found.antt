@@ -39,7 +39,7 @@ value-at names s i n g =
     (subst (λ m. slice_get (trees names s) m ≡ Some (tree_of names s (take m (trees names s)) n)) (zero-add i)
     (get-trees_from names s [] s.nodes i n g))
 
-LinksBelow-at : (k : ℕ) (ls : List (Option ℕ)) (i : ℕ) (l : Option ℕ) → LinksBelow k ls → slice_get ls i ≡ Some l →
+pub LinksBelow-at : (k : ℕ) (ls : List (Option ℕ)) (i : ℕ) (l : Option ℕ) → LinksBelow k ls → slice_get ls i ≡ Some l →
     IfSome l (λ j. j < k)
 LinksBelow-at k [] i l h g = cc
 LinksBelow-at k (None ∷ ls) zero l h g = let e : None ≡ l = cc in subst (λ x. IfSome x (λ j. j < k)) e tt
@@ -48,7 +48,7 @@ LinksBelow-at k (None ∷ ls) (suc i) l h g = LinksBelow-at k ls i l h g
 LinksBelow-at k (Some j ∷ ls) (suc i) l h g = LinksBelow-at k ls i l h.1 g
 
 -- the value of a link to an earlier node
-opened-value : (names : Names) (s : Slots) (l : Option ℕ) → IfSome l (λ j. j < length s.nodes) →
+pub opened-value : (names : Names) (s : Slots) (l : Option ℕ) → IfSome l (λ j. j < length s.nodes) →
     opened (trees names s) l ≡ option_map (value_at names s) l
 unfolding value_at
 opened-value names s None h = refl

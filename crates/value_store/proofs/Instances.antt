@@ -28,7 +28,7 @@ instance-start (Mapped label start end _) shift row = refl
 pub instance-end : (v : Value) (shift : ℕ) (row : List ℕ) → end_of (instance v shift row) ≡ end_of v + shift
 instance-end (Mapped label start end _) shift row = refl
 
-instance-members : (v : Value) (shift : ℕ) (row : List ℕ) →
+pub instance-members : (v : Value) (shift : ℕ) (row : List ℕ) →
     members_of (instance v shift row) ≡ instances (members_of v) shift row
 instance-members (Mapped label start end _) shift row = refl
 

@@ -38,4 +38,5 @@ pub mod LayoutFirst
 pub mod LayoutNext
 pub mod Lookup
 pub mod Integers
+pub mod SideBySide
 pub mod Naming

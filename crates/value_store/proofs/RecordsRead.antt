@@ -6,7 +6,7 @@ use Rattle.std.specs.Coded.{le_prop}
 use Rattle.std.specs.Int.{w64}
 use Rattle.std.proofs.Math.Nat.{mul-le-mul_left, mul-suc}
 use Rattle.std.proofs.lemmas.Int.{to_z_pos}
-use Rattle.std.proofs.lemmas.List.{drop-drop, drop-take, take-take}
+use Rattle.std.proofs.lemmas.List.{drop-drop, drop-take, length-drop, length-take, take-take}
 use Rattle.std.proofs.lemmas.Option.{slice_get-get_or}
 use Rattle.value_store.specs.declared.store.slots.Node.{Node}
 use Rattle.value_store.specs.declared.store.slots.Place.{Place}
@@ -67,7 +67,7 @@ array_shape s a i j own p found =
 -- the value of a part, from the node that was read
 module _ (names : Names) (s : Slots) (a i j : ℕ) (own n : Node) (array : slice_get s.nodes a ≡ Some own)
     (r : IsRead s j n) where
-  part-is : part_in names s (slice_get s.nodes a) i j
+  pub part-is : part_in names s (slice_get s.nodes a) i j
       ≡ instance (value_at names s j) (record_size own.shape * i) (row_in s own i)
   part-is = ap (λ o. part_in names s o i j) array
 
@@ -95,7 +95,7 @@ part_end names s a i j count p h =
     omega (arith, h, start, end)
 
 -- the next struct begins within the array
-next-within : (size i count : ℕ) → i < count → size * i + size ≤ size * count
+pub next-within : (size i count : ℕ) → i < count → size * i + size ≤ size * count
 next-within size i count p =
     omega (arith, mul-suc size i, mul-le-mul_left size (let q : suc i ≤ count = omega (arith, p) in q))
 
@@ -211,29 +211,31 @@ packed_bytes names s (place.Part a i j) sound h elsewhere =
     ∙ sym (ap bytes_of (part-label names s a i j p.own n.0 p.found (read-node s j n.0 sound n.1)))
 
 -- where the bytes of a number are in a struct
-pub record IsNumberIn (stride : ℕ) (bytes : List ℕ) (n : Node) : Type 0 where
+pub record IsNumberIn (size stride start : ℕ) (bytes : List ℕ) (n : Node) : Type 0 where
   pub fits : n.content + bytes_for (number_bits n.shape) ≤ stride
+  pub within : n.start + number_bits n.shape ≤ start + size
   pub below : (i : ℕ) → i < length bytes / stride →
       bytes_number (part (stride * i + n.content) (bytes_for (number_bits n.shape)) bytes) < 2 ^ number_bits n.shape
 
 number_of_part : {s : Slots} {size stride start : ℕ} {bytes : List ℕ} {j : ℕ} (n : Node) →
     slice_get s.nodes j ≡ Some n → IsNumber n.shape → IsTemplatePart s size stride start bytes j →
-    IsNumberIn stride bytes n
+    IsNumberIn size stride start bytes n
 number_of_part {s} {size} {stride} {start} {bytes} n found number (NumberPart {j} column) =
-    let own : IsNumberIn stride bytes column.node = record { fits = column.fits; below = column.below } in
-    subst (IsNumberIn stride bytes) (some-same (slice_get s.nodes j) column.node n column.found found) own
+    let own : IsNumberIn size stride start bytes column.node =
+    record { fits = column.fits; within = column.within; below = column.below } in
+    subst (IsNumberIn size stride start bytes) (some-same (slice_get s.nodes j) column.node n column.found found) own
 number_of_part {s} n found number (BranchPart {j} branch parts) =
     let same : branch.node ≡ n = some-same (slice_get s.nodes j) branch.node n branch.found found in
     absurd (number-composite n.shape number (subst (λ (m : Node). IsComposite m.shape) same branch.composite))
 
-IsNumberIn-prop : (stride : ℕ) (bytes : List ℕ) (n : Node) → IsProp (IsNumberIn stride bytes n)
-IsNumberIn-prop stride bytes n = hlevel le_prop
+IsNumberIn-prop : (size stride start : ℕ) (bytes : List ℕ) (n : Node) → IsProp (IsNumberIn size stride start bytes n)
+IsNumberIn-prop size stride start bytes n = hlevel le_prop
 
 number_part : {s : Slots} {size stride start : ℕ} {bytes : List ℕ} {j : ℕ} (n : Node) → slice_get s.nodes j ≡ Some n →
     IsNumber n.shape → ∥ IsTemplatePart s size stride start bytes j ∥₁ →
-    IsNumberIn stride bytes n
-number_part {stride = stride} {bytes = bytes} n found number part =
-    ∥∥₁_elim part (IsNumberIn-prop stride bytes n) (λ t. number_of_part n found number t)
+    IsNumberIn size stride start bytes n
+number_part {size = size} {stride = stride} {start = start} {bytes = bytes} n found number part =
+    ∥∥₁_elim part (IsNumberIn-prop size stride start bytes n) (λ t. number_of_part n found number t)
 
 -- the bytes of a number
 module _ (s : Slots) (a i j : ℕ) (own n : Node) (sound : IsSound s) (p : IsPartOf s a i j)
@@ -242,7 +244,7 @@ module _ (s : Slots) (a i j : ℕ) (own n : Node) (sound : IsSound s) (p : IsPar
   abbrev here : IsPartRead s own i j stride size
   here = part_in_array s a i j own stride size sound p array is
 
-  abbrev read : IsNumberIn stride (text_bytes s.texts s.bytes own.content) n
+  abbrev read : IsNumberIn size stride own.start (text_bytes s.texts s.bytes own.content) n
   read = number_part n found number here.part
 
   pub digits_within : stride * i + n.content + bytes_for (number_bits n.shape)
@@ -250,10 +252,36 @@ module _ (s : Slots) (a i j : ℕ) (own n : Node) (sound : IsSound s) (p : IsPar
   digits_within = omega
       (arith, read.fits, here.content.1.whole, next-within stride i (record_count s stride own.content) here.there)
 
+  pub digits_fit : n.content + bytes_for (number_bits n.shape) ≤ stride
+  digits_fit = read.fits
+
+  -- the number ends before the bit 2 ^ 64, and the place of its bytes is small
+  pub digits_early : (n.start + number_bits n.shape < 2 ^ 64) × (n.content + 1 < 2 ^ 64)
+  digits_early = (
+    omega
+        (arith, read.within, here.content.1.short, next-within size i (record_count s stride own.content) here.there),
+    omega (arith, read.fits, here.few),
+  )
+
   pub digits_below : bytes_number
       (part (stride * i + n.content) (bytes_for (number_bits n.shape)) (text_bytes s.texts s.bytes own.content))
       < 2 ^ number_bits n.shape
   digits_below = read.below i here.there
+
+-- a struct has all its bytes
+pub row_length : (s : Slots) (a i j : ℕ) (own : Node) (stride size : ℕ) → IsSound s → IsPartOf s a i j →
+    slice_get s.nodes a ≡ Some own → own.shape ≡ Records stride size →
+    length (part (stride * i) stride (text_bytes s.texts s.bytes own.content)) ≡ stride
+row_length s a i j own stride size sound p array is =
+    let h = part_in_array s a i j own stride size sound p array is in
+    let bytes = text_bytes s.texts s.bytes own.content in
+    omega (
+      arith,
+      h.content.1.whole,
+      next-within stride i (record_count s stride own.content) h.there,
+      length-drop (stride * i) bytes,
+      length-take stride (drop (stride * i) bytes),
+    )
 
 number-most : (shape : Shape) → IsNumber shape → number_bits shape ≤ 64
 number-most (Integer w g) h = h.1
@@ -275,7 +303,7 @@ small-place true c h = ap unsigned_abs (to_z_pos w64 c (omega (arith, h)))
 small-place false c h = refl
 
 -- the bytes of a number, among those of its struct
-row-bytes : (stride first at k : ℕ) (bs : List ℕ) → at + k ≤ stride →
+pub row-bytes : (stride first at k : ℕ) (bs : List ℕ) → at + k ≤ stride →
     take k (drop at (part first stride bs)) ≡ part (first + at) k bs
 row-bytes stride first at k bs fits =
     let rest : stride ≡ at + (stride - at) = omega arith in

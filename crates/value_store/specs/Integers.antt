@@ -1,10 +1,13 @@
 -- Arrays whose elements are integers of one type.
-use Rattle.std.specs.Prelude.{◌≡◌, ℕ, ◌+◌, ◌^◌, ◌<◌, ◌≤◌, List, [], ◌∷◌, IfSome, All}
+use Rattle.std.specs.Prelude.{◌≡◌, ℕ, ◌+◌, ◌^◌, ◌<◌, ◌≤◌, List, [], ◌∷◌, Option, Some, None, IfSome, All, length, slice_get}
 use Rattle.pickle_types.specs.declared.integer.IntegerType.{IntegerType}
 use Rattle.pickle_types.specs.Table.{IsWidth}
 use Rattle.pickle_meaning.specs.Arithmetic.{with_sign}
 use Rattle.pickle_meaning.specs.Values.{Value, Mapped, Members, NoMembers, MemberThen, IntegerLabel, label_of, start_of, members_of, member_at}
 use Rattle.value_store.specs.Labels.{number_of}
+use Rattle.value_store.specs.Slots.{Slots, number_bits, IsNumber}
+use Rattle.value_store.specs.declared.store.slots.Node.{Node}
+use Rattle.value_store.specs.declared.store.slots.Shape.TheVariants.{Integer}
 
 -- a value is an integer of a type
 abbrev pub IsIntegerOf : IntegerType → Value → Type 0
@@ -27,3 +30,24 @@ pub record AreBytesOf (type : IntegerType) (bytes : List ℕ) (array : Value) : 
   pub most : type.width ≤ 8
   pub below : All (λ byte. byte < 2 ^ type.width) bytes
   pub members : members_of array ≡ byte_members type (start_of array) bytes
+
+-- links lead to nodes of such integers, the first with this start and this content
+abbrev pub AreNumbersAt : Slots → IntegerType → (start content : ℕ) → List (Option ℕ) → Type 0
+AreNumbersAt s type start content [] = Unit {0}
+AreNumbersAt s type start content (None ∷ ls) = ⊥
+AreNumbersAt s type start content (Some j ∷ ls) =
+    (slice_get s.nodes j
+    ≡ Some (record { start = start; content = content; shape = Integer type.width type.signed }))
+    × AreNumbersAt s type (start + type.width) (content + 1) ls
+
+-- a number at that node ends before the bit 2 ^ 64, and its content is not the greatest of 64 bits
+abbrev pub EndsEarly : Slots → (node : ℕ) → Type 0
+EndsEarly s j = (n : Node) → slice_get s.nodes j ≡ Some n → IsNumber n.shape →
+    (n.start + number_bits n.shape < 2 ^ 64) × (n.content + 1 < 2 ^ 64)
+
+-- there are such links, and the type has at most 8 bits
+pub record AreSideBySide (s : Slots) (type : IntegerType) (start content : ℕ) (links : List (Option ℕ)) : Type 0 where
+  pub width : IsWidth type
+  pub most : type.width ≤ 8
+  pub some : 0 < length links
+  pub numbers : AreNumbersAt s type start content links

@@ -299,8 +299,12 @@ impl<'a> StoredValue<'a> {
     pub(crate) fn byte_row(&self) -> Option<(IntegerType, &'a [u8])>
         ensures { (names : Names) → IfSome result (λ row. AreBytesOf row.0 row.1.now (value_of names self.now)) }
     {
-        let Place::Node(at) = self.place else {
-            return None;
+        let at = match self.place {
+            Place::Node(at) => at,
+            Place::Element { .. } => return None,
+            Place::Part { array, index, node } => {
+                return self.store.part_bytes(array, index, node);
+            }
         };
         let node = self.store.node_at(at);
         match node.shape {

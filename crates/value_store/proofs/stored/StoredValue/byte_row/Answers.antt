@@ -1,9 +1,9 @@
 use Rattle.std.proofs.Common.{take, ◌≡◌, ◌<◌, ◌^◌, ◌∙◌, ap, sym, subst}
-use Rattle.std.specs.Prelude.{All}
+use Rattle.std.specs.Prelude.{All, IfSome}
 use Rattle.pickle_types.specs.declared.integer.IntegerType.{IntegerType}
 use Rattle.pickle_meaning.specs.Values.{start_of, members_of, gathered}
 use Rattle.value_store.specs.declared.store.slots.Shape.TheVariants.{Integers}
-use Rattle.value_store.specs.Integers.{byte_members}
+use Rattle.value_store.specs.Integers.{byte_members, AreBytesOf}
 use Rattle.value_store.specs.Lent.{place_value}
 use Rattle.value_store.specs.Packed.{numbers_in}
 use Rattle.value_store.specs.Slots.{trees, elements, parts_in, row_numbers, value_at, IsContent}
@@ -39,3 +39,9 @@ returns-in-Integers c = λ names.
           ∙ elements_bytes w c.in-Integers.signed node.start bytes
           ∙ ap (λ start. byte_members type start bytes) (sym start);
     }
+
+pub returns-in-Part : goal.returns-in-Part
+returns-in-Part c = λ names.
+    subst (λ p. IfSome c.part_bytes.result
+    (λ row. AreBytesOf row.0 row.1.now (place_value names c.args.self.now.store.now.slots p))) (sym c.in-Part.is)
+    (c.part_bytes.ensures names)
