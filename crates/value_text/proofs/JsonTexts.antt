@@ -84,15 +84,27 @@ json_scalar : (style : Style) (value : Value) (number : Scalar) → label_of val
 json_scalar style (Mapped label start end all) (scalar.Integer number type) e = rw e refl
 json_scalar style (Mapped label start end all) (scalar.Offset magnitude type unit) e = rw e refl
 
+pub json_numbered : (style : Style) (limit : Option ℕ) (before : ℕ → List ℕ) (all : Members) (i : ℕ) (first : Bool)
+    (number : Scalar) → i < member_count all → is_past limit i ≡ false
+    → Some (scalar_label number) ≡ scalar_if (member_at all i)
+    → styled_json_members style limit before i first (members_from i all)
+    ≡ ((comma first ++ before i) ++ scalar_json style.numbers number)
+    ++ styled_json_members style limit before (i + 1) false (members_from (i + 1) all)
+json_numbered style limit before all i first number lt kept is =
+    let found = found_scalar (member_at all i) number is in
+    json_present style limit before all i first found.value lt kept found.there
+    ∙ ap (λ s. ((comma first ++ before i) ++ s)
+    ++ styled_json_members style limit before (i + 1) false (members_from (i + 1) all))
+    (json_scalar style found.value number found.label)
+
 pub element_numbered : (style : Style) (limit : Option ℕ) (all : Members) (i : ℕ) (first : Bool) (number : Scalar)
     → i < member_count all → is_past limit i ≡ false → Some (scalar_label number) ≡ scalar_if (member_at all i)
     → styled_json_members style limit no_key i first (members_from i all) ≡ numbered_json style.numbers first number
     ++ styled_json_members style limit no_key (i + 1) false (members_from (i + 1) all)
 element_numbered style limit all i first number lt kept is =
-    let found = found_scalar (member_at all i) number is in
-    element_present style limit all i first found.value lt kept found.there
-    ∙ ap (λ s. (comma first ++ s) ++ styled_json_members style limit no_key (i + 1) false (members_from (i + 1) all))
-    (json_scalar style found.value number found.label)
+    json_numbered style limit no_key all i first number lt kept is
+    ∙ ap (λ s. (s ++ scalar_json style.numbers number)
+    ++ styled_json_members style limit no_key (i + 1) false (members_from (i + 1) all)) (append-nil (comma first))
 
 pub json_absent : (style : Style) (limit : Option ℕ) (before : ℕ → List ℕ) (all : Members) (i : ℕ) (first : Bool)
     → i < member_count all → is_past limit i ≡ false → None ≡ member_at all i

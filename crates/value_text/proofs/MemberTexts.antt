@@ -1,6 +1,8 @@
 -- Members from a place on.
 use Rattle.std.proofs.Common.{◌≡◌, ℕ, zero, suc, add-one, ◌+◌, ◌<◌, ◌≤◌, Option, Some, None, refl, arith}
 use Rattle.pickle_meaning.specs.Values.{Value, Mapped, IntegerLabel, OffsetLabel, TextLabel, ArrayLabel, StructLabel, UnionLabel, Members, NoMembers, MemberThen, AbsentThen, label_of, member_count, member_at}
+use Rattle.std.specs.Prelude.{IfSome}
+use Rattle.std.specs.Option.{option_map}
 use Rattle.value_store.specs.declared.scalar.Scalar.{Scalar}
 use Rattle.value_store.specs.Scalars.{scalar_label, scalar_if}
 
@@ -53,3 +55,15 @@ found_scalar (Some (Mapped (TextLabel bytes) start end all)) number e = cc
 found_scalar (Some (Mapped ArrayLabel start end all)) number e = cc
 found_scalar (Some (Mapped (StructLabel name fields) start end all)) number e = cc
 found_scalar (Some (Mapped (UnionLabel name index alternative) start end all)) number e = cc
+
+-- a number that was found is that of the member, if any was
+abbrev pub IsFound : Option Scalar → Option Value → Type 0
+IsFound found member = IfSome found (λ number. Some (scalar_label number) ≡ scalar_if member)
+
+pub found_if : (found : Option Scalar) (member : Option Value) → option_map scalar_label found ≡ scalar_if member →
+    IsFound found member
+found_if None member e = tt
+found_if (Some number) member e = e
+
+pub none_found : (found : Option Scalar) (member : Option Value) → found ≡ None → IsFound found member
+none_found found member e = rw e tt

@@ -11,6 +11,7 @@ use Rattle.text_output.specs.declared.style.Numbers.{Numbers}
 use Rattle.value_store.specs.declared.scalar.Scalar.{Scalar}
 use Rattle.value_text.specs.PartText.{numbered_text, member_text}
 use Rattle.value_text.specs.TreeText.{prefix_text}
+use Rattle.value_text.specs.JsonParts.{start_json, field_json, part_json}
 
 abbrev pub lent_name : Option (Bor (List ℕ)) → Naming
 lent_name name = option_map (λ letters. letters.now) name
@@ -34,3 +35,14 @@ lent_start level value place = start_text level (label_of (typed_shown value)) p
 -- the lines of the part at a place of a value
 abbrev pub lent_part : Style → (level : ℕ) → Typed → (place : ℕ) → Typed → List ℕ
 lent_part style level value place part = part_text style level (label_of (typed_shown value)) place (typed_shown part)
+
+-- what is before the part at a place of a struct or a union in JSON
+abbrev pub lent_key : (first : Bool) → Option (Bor (List ℕ)) → (place : ℕ) → List ℕ
+lent_key first name place = start_json first (lent_name name) place
+
+-- a part that is an integer or an offset, and any other part
+abbrev pub numbered_field : Numbers → (first : Bool) → Option (Bor (List ℕ)) → (place : ℕ) → Scalar → List ℕ
+numbered_field numbers first name place number = field_json numbers first (lent_name name) place number
+
+abbrev pub lent_field : Style → (first : Bool) → Option (Bor (List ℕ)) → (place : ℕ) → Typed → List ℕ
+lent_field style first name place field = part_json style first (lent_name name) place (typed_shown field)

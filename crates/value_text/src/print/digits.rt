@@ -54,10 +54,20 @@ pub fn push_byte_item(bytes: &mut Bytes, at: usize, first: bool, byte: u8) -> us
     ensures text { take result bytes.new ≡ take at bytes.old ++ (comma first ++ (decimal byte ++ codes "UB")) }
     ensures len { result ≤ LINE_ROOM }
 {
-    let at = push_comma(bytes, at, first);
-    let at = push_few_digits(bytes, at, u64::from(byte));
+    let at = push_byte_number(bytes, at, first, byte);
     let at = push(bytes, at, b'U');
     push(bytes, at, b'B')
+}
+
+/// Lays out the digits of a byte, after a comma unless it is the first, and returns the place after them.
+#[inline(always)]
+pub fn push_byte_number(bytes: &mut Bytes, at: usize, first: bool, byte: u8) -> usize
+    requires { at + 4 ≤ LINE_ROOM }
+    ensures text { take result bytes.new ≡ take at bytes.old ++ (comma first ++ decimal byte) }
+    ensures len { result ≤ at + 4 }
+{
+    let at = push_comma(bytes, at, first);
+    push_few_digits(bytes, at, u64::from(byte))
 }
 
 /// Lays out a number in brackets, and returns the place after it.

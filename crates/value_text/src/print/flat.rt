@@ -92,12 +92,19 @@ impl<W: Write> Printer<'_, W> {
         let elements = Parts::new(value);
         let count = elements.len();
         let kept = kept_count(style.elements, count);
+        // All elements are numbers or none is. Asking the first saves asking the others.
+        let numbers = kept > 0 && elements.scalar(0).is_some();
         let mut first = true;
         for place in 0..kept {
             if self.failed {
                 return;
             }
-            if let Some(number) = elements.scalar(place) {
+            let number = if numbers {
+                elements.scalar(place)
+            } else {
+                None
+            };
+            if let Some(number) = number {
                 self.put_numbered(style, first, None, number);
                 first = false;
             } else if let Some(element) = elements.get(place) {

@@ -1,5 +1,6 @@
 //! Prints values in JSON.
-ghost use Rattle.std.specs.Prelude.{◌≡◌, ◌≤◌, ◌++◌, true, length};
+ghost use Rattle.std.specs.Prelude.{◌≡◌, ◌≤◌, ◌++◌, ℤ, true, false, length};
+ghost use Rattle.std.specs.Fmt.{signed_decimal};
 ghost use Rattle.std.specs.List.{prefix_len};
 ghost use Rattle.value_text.specs.TypedValue.{typed_shown};
 ghost use Rattle.value_text.specs.Puts.{Puts};
@@ -7,15 +8,17 @@ ghost use Rattle.value_text.specs.ValueText.{is_plain};
 ghost use Rattle.value_text.specs.StyledNumbers.{json_number, json_offset_in, quoted_hex};
 ghost use Rattle.value_text.specs.StyledJson.{styled_json_line, styled_json};
 ghost use Rattle.value_text.specs.CutArrays.{left_text, more_item};
-ghost use Rattle.value_text.specs.JsonParts.{array_json, elements_json, scalar_json, numbered_json, object_json, fields_json, element_json, start_json, field_json, name_start, place_start};
+ghost use Rattle.value_text.specs.JsonParts.{array_json, elements_json, scalar_json, numbered_json, bytes_json, object_json, fields_json, element_json, name_start, place_start};
+ghost use Rattle.value_text.specs.Lent.{lent_key, numbered_field, lent_field};
 
 use super::bytes::SHORT;
-use super::cut::kept_count;
+use super::cut::{is_cut, kept_count};
 use super::escape::Escapes;
 use super::printer::Printer;
 use super::string::plain_len;
 use crate::style::{Numbers, Style};
 use crate::typed::{Parts, Typed};
+use pickle_types::integer::IntegerType;
 use std::io::Write;
 use value_store::Kind;
 use value_store::scalar::Scalar;
@@ -98,14 +101,53 @@ impl<W: Write> Printer<'_, W> {
         ensures { Puts W.contents self.old self.new (elements_json style.now (typed_shown value.now)) }
     {
         let elements = Parts::new(value);
+        if is_cut(style.elements, elements.len()) {
+            return self.put_json_each(style, value);
+        }
+        match elements.byte_row() {
+            Some((number, bytes)) if are_digits(style.numbers, number) => {
+                self.put_json_bytes(bytes)
+            }
+            _ => self.put_json_each(style, value),
+        }
+    }
+
+    // Writes bytes as elements, in decimal digits.
+    #[inline(never)]
+    fn put_json_bytes(&mut self, bytes: &[u8])
+        ensures { Puts W.contents self.old self.new (bytes_json true bytes.now) }
+    {
+        let mut first = true;
+        for byte in bytes {
+            if self.failed {
+                return;
+            }
+            self.put_byte_number(first, *byte);
+            first = false;
+        }
+    }
+
+    // Writes elements, each by its kind, and how many are left out.
+    #[cycle(json)]
+    fn put_json_each(&mut self, style: &Style, value: &Typed<'_>)
+        ensures { Puts W.contents self.old self.new (elements_json style.now (typed_shown value.now)) }
+    {
+        let elements = Parts::new(value);
         let count = elements.len();
         let kept = kept_count(style.elements, count);
+        // All elements are numbers or none is. Asking the first saves asking the others.
+        let numbers = kept > 0 && elements.scalar(0).is_some();
         let mut first = true;
         for place in 0..kept {
             if self.failed {
                 return;
             }
-            if let Some(number) = elements.scalar(place) {
+            let number = if numbers {
+                elements.scalar(place)
+            } else {
+                None
+            };
+            if let Some(number) = number {
                 self.put_json_numbered(style.numbers, first, number);
                 first = false;
             } else if let Some(element) = elements.get(place) {
@@ -186,16 +228,37 @@ impl<W: Write> Printer<'_, W> {
         ensures { Puts W.contents self.old self.new (fields_json style.now (typed_shown value.now)) }
     {
         let fields = Parts::new(value);
+        let names = value.member_names();
         let mut first = true;
         for place in 0..fields.len() {
             if self.failed {
                 return;
             }
-            if let Some(field) = fields.get(place) {
-                self.put_field(style, first, value, place, &field);
+            if let Some(number) = fields.scalar(place) {
+                self.put_numbered_field(style.numbers, first, names.get(place), place, number);
+                first = false;
+            } else if let Some(field) = fields.get(place) {
+                self.put_field(style, first, names.get(place), place, &field);
                 first = false;
             }
         }
+    }
+
+    // Writes a field that is an integer or an offset.
+    #[tactic(auto, using(crate::proofs::Puts::puts))]
+    #[inline(always)]
+    fn put_numbered_field(
+        &mut self,
+        numbers: Numbers,
+        first: bool,
+        name: Option<&[u8]>,
+        place: usize,
+        number: Scalar,
+    )
+        ensures { Puts W.contents self.old self.new (numbered_field numbers first name.entry place number) }
+    {
+        self.put_key(first, name, place);
+        self.put_json_scalar(numbers, number);
     }
 
     // Writes the field at a place of a struct, or the alternative of a union.
@@ -206,22 +269,22 @@ impl<W: Write> Printer<'_, W> {
         &mut self,
         style: &Style,
         first: bool,
-        value: &Typed<'_>,
+        name: Option<&[u8]>,
         place: usize,
         field: &Typed<'_>,
     )
-        ensures { Puts W.contents self.old self.new (field_json style.now first value.now place field.now) }
+        ensures { Puts W.contents self.old self.new (lent_field style.now first name.entry place field.now) }
     {
-        self.put_key(first, value, place);
+        self.put_key(first, name, place);
         self.put_json_value(style, field);
     }
 
     // Writes the key of the part at a place, after a comma unless it is the first.
     #[inline(always)]
-    fn put_key(&mut self, first: bool, value: &Typed<'_>, place: usize)
-        ensures { Puts W.contents self.old self.new (start_json first value.now place) }
+    fn put_key(&mut self, first: bool, name: Option<&[u8]>, place: usize)
+        ensures { Puts W.contents self.old self.new (lent_key first name.entry place) }
     {
-        match value.field_name(place) {
+        match name {
             Some(name) => self.put_name_key(first, name),
             None => self.put_place_entry(first, place),
         }
@@ -275,4 +338,16 @@ fn is_short(name: &[u8]) -> bool
     ensures { result ≡ true → (length name.now ≤ SHORT) × (prefix_len is_plain name.now ≡ length name.now) }
 {
     name.len() <= SHORT && plain_len(name) == name.len()
+}
+
+// Whether integers of a type are printed as decimal digits, those of their bits.
+#[inline]
+fn are_digits(numbers: Numbers, number: IntegerType) -> bool
+    ensures numbers { result ≡ true → (n : ℤ) → json_number numbers n ≡ signed_decimal n }
+    ensures number { result ≡ true → number.signed ≡ false }
+{
+    match numbers {
+        Numbers::Decimal | Numbers::Digits => !number.signed,
+        Numbers::Hexadecimal => false,
+    }
 }

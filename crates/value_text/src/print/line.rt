@@ -137,6 +137,15 @@ impl Line {
         self.len = digits::push_byte_item(&mut self.bytes, self.len, first, byte);
     }
 
+    /// Adds the digits of a byte, after a comma unless it is the first.
+    #[inline(always)]
+    pub fn push_byte_number(&mut self, first: bool, byte: u8)
+        requires { length self.old + LONGEST_NUMBER ≤ LINE_ROOM }
+        ensures { self.new ≡ self.old ++ (comma first ++ decimal byte) }
+    {
+        self.len = digits::push_byte_number(&mut self.bytes, self.len, first, byte);
+    }
+
     /// Adds a suffix.
     #[inline(always)]
     pub fn push_suffix(&mut self, suffix: Suffix)

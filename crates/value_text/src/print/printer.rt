@@ -154,6 +154,16 @@ impl<W: Write> Printer<'_, W> {
         self.line.push_byte_item(first, byte);
     }
 
+    /// Puts a byte in decimal digits, after a comma unless it is the first.
+    #[tactic(auto, using(crate::proofs::Puts::puts))]
+    #[inline(always)]
+    pub fn put_byte_number(&mut self, first: bool, byte: u8)
+        ensures { Puts W.contents self.old self.new (comma first ++ decimal byte) }
+    {
+        self.make_room();
+        self.line.push_byte_number(first, byte);
+    }
+
     /// Puts an integer.
     #[tactic(auto, using(crate::proofs::Puts::puts))]
     #[inline(always)]

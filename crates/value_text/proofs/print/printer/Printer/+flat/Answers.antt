@@ -7,9 +7,10 @@ use Rattle.value_text.specs.TypedValue.{typed_shown}
 use Rattle.value_text.specs.CutArrays.{is_past, is_cut, kept_count}
 use Rattle.value_text.proofs.Cuts.{kept_before, kept_within}
 use Rattle.value_text.proofs.Puts.{told_none, told_next, told_same, told_last, told_all, told_failed}
+use Rattle.value_text.proofs.MemberTexts.{IsFound, found_if, none_found}
 use Rattle.value_text.proofs.StyledTexts.{text_numbered, text_present, text_absent, text_left, text_end}
 use Rattle.value_text.proofs.RowTexts.{byte_row}
-use Rattle.value_text.proofs.print.printer.Printer.+flat.Goals.{put_members-in-Some, put_members-in_default+in-Some-get, put_members-in_default+in_default-get, put_each-in-Some, put_each-in_default+in-Some-get, put_each-in_default+in_default-get}
+use Rattle.value_text.proofs.print.printer.Printer.+flat.Goals.{put_members-in-Some, put_members-in_default+in-Some-get, put_members-in_default+in_default-get, put_each-then-numbers, put_each-else-numbers, put_each-in-Some, put_each-in_default+in-Some-get, put_each-in_default+in_default-get}
 use Rattle.value_text.proofs.print.printer.Printer.+flat.Goals as goal
 
 pub put_each-loop-place-preserved : goal.put_each-loop-place-preserved
@@ -24,10 +25,19 @@ put_each-loop-place-preserved g t c =
     let before : is_past limit i ≡ false =
     kept_before limit (member_count all) i (omega (arith, kept, c.loop-place-test.true)) in
     let lt : i < member_count all = omega (arith, kept, kept_within limit (member_count all), c.loop-place-test.true) in
-    elim c.match-scalar.branch [
+    let asked : IsFound c.if-numbers.number (member_at all i) =
+    elim c.if-numbers.branch [
+      | put_each-then-numbers w ↦
+          subst (λ n. IsFound n (member_at all i)) (sym w.number-is)
+          (found_if w.scalar-number.result (member_at all i)
+          (w.scalar-number.ensures
+          ∙ ap (λ v. scalar_if (member_at (members_of (typed_shown v)) i)) c.new-elements.ensures))
+      | put_each-else-numbers w ↦ none_found c.if-numbers.number (member_at all i) w.number-is
+    ] in
+    elim c.match-number.branch [
       | put_each-in-Some w ↦
           (let is : Some (scalar_label w.in-Some.number) ≡ scalar_if (member_at all i) =
-          w.in-Some.ensures ∙ ap (λ v. scalar_if (member_at (members_of (typed_shown v)) i)) c.new-elements.ensures in
+          subst (λ n. IsFound n (member_at all i)) w.in-Some.is asked in
           rw (w.self-is, w.first-is) (record {
             within = omega (arith, kept, c.loop-place-test.true);
             told = told_next (text_numbered c.args.style.now limit ArrayLabel all i c.loop-place.first _ lt before is)

@@ -1,17 +1,21 @@
-use Rattle.std.proofs.Common.{◌≡◌, ◌∙◌, ◌<◌, ap, sym, arith, Some, None, false, refl}
+use Rattle.std.proofs.Common.{◌≡◌, ◌∙◌, ◌<◌, ap, sym, subst, arith, Some, None, false, refl}
 use Rattle.pickle_meaning.specs.Values.{label_of, members_of, member_at, member_count}
 use Rattle.value_store.specs.Scalars.{scalar_label, scalar_if}
 use Rattle.value_text.specs.TypedValue.{typed_shown}
 use Rattle.value_text.specs.JsonText.{key_before, no_key}
-use Rattle.value_text.specs.CutArrays.{is_past, kept_count}
+use Rattle.value_text.specs.CutArrays.{is_past, is_cut, kept_count}
+use Rattle.value_text.specs.Puts.{Puts}
+use Rattle.value_store.specs.Integers.{AreBytesOf}
+use Rattle.value_text.proofs.RowTexts.{bytes_elements}
 use Rattle.value_text.proofs.Cuts.{kept_before, kept_within}
 use Rattle.value_text.proofs.Puts.{told_none, told_next, told_same, told_last, told_all, told_failed}
-use Rattle.value_text.proofs.JsonTexts.{element_present, element_numbered, json_present, json_absent, json_left, json_end}
-use Rattle.value_text.proofs.print.printer.Printer.+json.Goals.{put_fields-in-Some, put_fields-in_default, put_json_elements-in-Some, put_json_elements-in_default+in-Some-get, put_json_elements-in_default+in_default-get}
+use Rattle.value_text.proofs.MemberTexts.{IsFound, found_if, none_found}
+use Rattle.value_text.proofs.JsonTexts.{element_present, element_numbered, json_numbered, json_present, json_absent, json_left, json_end}
+use Rattle.value_text.proofs.print.printer.Printer.+json.Goals.{put_fields-in-Some, put_fields-in_default+in-Some-get, put_fields-in_default+in_default-get, put_json_each-then-numbers, put_json_each-else-numbers, put_json_each-in-Some, put_json_each-in_default+in-Some-get, put_json_each-in_default+in_default-get}
 use Rattle.value_text.proofs.print.printer.Printer.+json.Goals as goal
 
-pub put_json_elements-loop-place-preserved : goal.put_json_elements-loop-place-preserved
-put_json_elements-loop-place-preserved g t c =
+pub put_json_each-loop-place-preserved : goal.put_json_each-loop-place-preserved
+put_json_each-loop-place-preserved g t c =
     let all = members_of (typed_shown c.args.value.now) in
     let len : c.len-count.result ≡ member_count all =
     c.len-count.ensures ∙ ap (λ v. member_count (members_of (typed_shown v))) c.new-elements.ensures in
@@ -22,16 +26,25 @@ put_json_elements-loop-place-preserved g t c =
     let before : is_past limit i ≡ false =
     kept_before limit (member_count all) i (omega (arith, kept, c.loop-place-test.true)) in
     let lt : i < member_count all = omega (arith, kept, kept_within limit (member_count all), c.loop-place-test.true) in
-    elim c.match-scalar.branch [
-      | put_json_elements-in-Some w ↦
+    let asked : IsFound c.if-numbers.number (member_at all i) =
+    elim c.if-numbers.branch [
+      | put_json_each-then-numbers w ↦
+          subst (λ n. IsFound n (member_at all i)) (sym w.number-is)
+          (found_if w.scalar-number.result (member_at all i)
+          (w.scalar-number.ensures
+          ∙ ap (λ v. scalar_if (member_at (members_of (typed_shown v)) i)) c.new-elements.ensures))
+      | put_json_each-else-numbers w ↦ none_found c.if-numbers.number (member_at all i) w.number-is
+    ] in
+    elim c.match-number.branch [
+      | put_json_each-in-Some w ↦
           (let is : Some (scalar_label w.in-Some.number) ≡ scalar_if (member_at all i) =
-          w.in-Some.ensures ∙ ap (λ v. scalar_if (member_at (members_of (typed_shown v)) i)) c.new-elements.ensures in
+          subst (λ n. IsFound n (member_at all i)) w.in-Some.is asked in
           rw (w.self-is, w.first-is) (record {
             within = omega (arith, kept, c.loop-place-test.true);
             told = told_next (element_numbered c.args.style.now limit all i c.loop-place.first _ lt before is)
                 c.loop-place.invariant.told w.put_json_numbered.ensures;
           }))
-      | put_json_elements-in_default+in-Some-get w ↦
+      | put_json_each-in_default+in-Some-get w ↦
           (let is : Some (typed_shown w.in-Some-get.element) ≡ member_at all i =
           w.in-Some-get.ensures.member ∙ ap (λ v. member_at (members_of (typed_shown v)) i) c.new-elements.ensures in
           rw (w.self-is, w.first-is) (record {
@@ -39,7 +52,7 @@ put_json_elements-loop-place-preserved g t c =
             told = told_next (element_present c.args.style.now limit all i c.loop-place.first _ lt before is)
                 c.loop-place.invariant.told w.put_json_element.ensures;
           }))
-      | put_json_elements-in_default+in_default-get w ↦
+      | put_json_each-in_default+in_default-get w ↦
           rw (w.self-is, w.first-is) (record {
             within = omega (arith, kept, c.loop-place-test.true);
             told = told_same (json_absent c.args.style.now limit no_key all i c.loop-place.first lt before
@@ -49,8 +62,8 @@ put_json_elements-loop-place-preserved g t c =
           })
     ]
 
-pub put_json_elements-returns : goal.put_json_elements-returns
-put_json_elements-returns g t c =
+pub put_json_each-returns : goal.put_json_each-returns
+put_json_each-returns g t c =
     let all = members_of (typed_shown c.args.value.now) in
     let len : c.len-count.result ≡ member_count all =
     c.len-count.ensures ∙ ap (λ v. member_count (members_of (typed_shown v))) c.new-elements.ensures in
@@ -70,17 +83,23 @@ put_fields-loop-place-preserved g t c =
     c.len-place-end.ensures ∙ ap (λ v. member_count (members_of (typed_shown v))) c.new-fields.ensures in
     let i = c.loop-place.place in
     let lt : i < member_count all = omega (arith, len, c.loop-place-test.true) in
-    elim c.match-get.branch [
+    elim c.match-scalar.branch [
       | put_fields-in-Some w ↦
-          (let is : Some (typed_shown w.in-Some.field) ≡ member_at all i =
-          w.in-Some.ensures.member ∙ ap (λ v. member_at (members_of (typed_shown v)) i) c.new-fields.ensures in
-          rw (w.self-is, w.first-is)
-          (told_next (json_present c.args.style.now None before all i c.loop-place.first _ lt refl is)
-          c.loop-place.invariant w.put_field.ensures))
-      | put_fields-in_default w ↦
+          (let is : Some (scalar_label w.in-Some.number) ≡ scalar_if (member_at all i) =
+          w.in-Some.ensures ∙ ap (λ v. scalar_if (member_at (members_of (typed_shown v)) i)) c.new-fields.ensures in
+          rw (w.self-is, w.first-is) (told_next
+          (json_numbered c.args.style.now None before all i c.loop-place.first _ lt refl is) c.loop-place.invariant
+          (rw (w.get.ensures ∙ c.member_names-names.ensures i) at w.put_numbered_field.ensures)))
+      | put_fields-in_default+in-Some-get w ↦
+          (let is : Some (typed_shown w.in-Some-get.field) ≡ member_at all i =
+          w.in-Some-get.ensures.member ∙ ap (λ v. member_at (members_of (typed_shown v)) i) c.new-fields.ensures in
+          rw (w.self-is, w.first-is) (told_next
+          (json_present c.args.style.now None before all i c.loop-place.first _ lt refl is) c.loop-place.invariant
+          (rw (w.get-in-Some-get.ensures ∙ c.member_names-names.ensures i) at w.put_field.ensures)))
+      | put_fields-in_default+in_default-get w ↦
           rw (w.self-is, w.first-is)
           (told_same (json_absent c.args.style.now None before all i c.loop-place.first lt refl
-          (w.in_default.ensures.member ∙ ap (λ v. member_at (members_of (typed_shown v)) i) c.new-fields.ensures))
+          (w.in_default-get.ensures.member ∙ ap (λ v. member_at (members_of (typed_shown v)) i) c.new-fields.ensures))
           c.loop-place.invariant)
     ]
 
@@ -93,14 +112,28 @@ put_fields-returns g t c =
     (omega (arith, len, c.loop-place-test.false)))
     c.loop-place.invariant
 
-pub put_json_elements-returns-then-self : goal.put_json_elements-returns-then-self
-put_json_elements-returns-then-self g t c = told_failed c.if-self.true c.loop-place.invariant.told
+pub put_json_each-returns-then-self : goal.put_json_each-returns-then-self
+put_json_each-returns-then-self g t c = told_failed c.if-self.true c.loop-place.invariant.told
 
 pub put_fields-returns-then-self : goal.put_fields-returns-then-self
 put_fields-returns-then-self g t c = told_failed c.if-self.true c.loop-place.invariant
 
-pub put_json_elements-loop-place-init : goal.put_json_elements-loop-place-init
-put_json_elements-loop-place-init g t c = record { within = omega arith; told = told_none }
+pub put_json_each-loop-place-init : goal.put_json_each-loop-place-init
+put_json_each-loop-place-init g t c = record { within = omega arith; told = told_none }
 
 pub put_fields-loop-place-init : goal.put_fields-loop-place-init
 put_fields-loop-place-init g t c = told_none
+
+pub put_json_elements-returns-in-Some : goal.put_json_elements-returns-in-Some
+put_json_elements-returns-in-Some g t c =
+    let are : AreBytesOf c.in-Some.number c.in-Some.bytes.now (typed_shown c.args.value.now) =
+    subst (λ v. AreBytesOf c.in-Some.number c.in-Some.bytes.now (typed_shown v)) c.new-elements.ensures
+    c.in-Some.ensures in
+    let len : c.len.result ≡ member_count (members_of (typed_shown c.args.value.now)) =
+    c.len.ensures ∙ ap (λ v. member_count (members_of (typed_shown v))) c.new-elements.ensures in
+    let whole : is_cut c.args.style.now.elements (member_count (members_of (typed_shown c.args.value.now))) ≡ false =
+    ap (is_cut c.args.style.now.elements) (sym len) ∙ sym c.is_cut.ensures ∙ c.if-is_cut.false in
+    subst (Puts g.W.Write.contents c.args.self.now c.put_json_bytes.new.self)
+    (bytes_elements c.args.style.now _ _ _ are (c.are_digits.ensures.number c.if-are_digits.true)
+    (c.are_digits.ensures.numbers c.if-are_digits.true) whole)
+    c.put_json_bytes.ensures
