@@ -1,8 +1,9 @@
 -- Rows of layouts and of how elements are kept, computed by their definitions.
-use Rattle.std.proofs.Common.{◌≡◌, ℕ, true, false, [], ◌∷◌, Option, Some, None, refl}
+use Rattle.std.proofs.Common.{◌≡◌, ℕ, zero, suc, true, false, [], ◌∷◌, Option, Some, None, refl}
+use Rattle.pickle_tree.specs.declared.tree.Infix.TheVariants.{Add}
 use Rattle.pickle_types.specs.Operators.{whole}
-use Rattle.pickle_types.specs.Types.{Term, Number, Name, Bracket, PokeType, IntegerOf, OffsetOf, StringOf, ArrayOf, StructOf, IntegralOf, UnionOf, Bound, Unbounded, ByCount, BySize, Fields, NoFields, FieldThen, Parts, NoParts, PartThen}
-use Rattle.mapping_plans.specs.Rows.{Apart, Records, Values, row_of}
+use Rattle.pickle_types.specs.Types.{Term, Number, Name, Bracket, Between, PokeType, IntegerOf, OffsetOf, StringOf, ArrayOf, StructOf, IntegralOf, UnionOf, Bound, Unbounded, ByCount, BySize, Fields, NoFields, FieldThen, Parts, NoParts, PartThen}
+use Rattle.mapping_plans.specs.Rows.{Apart, Records, Values, row_of, weight_of}
 
 -- a field with a constraint, and others after it
 abbrev field_then : PokeType → (constraint : Option Term) → Fields → Fields
@@ -268,3 +269,27 @@ at_most = refl
 too_many : row_of (struct (field_then most None (field_then (number 1) None NoFields))) ≡ Apart
 unfolding most eight
 too_many = refl
+
+-- ---- how much there is to look at
+
+-- struct { struct { uint<8> a; uint<16> b; } p; uint<8> c : 1 + 1; } has two structs, three numbers, and a constraint
+-- of three parts
+weight_of_five : weight_of (struct (field_then pair None (field_then (number 8)
+    (Some (Between Add (literal 1) (literal 1))) NoFields))) ≡ 8
+weight_of_five = refl
+
+-- a pair in so many structs, and structs of two such structs each
+abbrev wrapped : ℕ → PokeType
+wrapped zero = pair
+wrapped (suc n) = struct (field_then (wrapped n) None NoFields)
+
+abbrev doubled : ℕ → PokeType → PokeType
+doubled zero type = type
+doubled (suc n) type = struct (field_then (doubled n type) None (field_then (doubled n type) None NoFields))
+
+-- 4095 parts, and 4223
+light : row_of (doubled 7 (wrapped 28)) ≡ Values 384
+light = refl
+
+heavy : row_of (doubled 7 (wrapped 29)) ≡ Apart
+heavy = refl

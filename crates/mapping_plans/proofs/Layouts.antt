@@ -5,7 +5,7 @@ use Rattle.std.proofs.Math.Nat.{mul_assoc, mul-le-mul_right}
 use Rattle.std.proofs.lemmas.Bool.{leb-true, eqb-true}
 use Rattle.pickle_types.specs.Types.{Term, PokeType, IntegerOf, OffsetOf, StringOf, ArrayOf, StructOf, IntegralOf, UnionOf, Bound, Fields, NoFields, FieldThen, Parts, NoParts, PartThen}
 use Rattle.mapping_plans.specs.Avoids.{ClauseAvoids}
-use Rattle.mapping_plans.specs.Rows.{Row, Apart, Numbers, Records, Values, Layout, number_layout, numbers_layout, no_layout, sum_of, few_bytes, layout_then, field_layout, scalar_width, literal_count, array_layout, some_bytes, whole_number, clause_avoids, column_widths, stride_of, records_of, struct_row, layout_of, fields_layout, parts_layout, or_values, row_of}
+use Rattle.mapping_plans.specs.Rows.{Row, Apart, Numbers, Records, Values, Layout, number_layout, numbers_layout, no_layout, sum_of, few_bytes, layout_then, field_layout, scalar_width, literal_count, array_layout, some_bytes, whole_number, clause_avoids, column_widths, stride_of, records_of, struct_row, layout_of, fields_layout, parts_layout, or_values, row_of, element_layout, weight_of}
 use Rattle.mapping_plans.proofs.StructRows.{clause_are}
 
 kept_where : (p : Bool) (given l : Layout) → (if p then Some given else None) ≡ Some l → (p ≡ true) × (given ≡ l)
@@ -197,17 +197,25 @@ pub record IsLaidElement (type : PokeType) (stride : ℕ) : Type 0 where
   pub some : 1 ≤ layout.bytes
   pub few : layout.bytes ≤ 512
 
+-- a type that isn't looked at has no layout
+if_light : (light : Bool) (own : Option Layout) (l : Layout) → (if light then own else None) ≡ Some l → own ≡ Some l
+if_light true own l e = e
+if_light false own l e = absurd cc
+
 values_laid : (type : PokeType) (row : Row) (stride : ℕ) →
     ((l : Layout) → layout_of 0 type ≡ Some l → (1 ≤ l.bytes) × (l.bytes ≤ 512)) →
     ((given : ℕ) → row ≡ Values given → ⊥) →
-    or_values row (layout_of 0 type) ≡ Values stride → IsLaidElement type stride
-values_laid type row stride within other h = told row (layout_of 0 type) refl other h
+    or_values row (element_layout type) ≡ Values stride → IsLaidElement type stride
+values_laid type row stride within other h =
+    told row (element_layout type) (if_light (nat_le (weight_of type) 4096) (layout_of 0 type)) other h
   where
-    told : (row : Row) (own : Option Layout) → layout_of 0 type ≡ own → ((given : ℕ) → row ≡ Values given → ⊥) →
+    told : (row : Row) (own : Option Layout) → ((l : Layout) → own ≡ Some l → layout_of 0 type ≡ Some l) →
+        ((given : ℕ) → row ≡ Values given → ⊥) →
         or_values row own ≡ Values stride → IsLaidElement type stride
     told Apart None e other h = absurd cc
     told Apart (Some l) e other h =
-        record { layout = l; laid = e; bytes = cc; some = (within l e).0; few = (within l e).1 }
+        let laid = e l refl in
+        record { layout = l; laid = laid; bytes = cc; some = (within l laid).0; few = (within l laid).1 }
     told (Numbers width) own e other h = absurd cc
     told (Records widths) own e other h = absurd cc
     told (Values given) own e other h = absurd (other given refl)

@@ -5,7 +5,7 @@ use Rattle.std.proofs.lemmas.Bool.{false≢true, eq-eqb, leb-true}
 use Rattle.pickle_types.specs.Types.{Term, PokeType, IntegerOf, OffsetOf, StringOf, ArrayOf, StructOf, IntegralOf, UnionOf, Fields, NoFields, FieldThen, Number, Text, Name, Bracket, Before, Between, Choice, Index, Select, AttributeOf, ToInteger, ToOffset, InUnit}
 use Rattle.pickle_meaning.specs.Values.{Naming}
 use Rattle.mapping_plans.specs.Avoids.{Avoids, ClauseAvoids, IsScalar, AreColumns}
-use Rattle.mapping_plans.specs.Rows.{Row, Apart, Numbers, Records, Values, Layout, avoids, clause_avoids, scalar_width, column_width, column_then, column_widths, stride_of, records_of, struct_row, layout_of, or_values, row_of}
+use Rattle.mapping_plans.specs.Rows.{Row, Apart, Numbers, Records, Values, Layout, avoids, clause_avoids, scalar_width, column_width, column_then, column_widths, stride_of, records_of, struct_row, or_values, row_of, element_layout}
 
 both : (p q : Bool) → (if p then q else false) ≡ true → (p ≡ true) × (q ≡ true)
 both true q e = (refl, e)
@@ -149,8 +149,8 @@ packed_struct_is (OffsetOf type unit) widths h = absurd cc
 packed_struct_is StringOf widths h = absurd cc
 packed_struct_is (ArrayOf element bound) widths h = absurd cc
 packed_struct_is (StructOf name pinned fields) widths h =
-    let own = layout_of 0 (StructOf name pinned fields) in
+    let own = element_layout (StructOf name pinned fields) in
     struct_is name pinned fields widths (records_first (struct_row pinned fields) own widths h)
 packed_struct_is (IntegralOf name type fields) widths h =
-    absurd (apart_records (layout_of 0 (IntegralOf name type fields)) widths h)
+    absurd (apart_records (element_layout (IntegralOf name type fields)) widths h)
 packed_struct_is (UnionOf name alternatives) widths h = absurd cc

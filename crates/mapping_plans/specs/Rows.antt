@@ -181,6 +181,52 @@ abbrev mutual
       layout_then (field_layout (clause_avoids level constraint) None None (layout_of level type))
       (parts_layout level rest)
 
+-- how many parts an expression has, itself included
+abbrev pub term_weight : Term → ℕ
+term_weight (Number type value) = 1
+term_weight (Text bytes) = 1
+term_weight (Name level place) = 1
+term_weight (Bracket e) = 1 + term_weight e
+term_weight (Before op e) = 1 + term_weight e
+term_weight (Between op a b) = 1 + (term_weight a + term_weight b)
+term_weight (Choice common c x y) = 1 + (term_weight c + (term_weight x + term_weight y))
+term_weight (Index e i) = 1 + (term_weight e + term_weight i)
+term_weight (Select e place) = 1 + term_weight e
+term_weight (AttributeOf attribute e) = 1 + term_weight e
+term_weight (ToInteger type e) = 1 + term_weight e
+term_weight (ToOffset type unit e) = 1 + term_weight e
+term_weight (InUnit unit e) = 1 + term_weight e
+
+abbrev pub clause_weight : Option Term → ℕ
+clause_weight None = 0
+clause_weight (Some e) = term_weight e
+
+abbrev mutual
+  -- how much there is to look at in a type: the type, those of its fields each time that they are used, and the parts
+  -- of their constraints
+  pub weight_of : PokeType → ℕ
+  weight_of (IntegerOf type) = 1
+  weight_of (OffsetOf type unit) = 1
+  weight_of StringOf = 1
+  weight_of (ArrayOf element bound) = 1
+  weight_of (StructOf name pinned fields) = 1 + fields_weight fields
+  weight_of (IntegralOf name type fields) = 1 + parts_weight fields
+  weight_of (UnionOf name alternatives) = 1
+
+  pub fields_weight : Fields → ℕ
+  fields_weight NoFields = 0
+  fields_weight (FieldThen name order type constraint label condition rest) =
+      clause_weight constraint + (weight_of type + fields_weight rest)
+
+  pub parts_weight : Parts → ℕ
+  parts_weight NoParts = 0
+  parts_weight (PartThen name order type constraint rest) =
+      clause_weight constraint + (weight_of type + parts_weight rest)
+
+-- the layout of the elements of an array; a type that has more than 4096 parts isn't looked at
+abbrev pub element_layout : PokeType → Option Layout
+element_layout type = if nat_le (weight_of type) 4096 then layout_of 0 type else None
+
 -- elements of fixed layout that aren't kept in another way
 abbrev pub or_values : Row → Option Layout → Row
 or_values Apart None = Apart
@@ -195,8 +241,9 @@ row_of (IntegerOf type) = Numbers type.width
 row_of (OffsetOf type unit) = Numbers type.width
 row_of StringOf = Apart
 row_of (ArrayOf element bound) = Apart
-row_of (StructOf name pinned fields) = or_values (struct_row pinned fields) (layout_of 0 (StructOf name pinned fields))
-row_of (IntegralOf name type fields) = or_values Apart (layout_of 0 (IntegralOf name type fields))
+row_of (StructOf name pinned fields) =
+    or_values (struct_row pinned fields) (element_layout (StructOf name pinned fields))
+row_of (IntegralOf name type fields) = or_values Apart (element_layout (IntegralOf name type fields))
 row_of (UnionOf name alternatives) = Apart
 
 -- the shape of the node of an integer or an offset

@@ -11,6 +11,7 @@ pub mod Shapes
 pub mod Clauses
 pub mod RecordTypes
 pub mod Sizes
+pub mod Weights
 pub mod KeptKinds
 pub mod Strides
 pub mod RecordRows

@@ -12,7 +12,7 @@ use Rattle.pickle_types.specs.declared.node.Part.{Part}
 use Rattle.pickle_types.specs.Table.{open_fields, open_parts, optional_term, FieldsBelow, PartsBelow}
 use Rattle.pickle_meaning.specs.Values.{Naming}
 use Rattle.value_store.specs.Packed.{bytes_for}
-use Rattle.mapping_plans.specs.Rows.{Row, Apart, Values, Layout, array_layout, clause_avoids, few_bytes, field_layout, fields_layout, layout_of, layout_then, literal_count, numbers_layout, or_values, parts_layout, row_of, scalar_width, some_bytes, struct_row, whole_number}
+use Rattle.mapping_plans.specs.Rows.{Row, Apart, Values, Layout, array_layout, clause_avoids, element_layout, few_bytes, field_layout, fields_layout, layout_of, layout_then, literal_count, numbers_layout, or_values, parts_layout, row_of, scalar_width, some_bytes, struct_row, whole_number}
 use Rattle.mapping_plans.specs.Widths.{HasWidths}
 use Rattle.pickle_map.specs.declared.mapper.layouts.FixedSize.{FixedSize}
 use Rattle.pickle_map.specs.Layouts.{HasPartPlace, HasPlace, IsSizeOf}
@@ -260,11 +260,11 @@ as_kept None = refl
 as_kept (Some l) = refl
 
 pub struct_keeps : (name : Naming) (pinned : Bool) (fields : Fields) (own : Option Layout) →
-    struct_row pinned fields ≡ Apart → layout_of 0 (StructOf name pinned fields) ≡ own →
+    struct_row pinned fields ≡ Apart → element_layout (StructOf name pinned fields) ≡ own →
     row_of (StructOf name pinned fields) ≡ kept_as own
 struct_keeps name pinned fields own row is =
-    ap (λ r. or_values r (layout_of 0 (StructOf name pinned fields))) row ∙ ap (or_values Apart) is ∙ as_kept own
+    ap (λ r. or_values r (element_layout (StructOf name pinned fields))) row ∙ ap (or_values Apart) is ∙ as_kept own
 
 pub integral_keeps : (name : Naming) (type : IntegerType) (fields : Parts) (own : Option Layout) →
-    layout_of 0 (IntegralOf name type fields) ≡ own → row_of (IntegralOf name type fields) ≡ kept_as own
+    element_layout (IntegralOf name type fields) ≡ own → row_of (IntegralOf name type fields) ≡ kept_as own
 integral_keeps name type fields own is = ap (or_values Apart) is ∙ as_kept own

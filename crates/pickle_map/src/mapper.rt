@@ -24,6 +24,7 @@ pub(crate) mod text;
 pub mod walk;
 pub mod watch;
 pub(crate) mod watched_clauses;
+pub(crate) mod weights;
 
 use bit_space::{Meter, Order, Space};
 use packings::Packings;

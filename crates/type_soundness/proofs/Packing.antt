@@ -12,7 +12,7 @@ use Rattle.pickle_meaning.specs.Clauses.{FaultAt, condition, field_start, is_due
 use Rattle.pickle_meaning.specs.Means.{Opened, ordered}
 use Rattle.mapping_plans.specs.Plan.{Plan, packed, in_row}
 use Rattle.mapping_plans.specs.Mapping.{number_plan, read_plan, then_packed, after_element, element_plan, elements_plan, plan, fields_plan}
-use Rattle.mapping_plans.specs.Rows.{Row, Apart, Numbers, Records, Values, Layout, scalar_width, column_width, column_widths, stride_of, records_of, struct_row, layout_of, or_values, row_of}
+use Rattle.mapping_plans.specs.Rows.{Row, Apart, Numbers, Records, Values, Layout, scalar_width, column_width, column_widths, stride_of, records_of, struct_row, or_values, row_of, element_layout}
 use Rattle.mapping_plans.proofs.StructRows.{both_are, column_is, packed_struct_is}
 use Rattle.value_store.specs.declared.store.slots.Marks.{Marks}
 use Rattle.value_store.specs.Moves.{Move, Opens, Places, Closes, Packs, State, moved, needed, with_text, with_links, with_structs, with_struct, with_row}
@@ -56,10 +56,10 @@ packed_number_is (OffsetOf type unit) width e = cc
 packed_number_is StringOf width e = absurd cc
 packed_number_is (ArrayOf element bound) width e = absurd cc
 packed_number_is (StructOf name pinned fields) width e =
-    let own = layout_of 0 (StructOf name pinned fields) in
+    let own = element_layout (StructOf name pinned fields) in
     absurd (struct_numbers pinned fields width (numbers_first (struct_row pinned fields) own width e))
 packed_number_is (IntegralOf name type fields) width e =
-    absurd (apart_numbers (layout_of 0 (IntegralOf name type fields)) width e)
+    absurd (apart_numbers (element_layout (IntegralOf name type fields)) width e)
 packed_number_is (UnionOf name alternatives) width e = absurd cc
 
 -- a row that is packed, and a store that packs

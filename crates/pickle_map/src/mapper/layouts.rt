@@ -1,11 +1,12 @@
 //! Types whose values are all alike but for their numbers, so that arrays of them are packed.
 
 ghost use Rattle.std.specs.Prelude.{◌≡◌, ◌+◌, ◌<◌, Option, Some, None, length, All, if◌then◌else◌};
-ghost use Rattle.mapping_plans.specs.Rows.{Layout, array_layout, clause_avoids, field_layout, fields_layout, layout_of, literal_count, number_layout, parts_layout, scalar_width, some_bytes};
+ghost use Rattle.mapping_plans.specs.Rows.{Layout, array_layout, clause_avoids, element_layout, field_layout, fields_layout, layout_of, literal_count, number_layout, parts_layout, scalar_width, some_bytes};
 ghost use Rattle.pickle_map.specs.Layouts.{HasPlace, HasPartPlace, IsFew, IsLaid, IsSizeOf};
 ghost use Rattle.pickle_types.specs.Table.{IsTable, IsWidth, bound_of, type_of, open_fields, open_parts, optional_term};
 
 use crate::mapper::packed_fields::{clause_avoids, scalar_width};
+use crate::mapper::weights::is_light;
 use pickle_types::integer::IntegerType;
 use pickle_types::view::{Extent, Field, Node, Part, Resolved, Shape};
 
@@ -193,11 +194,11 @@ fn parts_size(nodes: &[Node], parts: &[Part], level: usize) -> Option<FixedSize>
 }
 
 /// Whether the elements of an array of the type at a place of the table, which are no numbers and no structs of numbers,
-/// are kept as values of fixed layout.
+/// are kept as values of fixed layout. No step is counted for that, so little is looked at.
 pub(crate) fn is_laid(nodes: &[Node], at: usize) -> bool
     requires table { IsTable nodes.now }
     requires at { at < length nodes.now }
-    ensures { IsLaid result (layout_of 0 (type_of nodes.now at)) }
+    ensures { IsLaid result (element_layout (type_of nodes.now at)) }
 {
-    size_at(nodes, at, 0).is_some()
+    is_light(nodes, at) && size_at(nodes, at, 0).is_some()
 }

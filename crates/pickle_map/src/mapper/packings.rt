@@ -1,7 +1,7 @@
 //! How the elements of arrays of structs are kept, found once for each type.
 
 ghost use Rattle.std.specs.Prelude.{◌<◌, List, Some, length, All, IsTrue};
-ghost use Rattle.mapping_plans.specs.Rows.{layout_of, row_of, struct_row};
+ghost use Rattle.mapping_plans.specs.Rows.{element_layout, row_of, struct_row};
 ghost use Rattle.pickle_map.specs.Columns.{HasNode, ArePacked};
 ghost use Rattle.pickle_map.specs.Packings.{AreKept, IsLaidKind, is_right};
 ghost use Rattle.pickle_types.specs.declared.node.Node.{Node};
@@ -56,7 +56,7 @@ fn packs_structs(nodes: &[Node], pinned: bool, fields: &[Field]) -> bool
 fn laid_kind(nodes: &[Node], element: usize) -> Kept
     requires table { IsTable nodes.now }
     requires element { element < length nodes.now }
-    ensures { IsLaidKind result (layout_of 0 (type_of nodes.now element)) }
+    ensures { IsLaidKind result (element_layout (type_of nodes.now element)) }
 {
     if is_laid(nodes, element) {
         Kept::Values

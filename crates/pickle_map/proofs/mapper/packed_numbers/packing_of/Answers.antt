@@ -1,8 +1,8 @@
-use Rattle.std.proofs.Common.{◌≡◌, refl, sym, ap, ◌∙◌}
+use Rattle.std.proofs.Common.{refl, sym, ap, ◌∙◌}
 use Rattle.std.proofs.lemmas.Bool.{false≢true}
 use Rattle.pickle_types.specs.Types.{StructOf, IntegralOf}
 use Rattle.pickle_types.specs.Table.{name_of, type_of, open_fields, open_parts}
-use Rattle.mapping_plans.specs.Rows.{layout_of, row_of}
+use Rattle.mapping_plans.specs.Rows.{element_layout, row_of}
 use Rattle.pickle_map.proofs.Elements.{apart_shape}
 use Rattle.pickle_map.proofs.KeptKinds.{are_records, structs_apart, wholes_apart}
 use Rattle.pickle_map.proofs.RecordTypes.{record_type}
@@ -44,7 +44,8 @@ returns-in-Apart-clause-is c = λ packing.
     (open_fields (type_of nodes) c.in-Struct.fields.items) in
     let right = rw (c.in-Apart.is, opened) at c.kind_of.ensures.is in
     ap row_of opened
-    ∙ structs_apart c.in-Struct.pinned (open_fields (type_of nodes) c.in-Struct.fields.items) (layout_of 0 type) right
+    ∙ structs_apart c.in-Struct.pinned (open_fields (type_of nodes) c.in-Struct.fields.items)
+    (element_layout type) right
 
 pub returns-in-Records-clause-is : goal.returns-in-Records-clause-is
 returns-in-Records-clause-is c =
@@ -71,4 +72,4 @@ returns-in_default-kind_of-clause-is c = λ packing.
     (open_parts (type_of nodes) c.in-Integral.fields.items) in
     let right = rw opened at c.kind_of-in-Integral.ensures.is in
     ap row_of opened
-    ∙ wholes_apart (layout_of 0 type) c.kind_of-in-Integral.result c.in_default-kind_of.not-Values right
+    ∙ wholes_apart (element_layout type) c.kind_of-in-Integral.result c.in_default-kind_of.not-Values right

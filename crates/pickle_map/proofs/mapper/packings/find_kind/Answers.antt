@@ -1,7 +1,7 @@
-use Rattle.std.proofs.Common.{◌≡◌, refl, sym, ap, subst, ◌∙◌}
+use Rattle.std.proofs.Common.{refl, sym, ap, ◌∙◌}
 use Rattle.pickle_types.specs.Types.{StructOf}
 use Rattle.pickle_types.specs.Table.{name_of, type_of, open_fields, open_parts}
-use Rattle.mapping_plans.specs.Rows.{Records, struct_row, layout_of, or_values, row_of}
+use Rattle.mapping_plans.specs.Rows.{element_layout, or_values, row_of}
 use Rattle.pickle_map.proofs.Sizes.{struct_keeps, integral_keeps}
 use Rattle.pickle_map.proofs.KeptKinds.{laid_right, records_right, shape_right}
 use Rattle.pickle_map.proofs.Shapes.{opened_as}
@@ -15,7 +15,7 @@ returns-then-packs_structs c =
     let type = StructOf (name_of c.in-Struct.name) c.in-Struct.pinned
     (open_fields (type_of nodes) c.in-Struct.fields.items) in
     let row = rw (c.deref.ensures.value, c.if-packs_structs.true) at c.packs_structs.ensures in
-    records_right _ row.0 (ap row_of opened ∙ ap (λ r. or_values r (layout_of 0 type)) row.1)
+    records_right _ row.0 (ap row_of opened ∙ ap (λ r. or_values r (element_layout type)) row.1)
 
 pub returns-else-packs_structs : goal.returns-else-packs_structs
 returns-else-packs_structs c =
@@ -23,20 +23,20 @@ returns-else-packs_structs c =
     let opened = opened_as nodes c.requires.table c.args.element c.requires.element c.index-nodes-element.result _
     c.in-Struct.is in
     let row = rw (c.deref.ensures.value, c.if-packs_structs.false) at c.packs_structs.ensures in
-    let own = layout_of 0 (type_of nodes c.args.element) in
+    let own = element_layout (type_of nodes c.args.element) in
     laid_right c.laid_kind.result _ own (ap row_of opened
     ∙ struct_keeps (name_of c.in-Struct.name) c.in-Struct.pinned (open_fields (type_of nodes) c.in-Struct.fields.items)
-    own row (sym (ap (layout_of 0) opened))) c.laid_kind.ensures
+    own row (sym (ap element_layout opened))) c.laid_kind.ensures
 
 pub returns-in-Integral : goal.returns-in-Integral
 returns-in-Integral c =
     let nodes = c.args.nodes.now in
     let opened = opened_as nodes c.requires.table c.args.element c.requires.element c.index-nodes-element.result _
     c.in-Integral.is in
-    let own = layout_of 0 (type_of nodes c.args.element) in
+    let own = element_layout (type_of nodes c.args.element) in
     laid_right c.laid_kind-in-Integral.result _ own (ap row_of opened
     ∙ integral_keeps (name_of c.in-Integral.name) c.in-Integral.number
-    (open_parts (type_of nodes) c.in-Integral.fields.items) own (sym (ap (layout_of 0) opened)))
+    (open_parts (type_of nodes) c.in-Integral.fields.items) own (sym (ap element_layout opened)))
     c.laid_kind-in-Integral.ensures
 
 pub returns-in_default : goal.returns-in_default
