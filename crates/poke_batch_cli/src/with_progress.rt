@@ -52,13 +52,15 @@ impl<S: Space, C: Clock, E: Write> Space for ShownSpace<S, C, E> {
     }
 }
 
-/// A writer that clears the line of a progress before it writes, so that neither stands on the other's line.
+/// A writer that clears the line of a progress before it writes, so that neither stands on the other's line. After its
+/// first failure it writes nothing more: what gathers an answer offers the bytes of a failed write again.
 #[derive(Drop)]
 pub struct ClearedWriter<O: Write, E: Write> {
     out: O,
     err: E,
     clears: bool,
     has_written: bool,
+    has_failed: bool,
 }
 
 impl<O: Write, E: Write> ClearedWriter<O, E> {
@@ -69,20 +71,32 @@ impl<O: Write, E: Write> ClearedWriter<O, E> {
             err,
             clears,
             has_written: false,
+            has_failed: false,
         }
     }
 }
 
 impl<O: Write, E: Write> Write for ClearedWriter<O, E> {
     fn write(&mut self, buf: &[u8]) -> io::Result<usize> {
+        if self.has_failed {
+            return Ok(0);
+        }
         if self.clears {
             clear_line(&mut self.err);
             self.has_written = true;
         }
-        self.out.write(buf)
+        let written = self.out.write(buf);
+        self.has_failed = match &written {
+            Ok(count) => *count == 0 && !buf.is_empty(),
+            Err(_) => true,
+        };
+        written
     }
 
     fn flush(&mut self) -> io::Result<()> {
+        if self.has_failed {
+            return Err(io::ErrorKind::WriteZero.into());
+        }
         if self.clears && !self.has_written {
             clear_line(&mut self.err);
         }
