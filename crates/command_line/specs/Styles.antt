@@ -23,7 +23,7 @@ abbrev pub NamesChars : List ℕ → Chars → Type 0
 NamesChars word chars.Numbers = word ≢ codes "text"
 NamesChars word chars.Text = word ≡ codes "text"
 
--- `all` is no limit, decimal digits are the most elements
+-- `all` is no limit, a number is the most elements
 abbrev pub NamesElements : List ℕ → Option ℕ → Type 0
 NamesElements word None = word ≡ codes "all"
 NamesElements word (Some most) = IsNumber word most

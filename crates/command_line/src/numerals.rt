@@ -1,7 +1,7 @@
 //! Numbers as arguments.
 ghost use Rattle.std.specs.Prelude.{◌≡◌, ◌≢◌, ℕ, ◌<◌, ◌≤◌, ◌^◌, List, ◌∷◌, SomeIff, IfSome, IfNone};
 ghost use Rattle.std.specs.Str.Parse.{IsNumeral, digits_value};
-ghost use Rattle.command_line.specs.Numerals.{IsCount, IsByteCount};
+ghost use Rattle.command_line.specs.Numerals.{without_plus, IsCount, IsByteCount};
 
 /// The least number of bytes that have too many bits to be counted.
 const TOO_MANY_BYTES: u64 = 1 << 61;
@@ -12,6 +12,18 @@ pub fn decimal(digits: &[u8]) -> Option<u64>
         (IsNumeral 10 digits.now × (digits_value 10 digits.now < 2 ^ 64)) (digits_value 10 digits.now) }
 {
     number(digits, 10)
+}
+
+/// The value of decimal digits, if it is below 2^64. They may have a plus before them, as in Rust.
+pub fn whole_number(word: &[u8]) -> Option<u64>
+    ensures { SomeIff result
+        (IsNumeral 10 (without_plus word.now) × (digits_value 10 (without_plus word.now) < 2 ^ 64))
+        (digits_value 10 (without_plus word.now)) }
+{
+    match after(word, b'+') {
+        Some(digits) => decimal(digits),
+        None => decimal(word),
+    }
 }
 
 /// The number of bytes that an argument names: decimal digits, or `0x` and hexadecimal digits. It is below 2^61.

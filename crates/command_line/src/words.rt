@@ -141,8 +141,8 @@ pub struct Asked {
 /// Reads the arguments, without the program's name, as a job. Without arguments the job is a check of standard input,
 /// `-`. [`read_asked`] also returns whether `--why` was given.
 ///
-/// clap reads all arguments before any of them is read as an offset or a path. The commands, their options and their
-/// defaults are this project's own; `--help` prints them.
+/// clap reads all arguments before any of them is read as a path or an offset, and offsets are judged last. The
+/// commands, their options and their defaults are this project's own; `--help` prints them.
 pub fn read_words(alloc: Global, words: Vec<String>) -> Result<Job, WordFault>
     ensures empty { words.items ≡ [] → MatchResult result (IsCheckOf (codes "-")) (λ fault. fault ≡ WordFault.Memory) }
     ensures asks { words.items ≢ [] → IfOk result (IsJobAskedBy (command_line (map string_bytes words.items))) }
@@ -328,8 +328,8 @@ fn read_map(alloc: Global, found: &ArgMatches<'_>) -> Result<Job, WordFault>
 {
     let terms = terms_of(alloc, found, Choice::Parts, None)?;
     let spool = spool_of(alloc, found)?;
-    let mapping = mapping_words(alloc, found)?;
     let file = word_of(alloc, found, "FILE")?;
+    let mapping = mapping_words(alloc, found)?;
     let mode = mode_of(word(found, "mode"));
     let progress = flag_of(found, "progress");
     match (mapping.start, faults_of(word(found, "faults"))) {
@@ -365,11 +365,11 @@ fn read_show(alloc: Global, found: &ArgMatches<'_>) -> Result<Job, WordFault>
     ensures misread { IfErr result
         (FailsFor (MisreadRequest (found_of found.now) Choice.Part) (StartsNowhere (found_of found.now))) }
 {
-    let mapping = mapping_words(alloc, found)?;
     let spool = spool_of(alloc, found)?;
     let terms = terms_of(alloc, found, Choice::Part, Some(SHOWN_ELEMENTS))?;
     let depth = depth_of(alloc, found, Some(SHOWN_LEVELS))?;
     let file = word_of(alloc, found, "FILE")?;
+    let mapping = mapping_words(alloc, found)?;
     Ok(Job::Request(Request {
         start: mapping.start,
         order: mapping.order,
@@ -394,10 +394,10 @@ fn read_each(alloc: Global, found: &ArgMatches<'_>) -> Result<Job, WordFault>
     ensures misread { IfErr result
         (FailsFor (MisreadRequest (found_of found.now) Choice.Columns) (StartsNowhere (found_of found.now))) }
 {
-    let mapping = mapping_words(alloc, found)?;
     let spool = spool_of(alloc, found)?;
     let terms = terms_of(alloc, found, Choice::Columns, None)?;
     let names = names_in(alloc, found)?;
+    let mapping = mapping_words(alloc, found)?;
     Ok(Job::Request(Request {
         start: mapping.start,
         order: mapping.order,

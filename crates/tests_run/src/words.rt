@@ -37,6 +37,16 @@ each --progress --spool 0 p T f g ==> Request(Request { start: Bit(0), order: Bi
 each --files0-from - --whole p T ==> Request(Request { start: Bit(0), order: Big, limit: 1000000000, spool: None, terms: Terms { whole: true, most_output: None, part: None, most_slots: None, style: Style { numbers: Decimal, chars: Numbers, elements: None }, look: None, selection: None }, form: Printed { mode: Flat, faults: Text }, progress: false, pickle: "p", name: "T", over: Files { names: EndedByZero("-"), flush: false } })
 map --whole p T f ==> Request(Request { start: Bit(0), order: Big, limit: 1000000000, spool: None, terms: Terms { whole: true, most_output: None, part: None, most_slots: None, style: Style { numbers: Decimal, chars: Numbers, elements: None }, look: None, selection: None }, form: Printed { mode: Flat, faults: Text }, progress: false, pickle: "p", name: "T", over: File("f") })
 map --max-output 5 p T f ==> Request(Request { start: Bit(0), order: Big, limit: 1000000000, spool: None, terms: Terms { whole: false, most_output: Some(5), part: None, most_slots: None, style: Style { numbers: Decimal, chars: Numbers, elements: None }, look: None, selection: None }, form: Printed { mode: Flat, faults: Text }, progress: false, pickle: "p", name: "T", over: File("f") })
+map --limit +5 p T f ==> Map { at: 0, order: Big, limit: 5, mode: Flat, pickle: "p", name: "T", file: "f" }
+map --limit=+007 p T f ==> Map { at: 0, order: Big, limit: 7, mode: Flat, pickle: "p", name: "T", file: "f" }
+map --max-output +5 p T f ==> Request(Request { start: Bit(0), order: Big, limit: 1000000000, spool: None, terms: Terms { whole: false, most_output: Some(5), part: None, most_slots: None, style: Style { numbers: Decimal, chars: Numbers, elements: None }, look: None, selection: None }, form: Printed { mode: Flat, faults: Text }, progress: false, pickle: "p", name: "T", over: File("f") })
+map --slots +5 p T f ==> Request(Request { start: Bit(0), order: Big, limit: 1000000000, spool: None, terms: Terms { whole: false, most_output: None, part: None, most_slots: Some(5), style: Style { numbers: Decimal, chars: Numbers, elements: None }, look: None, selection: None }, form: Printed { mode: Flat, faults: Text }, progress: false, pickle: "p", name: "T", over: File("f") })
+map --spool +5 p T f ==> Request(Request { start: Bit(0), order: Big, limit: 1000000000, spool: Some(5), terms: Terms { whole: false, most_output: None, part: None, most_slots: None, style: Style { numbers: Decimal, chars: Numbers, elements: None }, look: None, selection: None }, form: Printed { mode: Flat, faults: Text }, progress: false, pickle: "p", name: "T", over: File("f") })
+map --elements +1 p T f ==> Request(Request { start: Bit(0), order: Big, limit: 1000000000, spool: None, terms: Terms { whole: false, most_output: None, part: None, most_slots: None, style: Style { numbers: Decimal, chars: Numbers, elements: Some(1) }, look: None, selection: None }, form: Printed { mode: Flat, faults: Text }, progress: false, pickle: "p", name: "T", over: File("f") })
+show --depth +2 p T f ==> Request(Request { start: Bit(0), order: Big, limit: 1000000000, spool: None, terms: Terms { whole: false, most_output: None, part: None, most_slots: None, style: Style { numbers: Decimal, chars: Numbers, elements: Some(16) }, look: None, selection: None }, form: Shown { color: Auto, depth: Some(2) }, progress: false, pickle: "p", name: "T", over: File("f") })
+bound p T +5 ==> Bound { pickle: "p", name: "T", bits: 5 }
+bound p T +18446744073709551615 ==> Bound { pickle: "p", name: "T", bits: 18446744073709551615 }
+bound --text --elements +1 p T 25 ==> BoundText { pickle: "p", name: "T", bits: 25, mode: None, style: Style { numbers: Decimal, chars: Numbers, elements: Some(1) } }
 map --get . p T f ==> Request(Request { start: Bit(0), order: Big, limit: 1000000000, spool: None, terms: Terms { whole: false, most_output: None, part: Some(Path { steps: [] }), most_slots: None, style: Style { numbers: Decimal, chars: Numbers, elements: None }, look: None, selection: None }, form: Printed { mode: Flat, faults: Text }, progress: false, pickle: "p", name: "T", over: File("f") })
 map --get .a[2].0 p T f ==> Request(Request { start: Bit(0), order: Big, limit: 1000000000, spool: None, terms: Terms { whole: false, most_output: None, part: Some(Path { steps: [Field([97]), Element(2), Place(0)] }), most_slots: None, style: Style { numbers: Decimal, chars: Numbers, elements: None }, look: None, selection: None }, form: Printed { mode: Flat, faults: Text }, progress: false, pickle: "p", name: "T", over: File("f") })
 map --get .a --get [2] p T f ==> Request(Request { start: Bit(0), order: Big, limit: 1000000000, spool: None, terms: Terms { whole: false, most_output: None, part: None, most_slots: None, style: Style { numbers: Decimal, chars: Numbers, elements: None }, look: None, selection: Some(Selection { shape: Parts([Pattern { steps: [Exact(Field([97]))] }, Pattern { steps: [Exact(Element(2))] }]), absent: Fault }) }, form: Printed { mode: Flat, faults: Text }, progress: false, pickle: "p", name: "T", over: File("f") })
@@ -96,12 +106,20 @@ dump -s 0 --from 0#B f ==> usage
 dump -n 1 --size 1#B f ==> usage
 map --at 0#b --byte 0 p T f ==> usage
 map --limit 18446744073709551616 p T f ==> usage
-map --limit +5 p T f ==> usage
-map --max-output +5 p T f ==> usage
-map --slots +5 p T f ==> usage
-bound p T +5 ==> usage
+map --limit ++5 p T f ==> usage
+map --limit + p T f ==> usage
+map --limit +-5 p T f ==> usage
+map --max-output ++5 p T f ==> usage
+map --slots + p T f ==> usage
+map --spool +0x5 p T f ==> usage
+bound p T ++5 ==> usage
+bound p T + ==> usage
+bound p T +18446744073709551616 ==> usage
 map --elements -1 p T f ==> usage
-map --elements +1 p T f ==> usage
+map --elements ++1 p T f ==> usage
+map --elements + p T f ==> usage
+map --elements +all p T f ==> usage
+show --depth ++1 p T f ==> usage
 map --elements ALL p T f ==> usage
 map --elements 18446744073709551616 p T f ==> usage
 map --numbers octal p T f ==> usage
@@ -114,7 +132,7 @@ bound --numbers hex p T 25 ==> usage
 bound --chars text p T 25 ==> usage
 bound --elements all p T 25 ==> usage
 bound --text --numbers octal p T 25 ==> usage
-bound --text --elements +1 p T 25 ==> usage
+bound --text --elements ++1 p T 25 ==> usage
 map --at 8 --limit x p T f ==> usage
 map --at -1#b p T f ==> usage
 map --rows . --get [:3] p T f ==> usage
@@ -129,8 +147,11 @@ map --max-output -1 p T f ==> usage
 map --whole --whole p T f ==> usage
 map --get a p T f ==> usage
 map --at 8 --get a p T f ==> usage
-show --at 8 --get a p T f ==> refused offset
-each --at 8 --get a p T f ==> refused offset
+show --at 8 --get a p T f ==> usage
+show --at 8 --depth x p T f ==> usage
+show --at 8 --elements x p T f ==> usage
+each --at 8 --get a p T f ==> usage
+each --byte x --elements x p T f ==> usage
 map --color p T f ==> usage
 map p T ==> usage
 map p T f g ==> usage

@@ -7,7 +7,7 @@ ghost use Rattle.command_line.specs.Flags.{FlagIn};
 ghost use Rattle.command_line.specs.Misread.{FailsFor};
 ghost use Rattle.command_line.specs.declared.words.WordFault.TheVariants.{Memory};
 
-use crate::numerals::decimal;
+use crate::numerals::whole_number;
 use crate::words::WordFault;
 use crate::words::usage::{NO_NUMBER, invalid_value};
 use clap::ArgMatches;
@@ -66,14 +66,14 @@ pub fn number_of(
     }
 }
 
-// The number that a text is. clap's own numbers may have a plus before them.
+// The number that a text is. Like clap's own numbers it may have a plus before its digits.
 fn number_of_word(alloc: Global, word: &str, place: &str) -> Result<u64, WordFault>
     ensures ok { IfOk result (IsNumber word.now) }
     ensures err { IfErr result (λ fault. (fault ≡ Memory) ⊎ IsNoNumber word.now) }
     ensures fault { IfErr result (λ fault. fault ≢ WordFault.Offset) }
     ensures misread { IfErr result (FailsFor (IsNoNumber word.now) ⊥) }
 {
-    match decimal(word.as_bytes()) {
+    match whole_number(word.as_bytes()) {
         Some(number) => Ok(number),
         None => Err(WordFault::Usage(invalid_value(alloc, word, place, NO_NUMBER)?)),
     }

@@ -37,11 +37,11 @@ pub fn mapping_words(alloc: Global, found: &ArgMatches<'_>) -> Result<MappingWor
         (StartsNowhere (found_of found.now))) }
 {
     Ok(MappingWords {
-        start: start_of(found)?,
         order: order_of(word(found, "endian")),
         limit: limit_of(alloc, found)?,
         pickle: word_of(alloc, found, "PICKLE")?,
         name: word_of(alloc, found, "TYPE")?,
+        start: start_of(found)?,
     })
 }
 

@@ -9,7 +9,7 @@ ghost use Rattle.command_line.specs.declared.words.WordFault.TheVariants.{Offset
 use crate::answer_form::AnswerForm;
 use crate::color::Color;
 use crate::fault_form::FaultForm;
-use crate::numerals::decimal;
+use crate::numerals::whole_number;
 use crate::words::WordFault;
 use crate::words::found::word;
 use crate::words::usage::invalid_value;
@@ -118,7 +118,7 @@ fn most_of(alloc: Global, word: &str, option: &str) -> Result<Option<u64>, WordF
     if word == "all" {
         return Ok(None);
     }
-    match decimal(word.as_bytes()) {
+    match whole_number(word.as_bytes()) {
         Some(most) => Ok(Some(most)),
         None => {
             let why = "neither a number below 2^64 nor all";

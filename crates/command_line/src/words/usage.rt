@@ -2,7 +2,7 @@
 use crate::words::shown::shown_word;
 use std::alloc::{AllocError, Global};
 
-/// What is wrong with a number that has a sign, in clap's words.
+/// What is wrong with a text that is no number, in clap's words.
 pub const NO_NUMBER: &str = "invalid digit found in string";
 
 /// The usage error for a value that the argument `place` doesn't accept, in clap's form.
