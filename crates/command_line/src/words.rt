@@ -48,7 +48,7 @@ use thiserror::Error;
 use ties::{is_given, keeps_ties};
 
 /// The usage error for arguments that are wrong, but whose escaped forms clap accepts.
-const WRONG_WORD: &str = "error: a word has bytes that aren't printed\n";
+const WRONG_WORD: &str = "error: an argument has bytes that aren't printed\n";
 
 /// The job that the arguments request.
 #[derive(Debug, Drop, PartialEq, Eq)]

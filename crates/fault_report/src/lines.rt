@@ -274,7 +274,7 @@ fn say_end(
     let bits = u128::from(scene.bits);
     if bits < at {
         let text = say_length(text.say(b"  it starts ")?, at.saturating_sub(bits))?;
-        return text.say(b" behind the end\n");
+        return text.say(b" after the end\n");
     }
     let Some(node) = scene.nodes.get(found.node) else {
         return Ok(text);

@@ -139,7 +139,7 @@ static OPENINGS: [Pattern; 36] = [
     },
     Pattern {
         tokens: [b"", b"", b"method", b"", b"", b""],
-        help: "methods are left out, and nothing stands for one: a pickle tells only where values lie",
+        help: "methods are left out, and there is nothing like them: a pickle says only where values are",
     },
     Pattern {
         tokens: [b"", b"", b"computed", b"", b"", b""],
@@ -147,7 +147,7 @@ static OPENINGS: [Pattern; 36] = [
     },
     Pattern {
         tokens: [b"", b"", b"assert", b"", b"", b""],
-        help: "`assert` is left out: write a constraint behind a field's name, as `byte b : b > a;`",
+        help: "`assert` is left out: write a constraint after a field's name, as `byte b : b > a;`",
     },
     Pattern {
         tokens: [b"", b"", b"unit", b"", b"", b""],
@@ -155,7 +155,7 @@ static OPENINGS: [Pattern; 36] = [
     },
     Pattern {
         tokens: [b"", b"", b"immutable", b"", b"", b""],
-        help: "`immutable` is left out: nothing stands for it",
+        help: "`immutable` is left out: there is nothing like it",
     },
     Pattern {
         tokens: [b"", b"", b"const", b"", b"", b""],
@@ -175,7 +175,7 @@ static OPENINGS: [Pattern; 36] = [
     },
     Pattern {
         tokens: [b"", b"", b"if", b"", b"", b""],
-        help: "a condition stands behind its field: `TYPE NAME if CONDITION;`",
+        help: "a condition comes after its field: `TYPE NAME if CONDITION;`",
     },
     Pattern {
         tokens: [b"", b"", b"unsigned", b"char", b"", b""],
@@ -303,7 +303,7 @@ static ANYWHERE: [Pattern; 69] = [
     },
     Pattern {
         tokens: [b"", b"", b"isa", b"", b"", b""],
-        help: "`isa` is left out, and nothing stands for it",
+        help: "`isa` is left out, and there is nothing like it",
     },
     Pattern {
         tokens: [b"", b"", b"and", b"", b"", b""],
@@ -343,11 +343,11 @@ static ANYWHERE: [Pattern; 69] = [
     },
     Pattern {
         tokens: [b"", b"", b"unmap", b"", b"", b""],
-        help: "it is left out: write a constraint behind the field's name, as `byte b : b > 1;`",
+        help: "it is left out: write a constraint after the field's name, as `byte b : b > 1;`",
     },
     Pattern {
         tokens: [b"", b"", b"where", b"", b"", b""],
-        help: "it is left out: write a constraint behind the field's name, as `byte b : b > 1;`",
+        help: "it is left out: write a constraint after the field's name, as `byte b : b > 1;`",
     },
     Pattern {
         tokens: [b"", b"*", b"*", b"", b"", b""],
@@ -431,7 +431,7 @@ static ANYWHERE: [Pattern; 69] = [
     },
     Pattern {
         tokens: [b"", b"union", b"NAME", b"{", b"", b""],
-        help: "write `union { .. }`, without the name: a field's name stands behind the brace, as `union { .. } x;`",
+        help: "write `union { .. }`, without the name: a field's name comes after the brace, as `union { .. } x;`",
     },
     Pattern {
         tokens: [b"", b"union", b"NAME", b"NAME", b"", b""],
@@ -447,11 +447,11 @@ static ANYWHERE: [Pattern; 69] = [
     },
     Pattern {
         tokens: [b"INTEGER", b"NUMBER", b">=", b"=", b"", b""],
-        help: "part the signs by a blank: write `$1$2> ==`",
+        help: "separate the signs by a blank: write `$1$2> ==`",
     },
     Pattern {
         tokens: [b"INTEGER", b"NUMBER", b"NAME", b"", b"", b""],
-        help: "is a `>` missing behind `$2`?",
+        help: "is a `>` missing after `$2`?",
     },
     Pattern {
         tokens: [b"", b"bit", b"<", b"NUMBER", b">", b""],
@@ -479,15 +479,15 @@ static ANYWHERE: [Pattern; 69] = [
     },
     Pattern {
         tokens: [b"OPEN", b"NAME", b"INTEGER", b"NUMBER", b">", b";"],
-        help: "the type stands before the name: write `$9 $2;`",
+        help: "the type comes before the name: write `$9 $2;`",
     },
     Pattern {
         tokens: [b"OPEN", b"NAME", b"string", b";", b"", b""],
-        help: "the type stands before the name: write `$9 $2;`",
+        help: "the type comes before the name: write `$9 $2;`",
     },
     Pattern {
         tokens: [b"NAME", b":", b"INTEGER", b"NUMBER", b">", b";"],
-        help: "the type stands before the name: write `$9 $1;`",
+        help: "the type comes before the name: write `$9 $1;`",
     },
     Pattern {
         tokens: [b"int", b":", b"int<", b"NUMBER", b"", b""],
@@ -499,11 +499,11 @@ static ANYWHERE: [Pattern; 69] = [
     },
     Pattern {
         tokens: [b"NAME", b":", b"INTEGER", b"NUMBER", b";", b""],
-        help: "the type stands before the name, with a `>` at its end: write `$3$4> $1;`",
+        help: "the type comes before the name, with a `>` at its end: write `$3$4> $1;`",
     },
     Pattern {
         tokens: [b"NAME", b":", b"string", b";", b"", b""],
-        help: "the type stands before the name: write `$9 $1;`",
+        help: "the type comes before the name: write `$9 $1;`",
     },
     Pattern {
         tokens: [b"NAME", b"=", b"ORDER", b"", b"", b""],
@@ -515,7 +515,7 @@ static ANYWHERE: [Pattern; 69] = [
     },
     Pattern {
         tokens: [b"", b"]", b"[", b"", b"", b""],
-        help: "one array suffix a type: declare the inner array, as `type Row = byte[4];`, and write `Row[2]`",
+        help: "a type has one array suffix: declare the inner array, as `type Row = byte[4];`, and write `Row[2]`",
     },
     Pattern {
         tokens: [b"", b"<", b"<", b"", b"", b""],
@@ -556,7 +556,7 @@ const RESERVED_NAME: &str = "`$3` is a word of the language: choose another name
 
 /// What to write for a pointer.
 const POINTER: &str =
-    "there are no pointers: write the place as an integer, as `uint<32> at;`, and what is there behind it, as `byte x @ at#B;`";
+    "there are no pointers: write the place as an integer, as `uint<32> at;`, and what is there after it, as `byte x @ at#B;`";
 
 /// In the place of an operand.
 static VALUES: [Pattern; 15] = [
@@ -566,7 +566,7 @@ static VALUES: [Pattern; 15] = [
     },
     Pattern {
         tokens: [b"", b"", b"[", b"", b"", b""],
-        help: "array literals are left out, and nothing stands for one: compare the elements one by one, as `a[0] == 1 && a[1] == 2`",
+        help: "array literals are left out, and there is nothing like them: compare the elements one by one, as `a[0] == 1 && a[1] == 2`",
     },
     Pattern {
         tokens: [b"", b":", b":", b"", b"", b""],
@@ -623,7 +623,7 @@ static VALUES: [Pattern; 15] = [
 ];
 
 /// What to write for a conversion as in C.
-const CONVERT: &str = "a type stands behind `as`: `x as uint<16>`";
+const CONVERT: &str = "a type comes after `as`: `x as uint<16>`";
 
 /// What to write for `type` inside a type.
 const TYPE_INSIDE: &str = "`type` is a reserved word; types are declared outside of other types";
@@ -659,11 +659,11 @@ static OPERANDS: [Pattern; 9] = [
     },
     Pattern {
         tokens: [b"", b"", b"{", b"", b"", b""],
-        help: "struct literals are left out, and nothing stands for one: compare the fields one by one",
+        help: "struct literals are left out, and there is nothing like them: compare the fields one by one",
     },
     Pattern {
         tokens: [b"", b"", b":", b"", b"", b""],
-        help: "trimming an array is left out, and nothing stands for it; in a choice write `c ? x : y`",
+        help: "trimming an array is left out, and there is nothing like it; in a choice write `c ? x : y`",
     },
     Pattern {
         tokens: [b"", b"", b"!", b"", b"", b""],
@@ -675,7 +675,7 @@ static OPERANDS: [Pattern; 9] = [
 static FORMS: [Pattern; 26] = [
     Pattern {
         tokens: [b"", b"}", b"__attribute__", b"", b"", b""],
-        help: "leave it out: fields stand side by side, without gaps between them",
+        help: "leave it out: there are no gaps between fields",
     },
     Pattern {
         tokens: [b"", b"NAME", b"=", b"", b";", b""],
@@ -703,11 +703,11 @@ static FORMS: [Pattern; 26] = [
     },
     Pattern {
         tokens: [b"NAME", b"NAME", b"[", b"", b"]", b""],
-        help: "the bound stands behind the type: write `$1[$4] $2`",
+        help: "the bound comes after the type: write `$1[$4] $2`",
     },
     Pattern {
         tokens: [b"", b"", b"[", b"", b"", b""],
-        help: "the bound stands behind the type: `byte[4] b`",
+        help: "the bound comes after the type: `byte[4] b`",
     },
     Pattern {
         tokens: [b"", b";", b";", b"", b"", b""],
@@ -735,7 +735,7 @@ static FORMS: [Pattern; 26] = [
     },
     Pattern {
         tokens: [b"", b"", b",", b"", b"", b""],
-        help: "write each declaration and each field of its own, with a `;`",
+        help: "write each declaration and each field separately, with a `;`",
     },
     Pattern {
         tokens: [b"", b"int", b"<", b"", b"", b""],
@@ -767,11 +767,11 @@ static FORMS: [Pattern; 26] = [
     },
     Pattern {
         tokens: [b"", b"}", b"NAME", b"", b"", b""],
-        help: "the name of a type stands before it: `type $3 = struct { .. };`",
+        help: "the name of a type comes before it: `type $3 = struct { .. };`",
     },
     Pattern {
         tokens: [b"", b"", b"ORDER", b"NAME", b"", b""],
-        help: "the byte order stands first: write `$3 $8 $4`",
+        help: "the byte order comes first: write `$3 $8 $4`",
     },
     Pattern {
         tokens: [b"", b"", b"RESERVED", b"", b"", b""],
@@ -780,7 +780,7 @@ static FORMS: [Pattern; 26] = [
 ];
 
 /// What to write for a comparison without `:`.
-const CONSTRAINT: &str = "a constraint stands behind `:`: write `$8 : $2 $9;`";
+const CONSTRAINT: &str = "a constraint comes after `:`: write `$8 : $2 $9;`";
 
 /// What to write for `int <`.
 const NO_BLANK: &str = "write `int<`, `uint<` and `offset<` without a blank before the `<`";
@@ -831,7 +831,7 @@ fn behind_operand(around: Around<'_, '_>) -> Option<&'static str> {
 fn behind_form(around: Around<'_, '_>, expected: Expected) -> Option<&'static str> {
     match around.token_text() {
         b":" if around.opening() == b"type".as_slice() => Some(
-            "a type has no constraint of its own: write it behind each field of the type, as `T x : x > 0;`",
+            "a type has no constraint of its own: write it after each field of the type, as `T x : x > 0;`",
         ),
         b"type" if expected.name => Some(TYPE_INSIDE),
         _ if expected.form || expected.name || !is_reserved(around.token_text()) => {

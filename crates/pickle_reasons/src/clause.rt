@@ -354,7 +354,7 @@ impl<'a, 't> IllTypedExpression<'a, 't> {
             .say(b" before ")?;
         let text = say_type(text, self.operand_type())?;
         let help = self.text().say(
-            b"`+` and `-` stand before integers and offsets, `~` and `!` before integers",
+            b"`+` and `-` come before integers and offsets, `~` and `!` before integers",
         )?;
         self.finding(sign, text, Some(help))
     }
@@ -420,7 +420,7 @@ impl<'a, 't> IllTypedExpression<'a, 't> {
                 self.finding(self.rest(count.saturating_add(1)), text, None)
             }
             Suffix::Unit(_) => {
-                let text = self.text().say(b"a unit stands behind an integer, ")?;
+                let text = self.text().say(b"a unit comes after an integer, ")?;
                 self.operand_is(text, operand, None)
             }
             Suffix::Convert(_) => self.conversion(operand),

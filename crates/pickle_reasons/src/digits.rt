@@ -33,7 +33,7 @@ fn hexadecimal_help(alloc: Global, digits: &[u8]) -> Result<Option<Text>, AllocE
     if plain && digits.first().is_some() {
         return Ok(None);
     }
-    let text = Text::new(alloc).say(b"behind `0x` stand hexadecimal digits, as in `0x1f`")?;
+    let text = Text::new(alloc).say(b"hexadecimal digits come after `0x`, as in `0x1f`")?;
     Ok(Some(text))
 }
 

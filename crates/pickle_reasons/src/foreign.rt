@@ -12,7 +12,7 @@ struct Foreign {
 static FOREIGN: [Foreign; 27] = [
     Foreign {
         names: b"any void",
-        help: "it is left out, and nothing stands for it: write `byte[n]` for bytes of any meaning",
+        help: "it is left out, and there is nothing like it: write `byte[n]` for bytes of any meaning",
     },
     Foreign {
         names: b"float double float32 float64 f32 f64 f4 f8 Float Double",

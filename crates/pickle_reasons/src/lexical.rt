@@ -101,7 +101,7 @@ fn help_byte(alloc: Global, pickle: &[u8], at: usize) -> Result<Option<Vec<u8>>,
             "`'offset` is left out: write the place where it is known, as `(a'size + b'size)`"
         }
         [b'\'', quoted @ ..] => return help_quoted(alloc, quoted),
-        [b'$', ..] => "nothing stands for `$`: an array's last index is `a'length - 1`",
+        [b'$', ..] => "there is no `$`: an array's last index is `a'length - 1`",
         [0xef, 0xbb, 0xbf, ..] => "leave out the byte order mark: it is 3 bytes that editors hide",
         [0xff, 0xfe, ..] | [0xfe, 0xff, ..] if at == 0 =>
             "write the pickle as UTF-8 or ASCII, not as UTF-16",
@@ -109,7 +109,7 @@ fn help_byte(alloc: Global, pickle: &[u8], at: usize) -> Result<Option<Vec<u8>>,
         _ if is_binary(pickle, at) => {
             "a pickle is text, and this begins as other files do: are PICKLE and FILE swapped?"
         }
-        [byte, ..] if 0x80 <= *byte => "letters outside of ASCII stand only in comments",
+        [byte, ..] if 0x80 <= *byte => "letters outside of ASCII belong only in comments",
         _ => return Ok(None),
     };
     fixed_help(alloc, help)
@@ -219,7 +219,7 @@ fn help_quoted(alloc: Global, quoted: &[u8]) -> Result<Option<Vec<u8>>, AllocErr
         alloc,
         match quoted {
             [b'm', ..] | [b's', b't', ..] =>
-                "of the attributes there are `'length` and `'size`; nothing stands for the others",
+                "the attributes are `'length` and `'size`; there is nothing like the others",
             _ =>
                 "a character is one byte in quotes; `'length` is that of an array, `'size` that of any field",
         },
@@ -235,7 +235,7 @@ fn unclosed_sentence(rest: &[u8]) -> &'static str {
 
 fn help_unclosed(rest: &[u8]) -> &'static str {
     match rest {
-        [b'"', ..] => "a text stands in one line: write a line feed in it as `\\n`",
+        [b'"', ..] => "a text is in one line: write a line feed in it as `\\n`",
         _ => "comments do not nest: write `*/` at its end",
     }
 }
@@ -253,9 +253,9 @@ fn help_number(alloc: Global, pickle: &[u8], at: usize) -> Result<Option<Vec<u8>
     let word = bytes_between(rest, 0, word_length(rest));
     let help = match word {
         [.., b'K' | b'M' | b'G', b'b' | b'B'] | [.., b'i', b'b' | b'B'] => {
-            "units are `b`, `B` and whole numbers of bits behind `#`: write 4 KiB as `4#8192`"
+            "units are `b`, `B` and whole numbers of bits after `#`: write 4 KiB as `4#8192`"
         }
-        [b'0', b'b' | b'B' | b'o' | b'O', ..] => "behind `0b` stand 0 and 1, behind `0o` 0 to 7",
+        [b'0', b'b' | b'B' | b'o' | b'O', ..] => "digits after `0b` are 0 and 1, after `0o` 0 to 7",
         [digits @ .., b'B'] if is_unit(pickle, at) => return help_unit(alloc, digits),
         _ => match digits_help(alloc, word)? {
             Some(help) => return Ok(Some(help.into_bytes())),
@@ -325,7 +325,7 @@ fn help_suffix(alloc: Global, word: &[u8], negated: bool) -> Result<Option<Vec<u
         if is_digits(word) {
             "a number has at most 64 bits: the greatest is `18446744073709551615U`"
         } else {
-            "behind the digits stand `U` for a number without a sign, and `N`, `B`, `H` or `L` for 4, 8, 16 or 64 bits"
+            "after the digits may come `U` for a number without a sign, and `N`, `B`, `H` or `L` for 4, 8, 16 or 64 bits"
         },
     )
 }

@@ -35,7 +35,7 @@ pub fn limit_note(alloc: Global, script: &Script<'_>, limit: Limit) -> Result<No
     };
     let help = match limit {
         Limit::Depth => way_out(script, token),
-        Limit::Count => "declare some of the fields as a type of their own",
+        Limit::Count => "declare some of the fields as a separate type",
     };
     Ok(Note {
         at: script.first(token),

@@ -151,7 +151,7 @@ impl<'a, 't> IllTypedExpression<'a, 't> {
         {
             let text = text
                 .quote(word)?
-                .say(b" stands later: only the fields before are seen")?;
+                .say(b" comes later: only the fields before are seen")?;
             return Ok(Some(text));
         }
         if let Some(help) = self.closed_help(word, visible)? {

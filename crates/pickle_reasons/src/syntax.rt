@@ -48,11 +48,11 @@ pub fn syntax_note(alloc: Global, script: &Script<'_>, at: usize) -> Result<Note
 fn sentence(found: &[u8], front: &Front<'_>, expected: Expected) -> Result<Vec<u8>, AllocError> {
     let text = Text::new(front.alloc);
     let text = if found.is_empty() {
-        text.say(b"the pickle ends, where ")?
+        text.say(b"found the end of the pickle, expected ")?
     } else {
-        text.say(b"found ")?.quote(found)?.say(b", where ")?
+        text.say(b"found ")?.quote(found)?.say(b", expected ")?
     };
-    let text = say_expected(text, front, expected)?.say(b" may stand")?;
+    let text = say_expected(text, front, expected)?;
     Ok(text.into_bytes())
 }
 
@@ -64,7 +64,7 @@ fn brief_note(alloc: Global, found: &[u8], note: Note) -> Result<Note, AllocErro
     } else {
         text.say(b"found ")?
             .quote(found)?
-            .say(b", which may not stand here")?
+            .say(b", which is unexpected here")?
     };
     Ok(Note {
         at: note.at,
@@ -120,7 +120,7 @@ fn missing_value(
     if !matches!(script.text(token), b"]" | b")" | b"}" | b";") {
         return Ok(None);
     }
-    let text = Text::new(front.alloc).say(b"is a value missing behind ")?;
+    let text = Text::new(front.alloc).say(b"is a value missing after ")?;
     let text = text.quote(script.text_before(token))?.say(b"?")?;
     Ok(Some(text.into_bytes()))
 }
@@ -164,7 +164,7 @@ fn closing_help(
     if first.is_empty() || !front.goes_on(parted.as_slice())? {
         return Ok(None);
     }
-    Ok(Some(Text::new(front.alloc).say(b"part the two `>` by a blank")?))
+    Ok(Some(Text::new(front.alloc).say(b"separate the two `>` by a blank")?))
 }
 
 /// The tokens from the last `offset<` before a token on.
@@ -291,7 +291,7 @@ fn missing(
             let text = Text::new(front.alloc)
                 .say(b"is a ")?
                 .quote(sign)?
-                .say(b" missing behind ")?;
+                .say(b" missing after ")?;
             let text = text.quote(script.text(before))?.say(b"?")?;
             Ok(Some(text.into_bytes()))
         }

@@ -259,8 +259,8 @@ fn of_base(declared: Declared<'_, '_>, base: TokenRange) -> Result<Finding, Allo
         }
         FaultKind::Mismatch => {
             let part = name_of(script, base);
-            let text = text.say(b"an integer type stands here, and ")?;
-            let text = text.quote(script.slice(part))?.say(b" is none")?;
+            let text = text.say(b"an integer type must come here, and ")?;
+            let text = text.quote(script.slice(part))?.say(b" isn't one")?;
             Ok(Finding {
                 part,
                 sentence: text.into_bytes(),
@@ -341,7 +341,7 @@ pub fn unknown_type(
 
 /// What to write for a struct with a name before its brace.
 const NAMELESS: &str =
-    "write `struct { .. }`, without the name: a field's name stands behind the brace, as `struct { .. } x;`";
+    "write `struct { .. }`, without the name: a field's name comes after the brace, as `struct { .. } x;`";
 
 /// The first token behind a name, or behind a `:` that follows it.
 fn token_behind(script: &Script<'_>, name: TokenRange) -> usize {
@@ -362,7 +362,7 @@ fn is_type_behind(script: &Script<'_>, name: TokenRange, known: &[&[u8]]) -> boo
 /// The help for a field with its name before its type.
 fn turned_round(alloc: Global, script: &Script<'_>, name: TokenRange) -> Result<Text, AllocError> {
     let form = script.text(token_behind(script, name));
-    let text = Text::new(alloc).say(b"the type stands before the name: write `")?;
+    let text = Text::new(alloc).say(b"the type comes before the name: write `")?;
     let text = text.show(form)?.say(b" ")?.show(script.slice(name))?;
     text.say(b";`")
 }
@@ -609,7 +609,7 @@ fn misplaced_part(field: LocatedField<'_, '_>, wide: bool) -> (TokenRange, &'sta
     if field.field.order.is_some() && (integral || !wide) {
         return (
             parts.order,
-            "`big` and `little` stand only before integers, offsets and integral structs, and not inside an integral struct",
+            "`big` and `little` come only before integers, offsets and integral structs, and not inside an integral struct",
         );
     }
     if parts.label.first < parts.label.end {
@@ -628,8 +628,8 @@ fn misplaced_part(field: LocatedField<'_, '_>, wide: bool) -> (TokenRange, &'sta
 fn rule_of(kind: FaultKind) -> &'static str {
     match kind {
         FaultKind::UnknownType => "a type is named that isn't declared before",
-        FaultKind::DuplicateType => "the name of this type is taken",
-        FaultKind::UnknownName => "a name is used that no field has that is seen",
+        FaultKind::DuplicateType => "the name of this type is already used",
+        FaultKind::UnknownName => "no field of this name is seen here",
         FaultKind::DuplicateField => "two fields have one name",
         FaultKind::Mismatch => "an expression or a type isn't of the kind that its place asks for",
         FaultKind::Width =>

@@ -48,7 +48,7 @@ fn note(
 ) -> Result<Note, AllocError> {
     let sentence = Text::new(seen.alloc)
         .quote(seen.script.slice(alternative.name))?
-        .say(b" is never taken: ")?
+        .say(b" never matches: ")?
         .quote(seen.script.slice(before.name))?
         .say(b" before it has no constraint, so it always matches")?;
     let help = Text::new(seen.alloc)

@@ -8,7 +8,7 @@ use poke_batch::status::Status;
 use poke_batch::words::{Asked, Job};
 
 /// The line that says it.
-const HINT: &[u8] = b"(--why tells more)\n";
+const HINT: &[u8] = b"(--why says more)\n";
 
 /// Whether a job's command has no option `--why`.
 pub fn lacks_why(job: &Job) -> bool {

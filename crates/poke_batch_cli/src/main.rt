@@ -106,7 +106,7 @@ fn read_job(rt: &HostRuntime) -> Result<Asked, WordFault> {
     let read = read_asked(rt.alloc(), words);
     if let Some(place) = first {
         if unread_files(&read) != unread {
-            let text = format!(in rt.alloc(); "error: word {place} is not UTF-8\n")?;
+            let text = format!(in rt.alloc(); "error: argument {place} is not UTF-8\n")?;
             return Err(WordFault::Usage(text));
         }
     }

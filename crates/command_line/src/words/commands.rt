@@ -193,7 +193,7 @@ Exit status:
 
 const FORMATS_HELP: &str = "\
 Each pickle has a line: its name, a tab, the type to map, a tab, the options to map it with, a tab, and a sentence. A pickle
-that is named png is read by +png in the place of PICKLE. The pickles are in the folder that POKE_BATCH_PICKLES names, else
+that is named png is read by +png instead of a path. The pickles are in the folder that POKE_BATCH_PICKLES names, else
 in ../share/poke_batch/pickles from the program.
 
 Example:
