@@ -1,4 +1,4 @@
--- What is found along the ways from a type to its parts, in the table that has these types.
+-- What is found along the steps from a type to its parts, in the table that has these types.
 use Rattle.std.specs.Prelude.{ℕ, List, map, Option, Some, None, IfErr}
 use Rattle.bit_space.specs.SpaceView.{SpaceView}
 use Rattle.pickle_types.specs.declared.node.Node.{Node}
@@ -20,14 +20,14 @@ use Rattle.fault_report.specs.Ways.{LeadsTo, IsWayTo}
 abbrev pub scene_type : Scene → PokeType
 scene_type scene = type_of scene.nodes.now scene.root
 
--- the places of steps, and those of a way's
+-- the places of steps, and of the steps of a path
 abbrev pub places_of : List WayStep → List ℕ
 places_of steps = map (λ step. step.place) steps
 
 abbrev pub way_places : Way → List ℕ
 way_places way = places_of way.steps.items
 
--- what was found at the end of a way is a part of the type at a place of the table, with the path to it
+-- what was found at the end of a path is a part of the type at a place of the table, with the path to it
 abbrev pub IsPartOf : List Node → (root : ℕ) → Way → FoundPart → Type 0
 IsPartOf nodes root way part = IsWayTo (type_of nodes root) (way_places way) part.path.items (type_of nodes part.node)
 

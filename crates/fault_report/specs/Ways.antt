@@ -1,4 +1,4 @@
--- Ways from a type to its parts, with the paths that the mode `lines` prints.
+-- Steps from a type to its parts, with the paths that the mode `lines` prints.
 use Rattle.std.specs.Prelude.{◌≡◌, ℕ, zero, suc, List, [], ◌∷◌, ◌++◌, Option, Some, None}
 use Rattle.pickle_types.specs.Types.{PokeType, IntegerOf, OffsetOf, StringOf, ArrayOf, StructOf, IntegralOf, UnionOf, Fields, NoFields, FieldThen, Parts, NoParts, PartThen}
 use Rattle.value_text.specs.PathText.{field_step, path_text}

@@ -61,7 +61,7 @@ pub data TellsMissing (text : Text) : Type 0 where
   tells_missing : (path rest : List ℕ) →
       text.bytes.items ≡ codes "  " ++ (path ++ (codes " is there" ++ rest)) → TellsMissing text
 
--- a line on what is left behind the value
+-- a line on the rest of the file after the value
 pub data TellsRoom (text : Text) : Type 0 where
   tells_room : (room : List ℕ) → text.bytes.items ≡ codes "  " ++ (room ++ (codes "\n" ++ [])) → TellsRoom text
 
@@ -95,7 +95,7 @@ is_of_value NoSuchPart = true
 is_of_value (Output start) = true
 is_of_value ended = false
 
--- a finished run: the file, and how it is left after the run was explained; what the run was given, its terms, and its
+-- a finished run: the file, and its state after the run was explained; what the run was given, its terms, and its
 -- outcome
 pub record Run : Type 0 where
   pub space : SpaceView
@@ -163,7 +163,7 @@ TellsOfValue run scene made =
     HasValue run.space (scene_type scene) run.ask → IfOk made (λ text. TellsWhy run (scene_type scene) text.items)
 
 -- What is printed about a run from its pickle: the above for the type of the requested name. Nothing where the pickle
--- is refused, for more than want of memory, or has no such type.
+-- is refused for another reason than an allocation failure, or has no such type.
 pub data ExplainsRun (pickle : List ℕ) (run : Run) : List ℕ → Type 0 where
   explains : {type : PokeType} {text : List ℕ} → IsAsked pickle run.ask.name.now type → TellsWhy run type text →
       ExplainsRun pickle run text

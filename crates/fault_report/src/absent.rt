@@ -72,7 +72,8 @@ fn say_absent(
     }
 }
 
-// The member on the way to the first absent part, with its place, where a step leads on. None if the step leads to no part.
+// The member on the path to the first absent part, with its place, where a step leads on. None if the step leads to no
+// part.
 fn lacking_member<'a>(
     part: Typed<'a>,
     line: Line<'_>,

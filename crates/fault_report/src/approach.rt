@@ -1,4 +1,4 @@
-//! What a watcher stores on the way to the part with a fault.
+//! What a watcher stores on the path to the part with a fault.
 
 ghost use Rattle.pickle_types.specs.Sound.{IsSoundTerm};
 ghost use Rattle.pickle_types.specs.Table.{term_of};
@@ -19,7 +19,7 @@ use std::alloc::{AllocError, Global};
 /// The most bounds and labels that are printed.
 const MOST_LEADS: usize = 2;
 
-/// A watcher of the search for the part with a fault. For the fault `End` it stores the bounds and labels on the way;
+/// A watcher of the search for the part with a fault. For the fault `End` it stores the bounds and labels on the path;
 /// of a union that no alternative fits it stores the expressions that aren't met.
 #[derive(Drop)]
 pub struct Approach<'t> {
@@ -38,7 +38,7 @@ pub struct Approach<'t> {
     starved: bool,
 }
 
-/// What was stored on the way to a part.
+/// What was stored on the path to a part.
 #[derive(Drop)]
 pub struct Approached {
     /// The last bounds and labels, the outermost first.
@@ -48,7 +48,7 @@ pub struct Approached {
 }
 
 impl<'t> Approach<'t> {
-    /// A watcher for the way of these steps.
+    /// A watcher for the path of these steps.
     pub fn new(
         alloc: Global,
         nodes: &'t [Node],

@@ -45,7 +45,7 @@ fn fault_texts(seen: Seen<'_>, e: &Resolved, kind: MapFaultKind) -> Result<Said,
     })
 }
 
-/// A bound or a label on the way to a part, with its value. `None` if it has no value, or no names that have any.
+/// A bound or a label on the path to a part, with its value. `None` if it has no value, or no names that have any.
 pub fn lead(
     seen: Seen<'_>,
     clause: Clause,

@@ -65,9 +65,9 @@ impl Fault {
 /// What is around a part with a fault.
 #[derive(Drop)]
 pub struct Around {
-    /// The last bounds and labels on the way to the part, the outermost first.
+    /// The last bounds and labels on the path to the part, the outermost first.
     pub leads: Vec<Lead>,
-    /// The last fields in front of the part, each with its value, such as `n=2UB`.
+    /// The last fields before the part, each with its value, such as `n=2UB`.
     pub front: Vec<Vec<u8>>,
     /// The byte order in which the part's constraint would hold, if that is the other one.
     pub fits: Option<Order>,
@@ -99,7 +99,7 @@ impl Around {
     }
 }
 
-/// A bound or a label on the way to a part.
+/// A bound or a label on the path to a part.
 #[derive(Drop)]
 pub struct Lead {
     /// The path to the array or field that has it.

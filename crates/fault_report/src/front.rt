@@ -1,4 +1,4 @@
-//! The fields in front of a part, with their values.
+//! The fields before a part, with their values.
 
 use crate::flat::say_value;
 use crate::way::WayStep;
@@ -7,7 +7,7 @@ use pickle_source::text::Text;
 use pickle_types::view::{Field, Name, Node, Part, Shape};
 use std::alloc::{AllocError, Global};
 
-/// The most fields in front of a part that are printed.
+/// The most fields before a part that are printed.
 const MOST_FIELDS: usize = 8;
 
 /// The frames that are open around a part, and their values.
@@ -18,7 +18,7 @@ struct Frames<'a> {
     store: &'a Store,
 }
 
-/// The last named fields in front of a part, of the structs that it is in, each with its value, such as `n=2UB`. Steps
+/// The last named fields before a part, of the structs that it is in, each with its value, such as `n=2UB`. Steps
 /// lead to the part, and the store has a frame for each of them. `inner` frames more are open in the part itself.
 pub fn front(
     alloc: Global,

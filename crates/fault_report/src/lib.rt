@@ -64,7 +64,7 @@ use std::alloc::{AllocError, Global};
 use text_output::mode::Mode;
 use value_text::typed::{Typed, Types};
 
-/// What is said of a run beside its line.
+/// What is printed about a run, besides its line.
 #[derive(Drop)]
 pub struct Explained {
     /// The lines that say why the mapping ended.
@@ -88,7 +88,7 @@ impl Explained {
 /// The lines that say why a mapping of a type over a file had its outcome or, if it is done, which arrays ended early.
 /// Bytes outside 0x20 to 0x7e are escaped in these lines.
 ///
-/// The type is mapped again. If that mapping doesn't end so, the result is empty.
+/// The type is mapped again. If that mapping doesn't have the same outcome, the result is empty.
 pub fn reasons<S: Space>(
     alloc: Global,
     pickle: Pickle<'_>,
@@ -118,7 +118,7 @@ pub fn reasons<S: Space>(
     Ok(reasons)
 }
 
-/// What is said of a run with a refused pickle: nothing. An error if it is refused for want of memory.
+/// What is printed about a run with a refused pickle: nothing. An error if the refusal is an allocation failure.
 fn none_refused(alloc: Global, refusal: Refusal) -> Result<Explained, AllocError>
     ensures text { IfOk result (λ reasons. reasons.text.items ≡ []) }
     ensures refused { IfOk result (λ _. refusal ≢ Memory) }
@@ -238,7 +238,7 @@ fn value_reasons(
 }
 
 /// The lines on a mapping that stopped, if the run's outcome is its fault. An error if it isn't, and the mapping stopped
-/// for want of memory.
+/// at an allocation failure.
 fn fault_reasons(
     scene: &Scene<'_, '_>,
     ask: &Ask<'_>,
@@ -260,7 +260,8 @@ fn fault_reasons(
     Ok(text)
 }
 
-/// What is said of a mapping that stopped otherwise than its run: nothing. An error if it stopped for want of memory.
+/// What is printed about a mapping that stopped otherwise than its run: nothing. An error if it stopped at an
+/// allocation failure.
 fn none_stopped(alloc: Global, kind: MapFaultKind) -> Result<Vec<u8>, AllocError>
     ensures text { IfOk result (λ text. text.items ≡ []) }
     ensures kind { IfOk result (λ _. kind ≢ faults.Memory) }

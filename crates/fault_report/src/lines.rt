@@ -137,7 +137,7 @@ fn say_said(text: Text, said: &Said) -> Result<Text, AllocError> {
     say_names(text.say(said.wrong.as_slice())?, said.names.as_slice())
 }
 
-/// Adds the lines on the bounds and labels on the way to a part to the text, the innermost first.
+/// Adds to the text the lines on the bounds and labels on the path to a part, the innermost first.
 fn say_leads(scene: &Scene<'_, '_>, text: Text, leads: &[Lead]) -> Result<Text, AllocError>
     requires table { IsTable scene.now.nodes.now }
     requires root { scene.now.root < length scene.now.nodes.now }
@@ -170,7 +170,7 @@ fn say_lead(scene: &Scene<'_, '_>, text: Text, lead: &Lead) -> Result<Text, Allo
     say_room(text.say(b", and ")?, left)?.say(b"\n")
 }
 
-/// Adds how many bytes are left to the text, or how many bits if the last of them isn't a whole byte.
+/// Adds to the text how many bytes remain, or how many bits if the last of them isn't a whole byte.
 pub fn say_room(text: Text, bits: u128) -> Result<Text, AllocError> {
     if bits & 7 != 0 {
         let are: &[u8] = if bits == 1 { b" is left" } else { b" are left" };
@@ -183,7 +183,7 @@ pub fn say_room(text: Text, bits: u128) -> Result<Text, AllocError> {
     }
 }
 
-/// Adds a line on the fields in front of a part to the text, except those that are in it already.
+/// Adds to the text a line on the fields before a part, except those that are in it already.
 fn say_front(scene: &Scene<'_, '_>, text: Text, fault: &Fault) -> Result<Text, AllocError> {
     let mut line = Text::new(scene.alloc);
     for name in fault.around.front.as_slice() {
@@ -289,7 +289,7 @@ fn say_end(
     }
 }
 
-/// Adds how many bits are left to the text.
+/// Adds to the text how many bits remain.
 fn say_left(text: Text, count: u128) -> Result<Text, AllocError> {
     match count {
         0 => text.say(b", and none is left\n"),
@@ -379,7 +379,7 @@ fn say_unmet(
     say_said(text.say(b" ")?, scene.texts_of(blamed, way)?)
 }
 
-/// The lines on the arrays that ended early. Those whose next element begins otherwise stand behind those that ended
+/// The lines on the arrays that ended early. Those whose next element begins otherwise come after those that ended
 /// inside an element. For a run without a fault these are only counted.
 pub fn arrays_text(scene: &Scene<'_, '_>, kept: &Kept, is_faulty: bool) -> Result<Text, AllocError>
     requires table { IsTable scene.now.nodes.now }

@@ -4,7 +4,7 @@ use pickle_types::table::{Table, TypeId};
 use poke_batch::ask::Ask;
 use std::alloc::Global;
 
-/// The mapping of a type of a table, as a run was asked for it.
+/// The mapping of a type of a table, as a run requests it.
 #[derive(Clone, Copy)]
 pub struct TypeMapping<'a> {
     pub alloc: Global,

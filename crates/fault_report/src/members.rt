@@ -1,4 +1,4 @@
-//! What a value has where a path asks for something else.
+//! What a value has where a path requests something else.
 
 use pickle_map::{Kind, ValueRef};
 use pickle_source::near::nearest;
@@ -77,7 +77,7 @@ fn say_names(text: Text, names: &[&[u8]]) -> Result<Text, AllocError> {
     }
 }
 
-/// What stands in front of a name in a list.
+/// What comes before a name in a list.
 fn joint(place: usize, last: bool) -> &'static [u8] {
     match (place, last) {
         (0, _) => b"",

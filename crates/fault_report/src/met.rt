@@ -69,7 +69,8 @@ impl TypeMapping<'_> {
 }
 
 impl Stopped<'_> {
-    /// Adds the lines of the value at a depth of the way to the part with the fault. At the last depth that is the part.
+    /// Adds the lines of the value at a depth of the path to the part with the fault. At the last depth that is the
+    /// part.
     fn say_value(self, text: Text, depth: usize) -> Result<Text, AllocError> {
         let text = self.say_place(text, depth)?;
         let text = say_indent(text, depth)?.say(b" ")?;

@@ -51,7 +51,7 @@ fn say_first_missing(
     Ok(text)
 }
 
-/// What is printed of a step that leads to no part, behind the path to the part from which it leads.
+/// What is printed of a step that leads to no part, after the path to the part from which it leads.
 fn say_behind(
     alloc: Global,
     part: ValueRef<'_>,

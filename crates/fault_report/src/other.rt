@@ -14,11 +14,11 @@ use pickle_map::{MapFault, MapFaultKind, Store, map};
 /// The most steps that the mapping in the other byte order takes. They suffice for the first bits.
 const FEW_STEPS: u64 = 4096;
 
-/// How many bits behind a mapping's start are its first ones: those of the head of a file or of a file system.
+/// How many bits after a mapping's start are its first ones: those of the head of a file or of a file system.
 const FIRST_BITS: u128 = 16_384;
 
 impl TypeMapping<'_> {
-    /// The other byte order, if the type's fault is a constraint in the first bits, and the mapping goes on behind it in
+    /// The other byte order, if the type's fault is a constraint in the first bits, and the mapping goes on after it in
     /// the other one; or if the fault is End, and the mapping has no fault in the other one.
     pub fn other_order<S: Space>(
         self,
@@ -70,7 +70,7 @@ fn opposite(order: Order) -> Order {
     }
 }
 
-/// Whether a mapping went on behind the place of an earlier fault.
+/// Whether a mapping went on after the place of an earlier fault.
 fn is_behind(other: MapFault, fault: MapFault) -> bool {
     match other.kind {
         MapFaultKind::Limit => true,

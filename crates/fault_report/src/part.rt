@@ -190,7 +190,7 @@ fn with_stop(part: Fault, ask: &Ask<'_>, fault: MapFault) -> Option<Fault> {
     }
 }
 
-/// The last fields in front of a part.
+/// The last fields before a part.
 fn front_of(
     alloc: Global,
     table: &Table,

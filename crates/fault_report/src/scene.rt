@@ -34,7 +34,7 @@ pub struct Scene<'p, 't> {
 }
 
 impl<'p, 't> Scene<'p, 't> {
-    /// The part of the type to which a way leads, with its path. `None` if there is no such part.
+    /// The part of the type to which steps lead, with its path. `None` if there is no such part.
     pub fn find(&self, way: &Way) -> Result<Option<FoundPart>, AllocError>
         requires table { IsTable self.now.nodes.now }
         requires root { self.now.root < length self.now.nodes.now }

@@ -94,7 +94,7 @@ fn selected_text(
     }
 }
 
-/// The line that says how many bytes are left behind a value.
+/// The line that says how many bytes remain after a value.
 fn left_text(alloc: Global, value: ValueRef<'_>, bits: u64) -> Result<Text, AllocError>
     ensures { IfOk result TellsRoom }
 {
@@ -129,7 +129,7 @@ fn size_text(alloc: Global, value: Typed<'_>, terms: &Terms, mode: Mode) -> Resu
     ensures { IfOk result TellsSize }
 {
     let mut counter = Counter { bytes: 0 };
-    // The counter takes each byte, so this doesn't fail.
+    // The counter accepts each byte, so this doesn't fail.
     let _printed = print_under(value, mode, terms, &mut counter);
     let count = Text::new(alloc)
         .say_number(counter.bytes as usize)?

@@ -96,12 +96,12 @@ impl Trail {
         let _left = self.levels.pop();
     }
 
-    /// The way to the part that is under way or, if no part of the innermost level has begun, to that level itself.
+    /// The path to the part that is under way or, if no part of the innermost level has begun, to that level itself.
     pub fn way(&self, alloc: Global) -> Result<Way, AllocError> {
         way_along(alloc, self.levels.as_slice())
     }
 
-    /// The way to the innermost level itself.
+    /// The path to the innermost level itself.
     pub fn way_to_innermost(&self, alloc: Global) -> Result<Way, AllocError> {
         match self.levels.as_slice() {
             [outer @ .., _] => way_along(alloc, outer),
@@ -110,7 +110,7 @@ impl Trail {
     }
 }
 
-/// The way through levels, to the part of the last that is under way.
+/// The path through levels, to the part of the last that is under way.
 fn way_along(alloc: Global, levels: &[Level]) -> Result<Way, AllocError> {
     let mut way = Way::new(alloc);
     for level in levels {

@@ -25,7 +25,7 @@ pub const MOST_MISSES: usize = 16;
 /// What is stored during a mapping.
 ///
 /// After a fault the trail is still whole when the first of `stop`, `end`, `miss` and `refuse` is called. That call
-/// stores the way to the part, and the later calls find it stored.
+/// stores the path to the part, and the later calls find it stored.
 #[derive(Drop)]
 pub struct Told<'t> {
     alloc: Global,

@@ -24,7 +24,7 @@ pub struct WayStep {
     pub place: usize,
 }
 
-/// The steps from a type to a part of it. Without steps it is the way to the type itself.
+/// The steps from a type to a part of it. Without steps it is the path to the type itself.
 #[derive(Drop)]
 pub struct Way {
     steps: Vec<WayStep>,
@@ -63,7 +63,7 @@ struct Walked {
 }
 
 impl Way {
-    /// The way to the type itself.
+    /// The path to the type itself.
     pub fn new(alloc: Global) -> Way
         ensures { way_places result ≡ [] }
     {
@@ -72,7 +72,7 @@ impl Way {
         }
     }
 
-    /// The way along places from the type at a place of the table.
+    /// The path along places from the type at a place of the table.
     pub fn along(
         alloc: Global,
         nodes: &[Node],
@@ -137,7 +137,7 @@ impl Way {
         Ok(steps)
     }
 
-    /// The part to which the way leads from the type at a place of the table, with its path as the mode `lines` prints
+    /// The part to which the steps lead from the type at a place of the table, with its path as the mode `lines` prints
     /// it. `None` if that type has no such part.
     pub fn find(
         &self,

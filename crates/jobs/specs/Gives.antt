@@ -1,10 +1,11 @@
--- What an opener gives for the words and paths of a job.
+-- What an opener gives for the arguments and paths of a job.
 use Rattle.std.specs.Prelude.{ℕ, List, Option}
 use Rattle.bit_space.specs.SpaceView.{SpaceView}
 use Rattle.jobs.specs.declared.fault.FileFault.{FileFault}
 
--- the pickles that words name, and why they name none; the files at paths, of which at most so many bytes are read into
--- memory if they have no length, and why there is none; the names for which words stand; the bytes of lists of names
+-- the pickles that arguments name, and why they name none; the files at paths, of which at most so many bytes are read
+-- into memory if they have no length, and why there is none; the names that arguments represent; the bytes of lists of
+-- names
 pub record Gives : Type 1 where
   pub is_pickle : (word bytes : List ℕ) → Type 0
   pub is_unread : (word : List ℕ) → FileFault → Type 0

@@ -84,7 +84,7 @@ notes_member (byte ∷ bytes) = some_notes (byte ∷ bytes)
 abbrev pub report_text : Outcome → (lines : List ℕ) → List ℕ
 report_text ended lines = codes "{" ++ (outcome_members ended ++ (notes_member lines ++ codes "}\n"))
 
--- an outcome is reported in JSON; that of a writer that failed is left to its line
+-- an outcome is reported in JSON; that of a failing writer is left to its line
 pub data Reports (ended : Outcome) (lines : List ℕ) (out out' : Option (List ℕ)) : Ending → Type 0 where
   reported : Appends out out' (report_text ended lines) → Reports ended lines out out' (Silent (outcome_status ended))
   report_cut : AppendsPart out out' (report_text ended lines) →

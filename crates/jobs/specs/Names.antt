@@ -7,7 +7,7 @@ use Rattle.command_line.specs.declared.request.FileNames.TheVariants.{Words, End
 use Rattle.jobs.specs.Gives.{Gives}
 use Rattle.std.specs.Io.BufRead.{first_piece, DropsThrough}
 
--- if the bytes of a list are known: a name is what they begin with, up to the first byte 0; the others are left
+-- if the bytes of a list are known: a name is what they begin with, up to the first byte 0; the bytes after it remain
 pub record IsNextName (list : Option (List ℕ)) (name : List ℕ) (rest : Option (List ℕ)) : Type 0 where
   pub some : IfSome list (λ bytes. 0 < length bytes)
   pub is : IfSome list (λ bytes. name ≡ first_piece 0 bytes)
@@ -20,7 +20,7 @@ pub data ReadsNames (list : Option (List ℕ)) : (rest : Option (List ℕ)) → 
       → IsNextName rest name rest'
       → ReadsNames list rest' (names ++ name ∷ [])
 
--- each word stands for a name
+-- each argument represents a name
 abbrev pub AreNamed : (IsName : (word name : List ℕ) → Type 0) → List (String Global) → (names : List (List ℕ)) → Type 0
 AreNamed IsName [] [] = Unit {0}
 AreNamed IsName [] (name ∷ names) = ⊥
@@ -35,7 +35,7 @@ pub record AreListed (IsList : Option (List ℕ) → Type 0) (names : List (List
   pub read : ReadsNames list rest names
   pub end : IsAtEnd rest
 
--- the names of files: those for which words stand, or those of the list at a path
+-- the names of files: those that arguments represent, or those of the list at a path
 abbrev pub AreNamesOf : Gives → FileNames → (names : List (List ℕ)) → Type 0
 AreNamesOf gives (Words words) = AreNamed gives.is_name words.items
 AreNamesOf gives (EndedByZero path) = AreListed (gives.is_list (string_bytes path))

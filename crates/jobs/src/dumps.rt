@@ -21,11 +21,11 @@ pub struct Range {
     pub size: u64,
     /// Whether the ruler is above them.
     pub ruler: bool,
-    /// Whether a line tells how many bytes the size leaves out.
+    /// Whether a line says how many bytes the size leaves out.
     pub tells_rest: bool,
 }
 
-/// Dumps bytes of the file at a path. `note` gets the line on the bytes that are left out, if that is to be told.
+/// Dumps bytes of the file at a path. `note` gets the line on the bytes that are left out, if that is to be printed.
 #[inline(never)]
 pub fn dump_file<P: Opener, O: Write>(
     alloc: Global,

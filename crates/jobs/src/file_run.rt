@@ -170,7 +170,7 @@ fn run_unopened<P: Opener, A: Aside, O: Write>(
     Ok(status)
 }
 
-// The line that tells why a file wasn't opened, if that is requested. If an allocation fails there is none.
+// The line that says why a file wasn't opened, if that is requested. If an allocation fails there is none.
 fn unopened_lines<P: Opener>(opener: &P, typed: Typed<'_>, name: &[u8], fault: FileFault) -> Vec<u8>
     ensures quiet { typed.entry.explains ≡ false → result.items ≡ [] }
 {

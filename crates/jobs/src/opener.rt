@@ -38,7 +38,7 @@ impl Lengthless {
 
 /// Reads the pickles and opens the files that arguments name.
 pub trait Opener {
-    /// What it gives for words and paths.
+    /// What it gives for arguments and paths.
     ghost gives: { Self → Gives };
 
     /// The space of a file.
@@ -58,7 +58,7 @@ pub trait Opener {
         ensures ok { IfOk result (λ space. (gives self.now).is_file path.now spool (Self.Bytes.view space)) }
         ensures err { IfErr result ((gives self.now).is_unopened path.now spool) };
 
-    /// The name of a file for which an argument stands.
+    /// The name of the file that an argument represents.
     fn file_name(&self, word: &str) -> Result<Vec<u8>, AllocError>
         ensures { IfOk result (λ name. (gives self.now).is_name word.now name.items) };
 

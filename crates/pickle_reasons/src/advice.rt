@@ -123,7 +123,7 @@ static DECLARATIONS: [Pattern; 23] = [
     },
 ];
 
-/// The first word of a declaration or field, in the place of the refused token.
+/// Patterns for the first word of a declaration or field, instead of the refused token.
 static OPENINGS: [Pattern; 36] = [
     Pattern {
         tokens: [b"", b"", b"var", b"NAME", b"=", b""],
@@ -558,7 +558,7 @@ const RESERVED_NAME: &str = "`$3` is a word of the language: choose another name
 const POINTER: &str =
     "there are no pointers: write the place as an integer, as `uint<32> at;`, and what is there after it, as `byte x @ at#B;`";
 
-/// In the place of an operand.
+/// Patterns for a refused token where an operand belongs.
 static VALUES: [Pattern; 15] = [
     Pattern {
         tokens: [b"", b"", b"#", b"", b"", b""],
@@ -631,7 +631,7 @@ const TYPE_INSIDE: &str = "`type` is a reserved word; types are declared outside
 /// What to write for a reserved word.
 const NO_NAME: &str = "`$3` is a reserved word, and no name: choose another, as `$3_`";
 
-/// Behind an operand.
+/// Patterns for a refused token after an operand.
 static OPERANDS: [Pattern; 9] = [
     Pattern {
         tokens: [b"", b"", b"=", b">", b"", b""],
@@ -671,7 +671,7 @@ static OPERANDS: [Pattern; 9] = [
     },
 ];
 
-/// Behind a type or a name, or in the place of one.
+/// Patterns for a refused token after a type or a name, or where one belongs.
 static FORMS: [Pattern; 26] = [
     Pattern {
         tokens: [b"", b"}", b"__attribute__", b"", b"", b""],

@@ -168,7 +168,7 @@ fn has_operator(script: &Script<'_>, part: TokenRange) -> bool {
     false
 }
 
-/// Whether a token binds weaker than a unit behind it.
+/// Whether a token binds weaker than a unit after it.
 fn is_operator(token: &[u8]) -> bool {
     !matches!(
         token,

@@ -27,7 +27,7 @@ pub fn digits_help(alloc: Global, word: &[u8]) -> Result<Option<Text>, AllocErro
     Ok(Some(text))
 }
 
-/// The help for what stands behind `0x`.
+/// The help for what comes after `0x`.
 fn hexadecimal_help(alloc: Global, digits: &[u8]) -> Result<Option<Text>, AllocError> {
     let plain = digits.iter().all(|byte| byte.is_ascii_hexdigit() || is_letter_of_suffix(*byte));
     if plain && digits.first().is_some() {
@@ -37,7 +37,7 @@ fn hexadecimal_help(alloc: Global, digits: &[u8]) -> Result<Option<Text>, AllocE
     Ok(Some(text))
 }
 
-/// Whether a byte is in a suffix of a number, or stands between digits.
+/// Whether a byte is in a suffix of a number, or separates digits.
 fn is_letter_of_suffix(byte: u8) -> bool {
     matches!(
         byte,
@@ -50,7 +50,7 @@ fn is_suffix(byte: u8) -> bool {
     matches!(byte, b'b' | b'B')
 }
 
-/// Whether decimal digits stand before and behind one `e`.
+/// Whether there are decimal digits before and after one `e`.
 fn has_exponent(word: &[u8]) -> bool {
     let Some(place) = word.iter().position(|byte| matches!(*byte, b'e' | b'E')) else {
         return false;

@@ -47,7 +47,7 @@ impl<'b> Front<'b> {
         })
     }
 
-    /// Whether the pickle may go on with some tokens. Also false if nothing is left of the budget.
+    /// Whether the pickle may go on with some tokens. Also false if the budget is used up.
     pub fn goes_on(&self, tokens: &[u8]) -> Result<bool, AllocError> {
         let text = Text::new(self.alloc).say(self.text.as_slice())?;
         let text = text.say(tokens)?.into_bytes();

@@ -11,7 +11,7 @@ use std::alloc::AllocError;
 const MOST_LETTERS: usize = 8;
 
 impl<'a, 't> IllTypedExpression<'a, 't> {
-    /// What to write instead of a text after `==` or `!=`, where an array or a number of as many bytes stands before it.
+    /// What to write instead of a text after `==` or `!=`, where an array or a number of as many bytes is before it.
     /// `None` for other operands, and for a long text or one with escapes.
     pub fn letters_help(self, operands: Operands) -> Result<Option<Text>, AllocError> {
         let OperandTypes { first, second, .. } = self.types;

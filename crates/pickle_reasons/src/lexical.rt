@@ -150,7 +150,7 @@ fn is_control(byte: u8) -> bool {
     byte < 0x20 && !matches!(byte, b'\t' | b'\n' | b'\r' | 0x0c)
 }
 
-/// What to write instead of an escape. `escape` is what stands behind its backslash.
+/// What to write instead of an escape. `escape` is what comes after its backslash.
 fn help_escape(alloc: Global, escape: &[u8]) -> Result<Option<Vec<u8>>, AllocError> {
     let Some(byte) = escape_value(escape) else {
         return Ok(None);
@@ -160,7 +160,7 @@ fn help_escape(alloc: Global, escape: &[u8]) -> Result<Option<Vec<u8>>, AllocErr
     Ok(Some(text.say(b"`")?.into_bytes()))
 }
 
-/// The byte that an escape of C stands for.
+/// The byte that an escape of C represents.
 fn escape_value(escape: &[u8]) -> Option<u8> {
     match escape {
         [b'a', ..] => Some(7),
@@ -202,7 +202,7 @@ pub fn say_hexadecimal(text: Text, bytes: &[u8]) -> Result<Text, AllocError> {
     Ok(text)
 }
 
-/// What to write instead of a quote that begins no character. `quoted` is what stands behind it.
+/// What to write instead of a quote that begins no character. `quoted` is what comes after it.
 fn help_quoted(alloc: Global, quoted: &[u8]) -> Result<Option<Vec<u8>>, AllocError> {
     let end = quoted
         .iter()
@@ -265,7 +265,7 @@ fn help_number(alloc: Global, pickle: &[u8], at: usize) -> Result<Option<Vec<u8>
     fixed_help(alloc, help)
 }
 
-/// Whether a number stands where the unit of an offset type does: behind a comma.
+/// Whether a number is where an offset type has its unit: after a comma.
 fn is_unit(pickle: &[u8], at: usize) -> bool {
     let mut before = bytes_between(pickle, 0, at).iter().rev();
     before.find(|byte| !byte.is_ascii_whitespace()) == Some(&b',')
@@ -292,7 +292,7 @@ fn bits_in(bytes: &str) -> Option<usize> {
     bytes.parse::<usize>().ok()?.checked_mul(8)
 }
 
-/// Whether a minus sign stands before a number.
+/// Whether a minus sign is before a number.
 fn is_negated(pickle: &[u8], at: usize) -> bool {
     bytes_between(pickle, at.saturating_sub(1), at) == b"-".as_slice()
 }

@@ -57,9 +57,9 @@ pub fn explanation(
     }
 }
 
-/// The lines that say why a pickle is refused, if it is refused so. For another refusal they are about some place of it.
-/// `path` is the path of the pickle. Bytes outside 0x20 to 0x7e are escaped in these lines. Their cost is bounded by a
-/// few checks of the pickle.
+/// The lines that say why a pickle is refused, if `refusal` is its refusal. For another refusal they are about some
+/// place of the pickle. `path` is the path of the pickle. Bytes outside 0x20 to 0x7e are escaped in these lines. Their
+/// cost is bounded by a few checks of the pickle.
 pub fn refusal_explanation(
     alloc: Global,
     pickle: &[u8],
@@ -73,7 +73,8 @@ pub fn refusal_explanation(
     note_text(alloc, pickle, called.as_slice(), &note)
 }
 
-/// The note about a refusal of a pickle, if it is refused so. For another refusal it is about some place of the pickle.
+/// The note about a refusal of a pickle, if `refusal` is its refusal. For another refusal it is about some place of the
+/// pickle.
 pub fn refusal_note(alloc: Global, pickle: &[u8], refusal: Refusal) -> Result<Note, AllocError> {
     if let Refusal::Tokens(kind, at) = refusal {
         return lexical_note(alloc, pickle, kind, at);

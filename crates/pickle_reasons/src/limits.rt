@@ -175,7 +175,7 @@ fn deep_token_in(
     Ok(low)
 }
 
-/// Whether the parser reports that something is too deep. Also false if nothing is left of the budget.
+/// Whether the parser reports that something is too deep. Also false if the budget is used up.
 fn is_too_deep(alloc: Global, front: &[u8], budget: &Budget) -> Result<bool, AllocError> {
     if !budget.take(front.len()) {
         return Ok(false);

@@ -1,4 +1,4 @@
-//! Fields of earlier fields whose types have declarations of their own.
+//! Fields of earlier fields whose types have separate declarations.
 
 use crate::clause::IllTypedExpression;
 use crate::names::is_field;
@@ -38,7 +38,7 @@ impl<'a, 't> IllTypedExpression<'a, 't> {
     }
 }
 
-/// The declared name of the type that stands before a token, if the token is a field's name.
+/// The declared name of the type that is before a token, if the token is a field's name.
 fn declared_type(script: &Script<'_>, token: usize) -> Option<usize> {
     let form = token.checked_sub(1)?;
     if !is_field(script, token) || !script.is_name(form) || is_predeclared(script.text(form)) {
@@ -47,7 +47,7 @@ fn declared_type(script: &Script<'_>, token: usize) -> Option<usize> {
     script.declaring_token(script.text(form))
 }
 
-/// Whether a declared struct or union has a field of a name. `declared` is the token of its own name.
+/// Whether a declared struct or union has a field of a name. `declared` is the token of the type's name.
 fn has_field(script: &Script<'_>, declared: usize, word: &[u8]) -> bool {
     let form = statement(script, declared.saturating_add(2), script.len());
     let ends = script.text_before(form.end) == b"}".as_slice();

@@ -171,7 +171,7 @@ fn path_before(script: &Script<'_>, end: usize) -> Option<TokenRange> {
     }
 }
 
-/// Adds a unit of so many bits to the text, as it is written behind a number.
+/// Adds a unit of so many bits to the text, as it is written after a number.
 fn say_unit(text: Text, unit: u32) -> Result<Text, AllocError> {
     match unit {
         1 => text.say(b"#b"),

@@ -11,12 +11,12 @@ const MOST_SHOWN: usize = 64;
 /// Tokens in a row, and what to write instead of them.
 #[derive(Clone, Copy)]
 pub struct Pattern {
-    /// Two tokens before the refused one, the refused one, and three behind it. An empty one is any token. A word in
+    /// Two tokens before the refused one, the refused one, and three after it. An empty one is any token. A word in
     /// capitals is any token of a kind: `NAME`, `TYPE`, `NUMBER`, `INTEGER`, `ORDER`, `RESERVED`, `OPEN`, `APART`.
     pub tokens: [&'static [u8]; 6],
-    /// The sentence. `$` and a digit stand for a part of the pickle: `$1` to `$6` for the six tokens, `$7` for the one
-    /// behind them, `$0` for the second of the declaration or field. `$8` is the declaration or field up to the refused
-    /// token, and `$9` its end from that token on.
+    /// The sentence. `$` and a digit represent a part of the pickle. `$1` to `$6` are the six tokens, `$7` is the one
+    /// after them, and `$0` is the second of the declaration or field. `$8` is the declaration or field up to the
+    /// refused token, and `$9` its end from that token on.
     pub help: &'static str,
 }
 
@@ -96,7 +96,7 @@ impl<'a, 't> Around<'a, 't> {
         Ok(text)
     }
 
-    /// The part of the pickle for which a digit stands in a sentence.
+    /// The part of the pickle that a digit represents in a sentence.
     fn part(self, digit: u8) -> &'t [u8] {
         let part = match digit {
             b'0' => TokenRange::single(self.first.saturating_add(1)),

@@ -125,7 +125,7 @@ fn missing_value(
     Ok(Some(text.into_bytes()))
 }
 
-/// Whether a token stands behind a comment with the start of another in it.
+/// Whether a token comes after a comment that has the start of another in it.
 fn is_behind_comments(script: &Script<'_>, token: usize) -> bool {
     let from = match token.checked_sub(1) {
         Some(before) => script.behind(before),
@@ -269,7 +269,7 @@ fn last_end(script: &Script<'_>) -> usize {
     }
 }
 
-/// The note for a sign that is missing before a token that begins a line or closes something, before a name behind a
+/// The note for a sign that is missing before a token that begins a line or closes something, before a name after a
 /// bound, or at the end.
 fn missing(
     script: &Script<'_>,

@@ -54,7 +54,7 @@ fn name_help(
     }
 }
 
-/// Whether a type is given in place of its name: the pickle is accepted if it declares the type at its end.
+/// Whether a type is given instead of its name: the pickle is accepted if it declares the type at its end.
 fn is_type(alloc: Global, pickle: &[u8], name: &[u8]) -> Result<bool, AllocError> {
     if !name.contains(&b'[') && !name.contains(&b'<') && !name.contains(&b'{') {
         return Ok(false);

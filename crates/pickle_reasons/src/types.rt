@@ -115,7 +115,7 @@ fn located_finding(declared: Declared<'_, '_>) -> Result<Finding, AllocError> {
     }
 }
 
-/// The finding for a part of which no more is told than the rule that it breaks.
+/// The finding for a part about which only the rule that it breaks is reported.
 pub fn rule_finding(declared: Declared<'_, '_>, part: TokenRange) -> Result<Finding, AllocError> {
     broken_rule(declared.alloc, declared.kind(), part)
 }
@@ -185,7 +185,7 @@ fn of_type(declared: Declared<'_, '_>) -> Result<Finding, AllocError> {
     }
 }
 
-/// The name of a type that is too deep to stand where it does, or that of the declaration.
+/// The name of a type that is too deep for its place, or that of the declaration.
 fn deep_part(declared: Declared<'_, '_>) -> TokenRange {
     match declared.located.form {
         Form::Reference(_) => declared.located.tokens,
@@ -343,7 +343,7 @@ pub fn unknown_type(
 const NAMELESS: &str =
     "write `struct { .. }`, without the name: a field's name comes after the brace, as `struct { .. } x;`";
 
-/// The first token behind a name, or behind a `:` that follows it.
+/// The first token after a name, or after a `:` that comes after the name.
 fn token_behind(script: &Script<'_>, name: TokenRange) -> usize {
     if script.text(name.end) == b":".as_slice() {
         name.end.saturating_add(1)
@@ -352,7 +352,7 @@ fn token_behind(script: &Script<'_>, name: TokenRange) -> usize {
     }
 }
 
-/// Whether a type stands behind a name, where the name of a field would.
+/// Whether a type comes after a name, where the name of a field would be.
 fn is_type_behind(script: &Script<'_>, name: TokenRange, known: &[&[u8]]) -> bool {
     let behind = token_behind(script, name);
     let ends = script.text(behind.saturating_add(1)) == b";".as_slice();
@@ -493,7 +493,7 @@ fn of_name(declared: Declared<'_, '_>) -> Result<Finding, AllocError> {
     })
 }
 
-/// What of a field may not be where it stands. `wide` says whether its type has a width in bits.
+/// The finding for the part of a field that may not be where it is. `wide` says whether its type has a width in bits.
 fn of_place(declared: Declared<'_, '_>, wide: bool) -> Result<Finding, AllocError> {
     let (alloc, script) = (declared.alloc, declared.script);
     let Some(field) = declared.located.field else {

@@ -74,7 +74,7 @@ fn is_positive(expression: &Expression<'_>) -> bool {
     }
 }
 
-/// The note about a field that is an array without a bound, if the next field is an integer for which nothing is left.
+/// The note about a field that is an array without a bound, if the next field is an integer for which nothing remains.
 /// The piece at `place` is the field's.
 pub fn unbounded_array(
     seen: &Seen<'_, '_>,

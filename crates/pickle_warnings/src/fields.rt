@@ -37,7 +37,7 @@ impl<'a, 't> Seen<'a, 't> {
     }
 
     /// The one field with a name that is seen: an earlier field, or the field itself. `None` if there is no such field, if
-    /// there are more, and if nothing is left of the budget.
+    /// there are more, and if the budget is used up.
     pub fn field(&self, name: &[u8], own: &FieldParts) -> Result<Option<FieldParts>, AllocError> {
         if !self.budget.take(self.outline.pieces.len() / 4) {
             return Ok(None);

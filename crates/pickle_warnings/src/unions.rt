@@ -1,4 +1,4 @@
-//! Alternatives of a union that are never taken.
+//! Alternatives of a union that never match.
 
 use crate::fields::{Seen, integer_of};
 use crate::outline::Piece;
@@ -8,9 +8,9 @@ use pickle_source::note::Note;
 use pickle_source::text::Text;
 use std::alloc::AllocError;
 
-/// The note about the first alternative of a union that is never taken. The piece at `place` is the head of the union.
+/// The note about the first alternative of a union that never matches. The piece at `place` is the head of the union.
 ///
-/// Only after a Constraint fault is the next alternative tried, so none is tried after one without constraints.
+/// The next alternative is tried only after a Constraint fault. No alternative is tried after one without constraints.
 pub fn never_taken(seen: &Seen<'_, '_>, place: usize) -> Result<Option<Note>, AllocError> {
     let Some(head) = seen.outline.pieces.get(place) else {
         return Ok(None);
@@ -40,7 +40,7 @@ pub fn never_taken(seen: &Seen<'_, '_>, place: usize) -> Result<Option<Note>, Al
     Ok(None)
 }
 
-/// The note about an alternative behind one that is always taken.
+/// The note about an alternative after one that always matches.
 fn note(
     seen: &Seen<'_, '_>,
     before: &FieldParts,

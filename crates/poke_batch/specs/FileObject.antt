@@ -35,7 +35,7 @@ abbrev pub result_members : Outcome → (text : List ℕ) → List ℕ
 result_members outcome.Done text = value_member text
 result_members ended text = outcome_members ended
 
--- a byte before the first line of some, or as a line of its own
+-- a byte before the first line of some, or as a separate line
 abbrev pub before_lines : (byte : ℕ) → List (List ℕ) → List (List ℕ)
 before_lines byte [] = (byte ∷ []) ∷ []
 before_lines byte (line ∷ lines) = (byte ∷ line) ∷ lines

@@ -133,7 +133,7 @@ abbrev pub each_text : {A : Type 0} → (text : A → List ℕ) → List A → L
 each_text text [] = []
 each_text text (one ∷ more) = text one ++ each_text text more
 
--- the text of a value by the types of a table: shown to the eye if a look is given, else in a mode and a style
+-- a value, printed by the types of a table: shown to the eye if a look is given, else in a mode and a style
 abbrev pub text_in : Option Look → Style → Mode → List Node → (chars node : Option ℕ) → Value → List ℕ
 text_in None style mode nodes chars node value = styled_printed nodes chars node style mode value
 text_in (Some look) style mode nodes chars node value = shown_in look nodes chars node value

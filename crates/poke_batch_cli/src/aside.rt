@@ -1,4 +1,4 @@
-//! What goes to standard error while many files are mapped.
+//! What is written to standard error while many files are mapped.
 use crate::progress::{Counted, Progress};
 use command_line::request::{FileNames, Over};
 use jobs::Aside;

@@ -1,4 +1,4 @@
-//! Why a file couldn't be opened, as the system tells it.
+//! Why a file couldn't be opened, as the system reports it.
 use crate::reason_text::{add, add_word};
 use jobs::Lengthless;
 use std::alloc::AllocError;

@@ -6,10 +6,10 @@ use std::rt::Env;
 /// The first size of the buffer for an argument, in bytes.
 const ROOM: usize = 256;
 
-/// What begins a word that stands for an argument which isn't UTF-8. No argument has this byte.
+/// What begins a word that represents an argument which isn't UTF-8. No argument has this byte.
 const STAND_IN: char = '\0';
 
-/// The arguments after the program's name. One that isn't UTF-8 is replaced by a word that stands for it.
+/// The arguments after the program's name. One that isn't UTF-8 is replaced by a word that represents it.
 pub fn given_words<R: Env + AllocGlobal>(rt: &R) -> Result<Vec<String>, AllocError> {
     let mut words = Vec::new(rt.alloc());
     for place in 1..usize::MAX {
@@ -21,7 +21,7 @@ pub fn given_words<R: Env + AllocGlobal>(rt: &R) -> Result<Vec<String>, AllocErr
     Ok(words)
 }
 
-/// The place of the argument that a word stands for, if it is such a word.
+/// The place of the argument that a word represents, if it is such a word.
 pub fn stands_for(word: &str) -> Option<usize> {
     word.strip_prefix(STAND_IN)?.parse().ok()
 }
@@ -52,7 +52,7 @@ fn word_at<R: Env + AllocGlobal>(rt: &R, place: usize) -> Result<Option<Vec<u8>>
     Err(AllocError)
 }
 
-// The text of an argument, or the word that stands for it.
+// The text of an argument, or the word that represents it.
 fn text_of<R: Env + AllocGlobal>(
     rt: &R,
     place: usize,

@@ -1,4 +1,4 @@
-//! The hint that `--why` tells more.
+//! The hint that `--why` says more.
 use command_line::request::{Form, Over};
 use jobs::Ending;
 use poke_batch::accept::Refusal;
@@ -15,7 +15,7 @@ pub fn lacks_why(job: &Job) -> bool {
     matches!(job, Job::Formats | Job::Dump { .. })
 }
 
-/// The endings of a job about which its option `--why` tells more.
+/// The endings of a job about which its option `--why` says more.
 #[derive(Clone, Copy, PartialEq, Eq)]
 pub enum Explained {
     /// None: the job has no such option, or it was given, or the ending isn't printed in words.
@@ -67,7 +67,7 @@ impl Explained {
     }
 }
 
-// Whether an outcome has a reason that `--why` tells.
+// Whether an outcome has a reason that `--why` prints.
 fn has_reason(outcome: Outcome) -> bool {
     match outcome {
         Outcome::Done | Outcome::Refused(Refusal::Memory) => false,

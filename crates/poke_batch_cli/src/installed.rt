@@ -13,7 +13,7 @@ const VARIABLE: &str = "POKE_BATCH_PICKLES";
 /// Their folder if the variable isn't set or is empty, relative to the folder above the program's own.
 const SHARED: &str = "/share/poke_batch/pickles";
 
-/// What is told where no folder is known.
+/// What is printed where no folder is known.
 const NO_FOLDER: &[u8] = b"  no folder of pickles is known: set POKE_BATCH_PICKLES\n";
 
 /// How the name of a pickle's file ends.

@@ -124,7 +124,7 @@ fn tell_file<R: Files<File = File>>(
     }
 }
 
-// Adds why the pickle that an argument names wasn't read. Of standard input the system tells nothing.
+// Adds why the pickle that an argument names wasn't read. The system reports nothing about standard input.
 fn tell_unread<R: Files<File = File> + Env + AllocGlobal + Clone + Drop>(
     rt: &R,
     word: Option<&str>,

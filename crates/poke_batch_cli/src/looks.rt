@@ -7,7 +7,7 @@ use std::env;
 use std::io::IsTerminal;
 use std::rt::Env;
 
-/// The environment variable that asks for no colour, if it is there and isn't empty.
+/// The environment variable that requests no colour, if it is there and isn't empty.
 const NO_COLOR: &str = "NO_COLOR";
 
 /// Gives a job that shows a value its look. Such a job explains a fault too.

@@ -112,10 +112,10 @@ fn read_job(rt: &HostRuntime) -> Result<Asked, WordFault> {
     }
     let mut asked = read?;
     asked.why |= always_explains(rt);
-    // A command without `--why` tells somebody at a terminal anyway.
+    // A command that has no option `--why` prints its reasons to a terminal anyway.
     asked.why |= lacks_why(&asked.job) && rt.stderr().is_terminal();
     give_look(rt, &rt.stdout(), &mut asked);
-    // What a dump leaves out is told to somebody at a terminal only.
+    // What a dump leaves out is printed to a terminal only.
     asked.default_size &= rt.stderr().is_terminal();
     give_progress(
         rt.stdout().is_terminal(),

@@ -49,7 +49,7 @@ pub fn tell_offset(words: &[String], text: &mut Vec<u8>) -> Result<(), AllocErro
     Ok(())
 }
 
-/// Adds which offsets have a sign, and what to write, to a text. clap takes such a value for another option.
+/// Adds which offsets have a sign, and what to write, to a text. clap reads such a value as another option.
 pub fn tell_signed(words: &[String], text: &mut Vec<u8>) -> Result<(), AllocError> {
     for (place, word) in words.iter().enumerate() {
         let next = words.get(place.saturating_add(1));

@@ -1,4 +1,4 @@
-//! Why arguments are a usage error, where clap's message doesn't tell what to write.
+//! Why arguments are a usage error, where clap's message doesn't say what to write.
 use crate::offset_reasons::tell_signed;
 use crate::reason_text::{add, add_word};
 use command_line::path::{PathFault, read_path};
@@ -30,7 +30,7 @@ pub fn tell_usage(alloc: Global, words: &[String], text: &mut Vec<u8>) -> Result
 }
 
 /// Writes the message of a usage error. If it is explained, clap's tip to write `--` before a word is left out: the word
-/// would then stand where no such word belongs.
+/// would then be where no such word belongs.
 pub fn put_usage<E: Write>(text: &str, explained: bool, err: &mut E) -> Result<(), WriteFault> {
     if explained {
         if let Some((front, tip)) = text.split_once(TIP) {
@@ -69,7 +69,7 @@ fn path_in<'a>(word: &'a str, next: Option<&'a String>) -> Option<&'a str> {
     rest.strip_prefix('=')
 }
 
-// Whether `--get` takes a pattern: that of `map`, unless it is the column of a row.
+// Whether `--get` accepts a pattern: that of `map`, unless it is the column of a row.
 fn takes_patterns(words: &[String]) -> bool {
     let maps = words.first().is_some_and(|word| word.as_str() == "map");
     maps && !words.iter().any(|word| word.starts_with("--rows"))
@@ -99,7 +99,7 @@ fn tell_path(
     add(text, &["\n"])
 }
 
-// Whether a word hasn't the form of a path or, if that may stand there, of a pattern.
+// Whether a word doesn't have the form of a path or, if that may be there, of a pattern.
 fn is_no_path(alloc: Global, word: &str, patterns: bool) -> Result<bool, AllocError> {
     let word = word.as_bytes();
     let fault = if patterns {

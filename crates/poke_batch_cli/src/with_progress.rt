@@ -52,7 +52,7 @@ impl<S: Space, C: Clock, E: Write> Space for ShownSpace<S, C, E> {
     }
 }
 
-/// A writer that clears the line of a progress before it writes, so that neither stands on the other's line. After its
+/// A writer that clears the line of a progress before it writes, so that neither is on the other's line. After its
 /// first failure it writes nothing more: what gathers an answer offers the bytes of a failed write again.
 #[derive(Drop)]
 pub struct ClearedWriter<O: Write, E: Write> {

@@ -128,7 +128,7 @@ greater a b = record { text = max a.text b.text; lines = max a.lines b.lines }
 abbrev pub repeated : (count : ℕ) → Size → Size
 repeated count each = record { text = count * each.text; lines = count * each.lines }
 
--- what stands for so many elements that are left out, from a place and a bit on and over so many bits
+-- what represents so many elements that are left out, from a place and a bit on and over so many bits
 abbrev pub more_room : Mode → (left place from bits : ℕ) → ℕ
 more_room Flat left place from bits = length (more_member false left)
 more_room Tree left place from bits = length (more_line 1 left)

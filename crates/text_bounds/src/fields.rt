@@ -226,7 +226,7 @@ fn elements_size(form: Form, bits: u64, count: u128, each: TextSize) -> TextSize
     }
 }
 
-/// The size of what stands for elements that are left out.
+/// The size of what represents elements that are left out.
 fn more_size(mode: Mode, bits: u64, count: u128) -> TextSize
     ensures { HoldsSize result (more_size mode count count bits bits) }
 {

@@ -7,7 +7,7 @@ pub fn texts_are_bounded()
     ensures law { TextsAreBounded }
 {}
 
-/// So has each printed part of such a value.
+/// The same holds for each printed part of such a value.
 pub fn part_texts_are_bounded()
     ensures law { PartTextsAreBounded }
 {}
@@ -17,7 +17,7 @@ pub fn meant_texts_are_bounded()
     ensures law { MeantTextsAreBounded }
 {}
 
-/// So has each printed part of such a value in every style, whatever its arrays of chars are.
+/// The same holds for each printed part of such a value in every style, whatever its arrays of chars are.
 pub fn styled_texts_are_bounded()
     ensures law { StyledTextsAreBounded }
 {}
@@ -32,8 +32,8 @@ pub fn outputs_are_bounded()
     ensures law { OutputsAreBounded }
 {}
 
-/// So does a run of a mapping under terms without a look and a selection, in every style, whether it prints the value or a
-/// requested part.
+/// The same holds for a run of a mapping under terms without a look and a selection, in every style, whether it prints
+/// the value or a requested part.
 pub fn outputs_under_terms_are_bounded()
     ensures law { OutputsUnderTermsAreBounded }
 {}

@@ -188,7 +188,7 @@ fn unit_room(unit: u32) -> u128
     }
 }
 
-/// What is behind a magnitude.
+/// What comes after a magnitude.
 #[tactic(auto, unfolding(value_text::specs::StyledNumbers::unit_in))]
 fn unit_room_in(numbers: Numbers, unit: u32) -> u128
     ensures count { result ≡ length (unit_in numbers unit) }
@@ -287,7 +287,7 @@ pub fn line_room(mode: Mode, bits: u64, widest: u64) -> u128
     }
 }
 
-/// What stands for elements that are left out, of so many on so many bits.
+/// What represents elements that are left out, of so many on so many bits.
 pub fn more_room(mode: Mode, bits: u64, count: u128) -> u128
     ensures { result ≡ more_room mode count count bits bits }
 {
