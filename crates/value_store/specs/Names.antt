@@ -1,13 +1,12 @@
 -- The names that the types of a table give to their values.
-use Rattle.std.specs.Prelude.{◌≡◌, ℕ, zero, suc, map, List, [], Option, Some, None, slice_get, unwrap_or}
+use Rattle.std.specs.Prelude.{ℕ, zero, suc, map, List, [], Option, Some, None, slice_get, unwrap_or}
 use Rattle.pickle_types.specs.declared.node.Field.{Field}
 use Rattle.pickle_types.specs.declared.node.Part.{Part}
 use Rattle.pickle_types.specs.declared.node.Shape.{Shape}
 use Rattle.pickle_types.specs.declared.node.Shape.TheVariants as shape
 use Rattle.pickle_types.specs.declared.node.Node.{Node}
 use Rattle.pickle_types.specs.Table.{name_of}
-use Rattle.pickle_meaning.specs.Values.{Naming, Value, label_of}
-use Rattle.value_store.specs.Labels.{taken_of, member_name}
+use Rattle.pickle_meaning.specs.Values.{Naming}
 
 -- the types of a table, in which names are looked up
 abbrev pub Names : Type 0
@@ -56,19 +55,7 @@ names_at names i = found_names (slice_get names i)
 abbrev pub name_at : Names → (of index : ℕ) → Naming
 name_at names of index = unwrap_or (slice_get (names_at names of) index) None
 
--- the name of the type at an index, if there is one
-abbrev pub title_found : Names → (of : Option ℕ) → Naming
-title_found names None = None
-title_found names (Some of) = title_at names of
-
--- the name of the member at a place: for a union that of its alternative at the place 0, else that of the field
-abbrev pub member_found : Names → (of taken : Option ℕ) → ℕ → Naming
-member_found names None taken i = None
-member_found names (Some of) None i = name_at names of i
-member_found names (Some of) (Some taken) zero = name_at names of taken
-member_found names (Some of) (Some taken) (suc i) = None
-
--- the type at an index, if there is one, names the members of a value
-abbrev pub NamesMembers : (of : Option ℕ) → (Names → Value) → Type 0
-NamesMembers of value = (names : Names) (i : ℕ) → let l = label_of (value names) in
-    member_found names of (taken_of l) i ≡ member_name l i
+-- the name of the member at a place of a union whose alternative number `taken` matched: its only member
+abbrev pub alternative_name : Names → (of taken : ℕ) → ℕ → Naming
+alternative_name names of taken zero = name_at names of taken
+alternative_name names of taken (suc i) = None

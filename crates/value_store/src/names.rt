@@ -4,19 +4,9 @@ ghost use Rattle.std.specs.Prelude.{◌≡◌, ℕ, None, slice_get, unwrap_or};
 ghost use Rattle.std.specs.Option.{option_map};
 ghost use Rattle.pickle_types.specs.Table.{name_of};
 ghost use Rattle.value_store.specs.MemberNames.{name_among};
-ghost use Rattle.value_store.specs.Names.{shape_title, shape_names, title_at, name_at, field_name, part_name};
+ghost use Rattle.value_store.specs.Names.{shape_title, shape_names, title_at, name_at, alternative_name, field_name, part_name};
 
 use pickle_types::view::{Field, Name, Node, Part, Shape};
-
-/// The name that values of the type at an index are printed with.
-pub fn title(nodes: &[Node], of: u32) -> Option<&[u8]>
-    ensures { option_map (λ name. name.now) result ≡ title_at nodes.now of }
-{
-    match nodes.get(of as usize) {
-        Some(node) => shape_title(&node.shape),
-        None => None,
-    }
-}
 
 /// The names of a value's members. They are looked up once for all members.
 #[derive(Clone, Copy)]
@@ -43,21 +33,58 @@ impl<'a> MemberNames<'a> {
     }
 }
 
-/// The names of the fields or alternatives of the type at an index.
-pub fn part_names(nodes: &[Node], of: u32) -> MemberNames<'_>
-    ensures { (place : ℕ) → name_among result place ≡ name_at nodes.now of place }
-{
-    match nodes.get(of as usize) {
-        Some(node) => names_in(&node.shape),
-        None => MemberNames::Nameless,
+/// The name that a struct or a union is printed with, and the names of its members.
+#[derive(Clone, Copy)]
+pub struct TypeNames<'a> {
+    /// None where the type is nameless.
+    pub title: Option<&'a [u8]>,
+    pub members: MemberNames<'a>,
+}
+
+impl TypeNames<'_> {
+    /// Those of a value that is no struct and no union.
+    pub fn none() -> TypeNames<'static>
+        ensures title { option_map (λ name. name.now) result.title ≡ None }
+        ensures members { (place : ℕ) → name_among result.members place ≡ None }
+    {
+        TypeNames {
+            title: None,
+            members: MemberNames::Nameless,
+        }
     }
 }
 
-/// The name of the field or alternative at a place of the type at an index.
-pub fn part_name(nodes: &[Node], of: u32, place: usize) -> Option<&[u8]>
-    ensures { option_map (λ name. name.now) result ≡ name_at nodes.now of place }
+/// The names of the type at an index, looked up once for all of them.
+pub fn type_names(nodes: &[Node], of: u32) -> TypeNames<'_>
+    ensures title { option_map (λ name. name.now) result.title ≡ title_at nodes.now of }
+    ensures members { (place : ℕ) → name_among result.members place ≡ name_at nodes.now of place }
 {
-    part_names(nodes, of).get(place)
+    match nodes.get(of as usize) {
+        Some(node) => TypeNames {
+            title: shape_title(&node.shape),
+            members: names_in(&node.shape),
+        },
+        None => TypeNames::none(),
+    }
+}
+
+/// The names of a union of the type at an index, whose alternative number `taken` matched. That is its only member.
+pub fn alternative_names(nodes: &[Node], of: u32, taken: usize) -> TypeNames<'_>
+    ensures title { option_map (λ name. name.now) result.title ≡ title_at nodes.now of }
+    ensures members { (place : ℕ) → name_among result.members place ≡ alternative_name nodes.now of taken place }
+{
+    let names = type_names(nodes, of);
+    TypeNames {
+        title: names.title,
+        members: MemberNames::Only(names.members.get(taken)),
+    }
+}
+
+/// The name that values of the type at an index are printed with.
+pub fn title(nodes: &[Node], of: u32) -> Option<&[u8]>
+    ensures { option_map (λ name. name.now) result ≡ title_at nodes.now of }
+{
+    type_names(nodes, of).title
 }
 
 fn shape_title(shape: &Shape) -> Option<&[u8]>

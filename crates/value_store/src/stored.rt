@@ -6,8 +6,8 @@ ghost use Rattle.pickle_types.specs.Sound.{IsSmall};
 ghost use Rattle.pickle_meaning.specs.Values.{label_of, start_of, end_of, members_of, member_count, member_at};
 ghost use Rattle.value_store.specs.Layouts.{IsPlain};
 ghost use Rattle.value_store.specs.Integers.{AreIntegersOf, AreBytesOf};
-ghost use Rattle.value_store.specs.Labels.{kind_of, number_of, signed_of, width_of, unit_of, bytes_of, taken_of, name_of};
-ghost use Rattle.value_store.specs.Names.{Names, NamesMembers, title_found};
+ghost use Rattle.value_store.specs.Labels.{kind_of, number_of, signed_of, width_of, unit_of, bytes_of, taken_of};
+ghost use Rattle.value_store.specs.Names.{Names};
 ghost use Rattle.value_store.specs.Lent.{place_value, place_links, place_packed, packed_place, linked_place, place_rank, IsPlace, IsShapeOf};
 ghost use Rattle.value_store.specs.Props.{IsPlace-prop};
 ghost use Rattle.value_store.specs.Scalars.{scalar_label, scalar_in, IsScalar};
@@ -54,7 +54,7 @@ impl<'a> StoredValue<'a> {
     // The shape of the value: that of its node, of the part of its array's template, or an integer or offset where it is
     // a packed number. No number is read for it.
     #[inline(always)]
-    fn shape(&self) -> Shape
+    pub(crate) fn shape(&self) -> Shape
         ensures { IsShapeOf result (λ names. value_of names self.now) }
     {
         match self.place {
@@ -335,6 +335,25 @@ impl<'a> StoredValue<'a> {
         }
     }
 
+    /// The links to the parts, as [`StoredValue::links`] returns them, and the number of parts that are packed, as
+    /// [`StoredValue::packed`] returns it. The node is looked up once for both.
+    #[inline(always)]
+    pub(crate) fn parts(&self) -> (&'a [Link], usize)
+        ensures links { result.0.now ≡ place_links self.now.store.now.slots self.now.place }
+        ensures packed { result.1 ≡ place_packed self.now.store.now.slots self.now.place }
+    {
+        let (Place::Node(at) | Place::Part { node: at, .. }) = self.place else {
+            return (&[], 0);
+        };
+        let node = self.store.node_at(at);
+        match node.shape {
+            Shape::Array | Shape::Struct { .. } | Shape::Union { .. } => {
+                (self.store.family(node.content as usize), 0)
+            }
+            _ => (&[], self.packed()),
+        }
+    }
+
     // The place of a part that is packed. A packed struct is the root of its array's template.
     #[inline(always)]
     fn packed_place(&self, i: usize) -> Place
@@ -418,18 +437,6 @@ impl<'a> StoredValue<'a> {
                 None => None,
             },
             None => None,
-        }
-    }
-
-    /// The index of the type that names a struct or a union.
-    pub(crate) fn type_index(&self) -> Option<u32>
-        ensures title { (names : Names) → title_found names result ≡ name_of (label_of (value_of names self.now)) }
-        ensures members { NamesMembers result (λ names. value_of names self.now) }
-    {
-        match self.shape() {
-            Shape::Struct { of } => Some(of),
-            Shape::Union { of, .. } => Some(of),
-            _ => None,
         }
     }
 

@@ -8,7 +8,8 @@ ghost use Rattle.value_store.specs.MemberNames.{name_among};
 
 mod members;
 
-use crate::names::{MemberNames, part_name, part_names, title};
+use crate::names::{MemberNames, TypeNames, alternative_names, type_names};
+use crate::store::slots::Shape;
 use crate::stored::StoredValue;
 pub use members::Members;
 use pickle_types::view::Node;
@@ -137,10 +138,7 @@ impl<'a> ValueRef<'a> {
     pub fn type_name(&self) -> Option<&'a [u8]>
         ensures { option_map (λ name. name.now) result ≡ name_of (label_of (value_shown self.now)) }
     {
-        match self.stored.type_index() {
-            Some(of) => title(self.nodes, of),
-            None => None,
-        }
+        self.names().title
     }
 
     /// The names of the members, looked up once for all of them: [`MemberNames::get`] returns what
@@ -148,13 +146,20 @@ impl<'a> ValueRef<'a> {
     pub fn member_names(&self) -> MemberNames<'a>
         ensures { (place : ℕ) → name_among result place ≡ member_name (label_of (value_shown self.now)) place }
     {
-        let of = match self.stored.type_index() {
-            Some(of) => of,
-            None => return MemberNames::Nameless,
-        };
-        match self.stored.taken() {
-            None => part_names(self.nodes, of),
-            Some(taken) => MemberNames::Only(part_name(self.nodes, of, usize::from(taken))),
+        self.names().members
+    }
+
+    /// The names that [`ValueRef::type_name`] and [`ValueRef::member_names`] return. The value and its type are looked up
+    /// once for both.
+    pub fn names(&self) -> TypeNames<'a>
+        ensures title { option_map (λ name. name.now) result.title ≡ name_of (label_of (value_shown self.now)) }
+        ensures members { (place : ℕ) →
+            name_among result.members place ≡ member_name (label_of (value_shown self.now)) place }
+    {
+        match self.stored.shape() {
+            Shape::Struct { of } => type_names(self.nodes, of),
+            Shape::Union { of, taken } => alternative_names(self.nodes, of, usize::from(taken)),
+            _ => TypeNames::none(),
         }
     }
 

@@ -32,8 +32,7 @@ impl<'a> Members<'a> {
     pub(super) fn new(value: ValueRef<'a>) -> Members<'a>
         ensures { owner_of result ≡ value.entry }
     {
-        let links = value.stored.links();
-        let packed = value.stored.packed();
+        let (links, packed) = value.stored.parts();
         Members {
             value,
             links,

@@ -1,9 +1,11 @@
 //! Prints values on one line.
-ghost use Rattle.std.specs.Prelude.{◌≡◌, ◌^◌, ◌<◌, true, false, ◌++◌, All, codes};
+ghost use Rattle.std.specs.Prelude.{◌≡◌, ℕ, ◌^◌, ◌<◌, true, false, ◌++◌, All, codes};
 ghost use Rattle.value_store.specs.Integers.{AreIntegersOf};
+ghost use Rattle.value_store.specs.Labels.{member_name};
+ghost use Rattle.value_store.specs.MemberNames.{name_among};
 ghost use Rattle.value_text.specs.TypedValue.{typed_shown};
 ghost use Rattle.pickle_types.specs.Sound.{IsWidth};
-ghost use Rattle.pickle_meaning.specs.Values.{members_of, member_count};
+ghost use Rattle.pickle_meaning.specs.Values.{label_of, members_of, member_count};
 ghost use Rattle.value_text.specs.Puts.{Puts};
 ghost use Rattle.value_text.specs.ValueText.{comma};
 ghost use Rattle.value_text.specs.StyledNumbers.{integer_in};
@@ -22,6 +24,7 @@ use crate::typed::{Parts, Typed};
 use pickle_types::integer::IntegerType;
 use std::io::Write;
 use value_store::Kind;
+use value_store::names::MemberNames;
 use value_store::ranges::with_sign;
 use value_store::scalar::Scalar;
 
@@ -208,18 +211,21 @@ impl<W: Write> Printer<'_, W> {
     fn put_titled(&mut self, style: &Style, value: &Typed<'_>, sort: &[u8])
         ensures { Puts W.contents self.old self.new (titled_text style.now sort.now (typed_shown value.now)) }
     {
-        self.put_title(sort, value.type_name());
+        let names = value.names();
+        self.put_title(sort, names.title);
         self.put(b" {");
-        self.put_members(style, value);
+        self.put_members(style, value, names.members);
         self.put(b"}");
     }
 
+    // Writes the members of a struct or a union, which have these names.
     #[cycle(flat)]
-    fn put_members(&mut self, style: &Style, value: &Typed<'_>)
+    fn put_members(&mut self, style: &Style, value: &Typed<'_>, names: MemberNames<'_>)
+        requires names { (place : ℕ) →
+            name_among names place ≡ member_name (label_of (typed_shown value.now)) place }
         ensures { Puts W.contents self.old self.new (all_members_text style.now (typed_shown value.now)) }
     {
         let members = Parts::new(value);
-        let names = value.member_names();
         let mut first = true;
         for place in 0..members.len() {
             if self.failed {

@@ -6,7 +6,7 @@ ghost use Rattle.pickle_meaning.specs.Values.{members_of, member_count, member_a
 ghost use Rattle.value_store.specs.Integers.{AreIntegersOf, AreBytesOf};
 ghost use Rattle.value_store.specs.Refs.{rank_of};
 ghost use Rattle.value_store.specs.Scalars.{scalar_label, scalar_if};
-ghost use Rattle.value_text.specs.TypedValue.{value_in, part_node_in, typed_shown};
+ghost use Rattle.value_text.specs.TypedValue.{value_in, part_node_in, is_of_chars, typed_shown};
 
 use super::{Typed, Types};
 use pickle_types::integer::IntegerType;
@@ -50,12 +50,23 @@ impl<'a> Parts<'a> {
         }
     }
 
+    // Whether the whole is an array of chars. It is made only if its type is known.
+    #[inline(always)]
+    fn are_chars(&self) -> bool
+        ensures { result ≡ is_of_chars (whole_of self.now) }
+    {
+        match self.node {
+            Some(_) => self.whole().is_of_chars(),
+            None => false,
+        }
+    }
+
     /// The number of parts, absent fields too.
     #[inline(always)]
     pub fn len(&self) -> usize
         ensures { result ≡ member_count (members_of (typed_shown (whole_of self.now))) }
     {
-        if self.whole().is_of_chars() {
+        if self.are_chars() {
             0
         } else {
             self.members.len()
@@ -96,23 +107,16 @@ impl<'a> Parts<'a> {
         ensures { result ≡ part_node_in (whole_of self.now) place }
     {
         match self.node {
-            Some(_) => self.known_node(place),
+            Some(_) => self.whole().part_node(place),
             None => None,
         }
-    }
-
-    #[inline(never)]
-    fn known_node(&self, place: usize) -> Option<usize>
-        ensures { result ≡ part_node_in (whole_of self.now) place }
-    {
-        self.whole().part_node(place)
     }
 
     /// The type of the parts, where they are the packed integers of an array. It is found once for all of them.
     pub fn row_type(&self) -> Option<IntegerType>
         ensures { IfSome result (λ number. AreIntegersOf number (members_of (typed_shown (whole_of self.now)))) }
     {
-        if self.whole().is_of_chars() {
+        if self.are_chars() {
             return None;
         }
         self.members.row_type()
@@ -122,7 +126,7 @@ impl<'a> Parts<'a> {
     pub fn byte_row(&self) -> Option<(IntegerType, &'a [u8])>
         ensures { IfSome result (λ row. AreBytesOf row.0 row.1.now (typed_shown (whole_of self.now))) }
     {
-        if self.whole().is_of_chars() {
+        if self.are_chars() {
             return None;
         }
         self.members.byte_row()

@@ -9,7 +9,7 @@ ghost use Rattle.value_text.specs.TypedValue.{node_in, mapped_in, typed_shown};
 
 use super::{Parts, Typed};
 use value_store::Kind;
-use value_store::names::MemberNames;
+use value_store::names::{MemberNames, TypeNames};
 
 impl<'a> Typed<'a> {
     /// The same value without its type.
@@ -91,6 +91,15 @@ impl<'a> Typed<'a> {
         ensures { (place : ℕ) → name_among result place ≡ member_name (label_of (typed_shown self.now)) place }
     {
         self.value.member_names()
+    }
+
+    /// The name that a struct or a union is printed with, and the names of its members, looked up once for all of them.
+    pub fn names(&self) -> TypeNames<'a>
+        ensures title { option_map (λ name. name.now) result.title ≡ name_of (label_of (typed_shown self.now)) }
+        ensures members { (place : ℕ) →
+            name_among result.members place ≡ member_name (label_of (typed_shown self.now)) place }
+    {
+        self.value.names()
     }
 
     /// The name of a struct's field at a place, or of a union's alternative at place 0. None for nameless fields, for

@@ -88,13 +88,13 @@ put_members-loop-place-preserved g t c =
           w.in-Some.ensures ∙ ap (λ v. scalar_if (member_at (members_of (typed_shown v)) i)) c.new-members.ensures in
           rw (w.self-is, w.first-is) (told_next
           (text_numbered c.args.style.now None label all i c.loop-place.first _ lt refl is) c.loop-place.invariant
-          (rw (w.get.ensures ∙ c.member_names-names.ensures i) at w.put_numbered.ensures)))
+          (rw (w.get.ensures ∙ c.requires.names i) at w.put_numbered.ensures)))
       | put_members-in_default+in-Some-get w ↦
           (let is : Some (typed_shown w.in-Some-get.member) ≡ member_at all i =
           w.in-Some-get.ensures.member ∙ ap (λ v. member_at (members_of (typed_shown v)) i) c.new-members.ensures in
           rw (w.self-is, w.first-is) (told_next
           (text_present c.args.style.now None label all i c.loop-place.first _ lt refl is) c.loop-place.invariant
-          (rw (w.get-in-Some-get.ensures ∙ c.member_names-names.ensures i) at w.put_member.ensures)))
+          (rw (w.get-in-Some-get.ensures ∙ c.requires.names i) at w.put_member.ensures)))
       | put_members-in_default+in_default-get w ↦
           rw (w.self-is, w.first-is)
           (told_same (text_absent c.args.style.now None label all i c.loop-place.first lt refl

@@ -1,4 +1,4 @@
-use Rattle.std.proofs.Common.{◌≡◌, ◌∙◌, sym, ap, false}
+use Rattle.std.proofs.Common.{◌≡◌, ◌∙◌, sym, false}
 use Rattle.value_text.specs.TypedValue.{is_of_chars}
 use Rattle.value_text.specs.TypedParts.{whole_of}
 use Rattle.value_text.proofs.WholeParts.{whole_integers}
@@ -8,5 +8,5 @@ pub returns : goal.returns
 returns c =
     let t = whole_of c.args.self.now in
     let other : is_of_chars t ≡ false =
-    sym (ap is_of_chars c.whole.ensures) ∙ sym c.is_of_chars.ensures ∙ c.if-is_of_chars.false in
+    sym c.are_chars.ensures ∙ c.if-are_chars.false in
     whole_integers t c.row_type.result other c.row_type.ensures
