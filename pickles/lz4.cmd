@@ -1,1 +1,1 @@
-map --endian little lz4.pk Lz4 lz4.lz4
+map lz4.pk Lz4 lz4.lz4

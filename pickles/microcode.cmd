@@ -1,1 +1,1 @@
-map --endian little microcode.pk Updates microcode.bin
+map microcode.pk Updates microcode.bin

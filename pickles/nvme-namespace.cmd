@@ -1,1 +1,1 @@
-map nvme.pk Namespace nvme_namespace.bin
+map --whole nvme.pk Namespace nvme_namespace.bin

@@ -1,1 +1,1 @@
-map nvme.pk Controller nvme.bin
+map --whole nvme.pk Controller nvme.bin

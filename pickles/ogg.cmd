@@ -1,1 +1,1 @@
-map --endian little ogg.pk Ogg ogg.ogg
+map ogg.pk Ogg ogg.ogg

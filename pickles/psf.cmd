@@ -1,1 +1,1 @@
-map --endian little psf.pk Psf psf.psf
+map --whole psf.pk Psf psf.psf

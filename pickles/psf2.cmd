@@ -1,1 +1,1 @@
-map --endian little psf.pk Psf psf2.psf
+map --whole psf.pk Psf psf2.psf

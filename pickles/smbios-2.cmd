@@ -1,1 +1,1 @@
-map smbios.pk Dump smbios_2.bin
+map --whole smbios.pk Dump smbios_2.bin

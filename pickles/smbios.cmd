@@ -1,1 +1,1 @@
-map smbios.pk Dump smbios.bin
+map --whole smbios.pk Dump smbios.bin

@@ -1,1 +1,1 @@
-map sqlite3.pk Database sqlite3_holed.db
+map --whole sqlite3.pk Database sqlite3_holed.db

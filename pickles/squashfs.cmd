@@ -1,1 +1,1 @@
-map --endian little squashfs.pk FileSystem squashfs.img
+map squashfs.pk FileSystem squashfs.img

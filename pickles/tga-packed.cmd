@@ -1,1 +1,1 @@
-map --endian little tga.pk Tga tga_packed.tga
+map tga.pk Tga tga_packed.tga

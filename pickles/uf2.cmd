@@ -1,1 +1,1 @@
-map --endian little uf2.pk Uf2 uf2.uf2
+map uf2.pk Uf2 uf2.uf2

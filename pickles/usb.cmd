@@ -1,1 +1,1 @@
-map --endian little usb.pk Descriptors usb.bin
+map usb.pk Descriptors usb.bin

@@ -1,1 +1,1 @@
-map --endian little wav.pk Wav wav_pipe.wav
+map --endian little wav.pk Piped wav_pipe.wav

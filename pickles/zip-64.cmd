@@ -1,1 +1,1 @@
-map --endian little zip.pk Zip zip_64.zip
+map zip.pk Zip zip_64.zip

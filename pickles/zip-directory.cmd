@@ -1,1 +1,1 @@
-map --endian little --at 193#B zip.pk Directory zip.zip
+map --at 193#B zip.pk Directory zip.zip

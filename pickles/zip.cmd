@@ -1,1 +1,1 @@
-map --endian little zip.pk Zip zip.zip
+map zip.pk Zip zip.zip

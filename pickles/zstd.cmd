@@ -1,1 +1,1 @@
-map --endian little zstd.pk Zstd zstd.zst
+map zstd.pk Zstd zstd.zst
