@@ -1,14 +1,13 @@
 # Completion of poke_batch for bash. SPDX-License-Identifier: MIT OR Apache-2.0
 # It needs bash alone. To try it in one shell: source poke_batch.bash
 
+# tools/options: the table
 # The options of a command.
-_poke_batch_options() {
-    local mapping='--at --byte --endian --limit --whole --max-output --slots --get --elements --spool --progress --help'
-    local style='--mode --numbers --chars --faults --why'
+_poke_batch_options_of() {
     case $1 in
-        map) echo "$mapping $style --absent --rows --header" ;;
-        show) echo "$mapping --depth --color" ;;
-        each) echo "$mapping $style --absent --flush --files0-from" ;;
+        map) echo '--at --byte --endian --limit --whole --max-output --slots --get --spool --progress --rows --header --absent --mode --numbers --chars --elements --faults --why --help' ;;
+        show) echo '--at --byte --endian --limit --whole --max-output --slots --get --spool --progress --elements --depth --color --help' ;;
+        each) echo '--at --byte --endian --limit --whole --max-output --slots --get --spool --progress --absent --mode --numbers --chars --elements --faults --why --flush --files0-from --help' ;;
         bound) echo '--text --mode --numbers --chars --elements --why --help' ;;
         check | types) echo '--mode --why --help' ;;
         formats) echo '--help' ;;
@@ -17,10 +16,48 @@ _poke_batch_options() {
     esac
 }
 
-_poke_batch_takes_value() {
-    local mapping='at|byte|endian|limit|mode|max-output|slots|get|rows|absent|elements|spool|numbers|chars|faults|depth|color|files0-from'
-    [[ $1 =~ ^(--($mapping|from|size|skip|length)|-[sn])$ ]]
+# Whether an option has a value.
+_poke_batch_takes_value_of() {
+    [[ $1 =~ ^(--(at|byte|endian|limit|max-output|slots|get|spool|rows|absent|mode|numbers|chars|elements|faults|depth|color|files0-from|from|size|skip|length)|-[sn])$ ]]
 }
+
+# The words that an option of a command accepts, if it is a choice.
+_poke_batch_words_of() {
+    case $1/$2 in
+        map/--endian | show/--endian | each/--endian) echo 'big little' ;;
+        map/--absent | each/--absent) echo 'fault empty' ;;
+        map/--mode | bound/--mode) echo 'flat tree json lines' ;;
+        each/--mode) echo 'flat json' ;;
+        check/--mode | types/--mode | map/--faults | each/--faults) echo 'text json' ;;
+        map/--numbers | each/--numbers | bound/--numbers) echo 'decimal hex digits' ;;
+        map/--chars | each/--chars | bound/--chars) echo 'numbers text' ;;
+        show/--color) echo 'auto always never' ;;
+    esac
+}
+
+# What the value of another option is.
+_poke_batch_kind_of() {
+    case $1 in
+        --at | --from | --size) echo 'offset' ;;
+        --files0-from) echo 'file' ;;
+    esac
+}
+
+# What an argument of a command is, by its number.
+_poke_batch_place_of() {
+    case $1/$2 in
+        map/0 | show/0 | each/0 | bound/0 | check/0 | types/0) echo 'pickle' ;;
+        map/1 | show/1 | each/1 | bound/1) echo 'type' ;;
+        map/2 | show/2 | each/* | dump/0) echo 'file' ;;
+        bound/2) echo 'bits' ;;
+    esac
+}
+
+# The commands.
+_poke_batch_commands_of() {
+    echo 'map show each bound check types formats dump help'
+}
+# tools/options: end
 
 # A word as the program gets it, where it has plain quotes or backslashes.
 _poke_batch_plain() {
@@ -104,7 +141,7 @@ _poke_batch() {
         if [[ -z $ended && $word == -- ]]; then
             ended=yes
         elif [[ -z $ended && $word == -?* ]]; then
-            _poke_batch_takes_value "$word" || continue
+            _poke_batch_takes_value_of "$word" || continue
             option=$word
             if ((place < COMP_CWORD)) && [[ ${COMP_WORDS[place]} == = ]]; then
                 place=$((place + 1))
@@ -119,39 +156,31 @@ _poke_batch() {
             arguments+=("$word")
         fi
     done
-    if [[ $current == = ]] && _poke_batch_takes_value "$option"; then
+    if [[ $current == = ]] && _poke_batch_takes_value_of "$option"; then
         current=''
     fi
-    case $option in
-        --endian) _poke_batch_words "$current" 'big little' ;;
-        --numbers) _poke_batch_words "$current" 'decimal hex digits' ;;
-        --chars) _poke_batch_words "$current" 'numbers text' ;;
-        --faults) _poke_batch_words "$current" 'text json' ;;
-        --absent) _poke_batch_words "$current" 'fault empty' ;;
-        --color) _poke_batch_words "$current" 'auto always never' ;;
-        --mode)
-            case $command in
-                each) _poke_batch_words "$current" 'flat json' ;;
-                check | types) _poke_batch_words "$current" 'text json' ;;
-                *) _poke_batch_words "$current" 'flat tree json lines' ;;
-            esac
+    if [[ -n $option ]]; then
+        case $(_poke_batch_kind_of "$option") in
+            offset) _poke_batch_offsets "$current" ;;
+            file) _poke_batch_files "$current" ;;
+            *) _poke_batch_words "$current" "$(_poke_batch_words_of "$command" "$option")" ;;
+        esac
+        return
+    fi
+    if [[ -z $ended && $current == -* ]]; then
+        _poke_batch_words "$current" "$(_poke_batch_options_of "$command")"
+        return
+    fi
+    case $command/${#arguments[@]} in
+        /* | help/0)
+            _poke_batch_words "$current" "$(_poke_batch_commands_of)"
+            return
             ;;
-        --at | --from | --size) _poke_batch_offsets "$current" ;;
-        --files0-from) _poke_batch_files "$current" ;;
-        --* | -s | -n) ;;
-        *)
-            if [[ -z $ended && $current == -* ]]; then
-                _poke_batch_words "$current" "$(_poke_batch_options "$command")"
-                return
-            fi
-            case $command/${#arguments[@]} in
-                /*) _poke_batch_words "$current" 'map show each bound check types formats dump help' ;;
-                help/0) _poke_batch_words "$current" 'map show each bound check types formats dump help' ;;
-                map/0 | show/0 | each/0 | bound/0 | check/0 | types/0) _poke_batch_pickles "$program" "$current" ;;
-                map/1 | show/1 | each/1 | bound/1) _poke_batch_types "$program" "${arguments[0]}" "$current" ;;
-                map/2 | show/2 | each/* | dump/0) _poke_batch_files "$current" ;;
-            esac
-            ;;
+    esac
+    case $(_poke_batch_place_of "$command" "${#arguments[@]}") in
+        pickle) _poke_batch_pickles "$program" "$current" ;;
+        type) _poke_batch_types "$program" "${arguments[0]}" "$current" ;;
+        file) _poke_batch_files "$current" ;;
     esac
 }
 

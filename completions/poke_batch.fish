@@ -1,5 +1,12 @@
 # Completion of poke_batch for fish. SPDX-License-Identifier: MIT OR Apache-2.0
 
+# tools/options: options with a value
+# Whether an option has a value.
+function __poke_batch_takes_value
+    contains -- $argv[1] --at --byte --endian --limit --max-output --slots --get --spool --rows --absent --mode --numbers --chars --elements --faults --depth --color --files0-from --from --size --skip --length -s -n
+end
+# tools/options: end
+
 # The arguments before the cursor that are no options and no values of options: the command first.
 function __poke_batch_arguments
     set -l value
@@ -11,8 +18,7 @@ function __poke_batch_arguments
             printf '%s\n' $it
         else if test $it = --
             set ended yes
-        else if contains -- $it --at --byte --endian --limit --mode --numbers --chars --faults --depth --color --elements --max-output --slots --get --rows --absent \
-                --files0-from --from --size --skip --length -s -n
+        else if __poke_batch_takes_value $it
             set value yes
         end
     end
@@ -70,49 +76,61 @@ complete -c poke_batch -f
 complete -c poke_batch -n '__poke_batch_has 0' -l version -s V -d 'Print the version'
 complete -c poke_batch -n 'not __poke_batch_is help' -l help -s h -d 'Print the help'
 
-complete -c poke_batch -n '__poke_batch_has 0' -a map -d 'Map a type over a file and print the value'
-complete -c poke_batch -n '__poke_batch_has 0' -a show -d 'Map a type over a file and show the value to the eye'
-complete -c poke_batch -n '__poke_batch_has 0' -a each -d 'Map a type over many files and print a line for each'
-complete -c poke_batch -n '__poke_batch_has 0' -a bound -d 'Print the most steps and slots that a mapping takes'
-complete -c poke_batch -n '__poke_batch_has 0' -a check -d 'Check a pickle and print the number of its types'
-complete -c poke_batch -n '__poke_batch_has 0' -a types -d 'Print the name, the kind and the least width of each type'
-complete -c poke_batch -n '__poke_batch_has 0' -a formats -d 'List the installed pickles'
-complete -c poke_batch -n '__poke_batch_has 0' -a dump -d 'Print the bytes of a file'
+# tools/options: commands, options and arguments
+complete -c poke_batch -n '__poke_batch_has 0' -a map -d 'Maps a type over a file and prints the value'
+complete -c poke_batch -n '__poke_batch_has 0' -a show -d 'Maps a type over a file and shows the value, or what a fault is about, to the eye'
+complete -c poke_batch -n '__poke_batch_has 0' -a each -d 'Maps a type over many files, one after the other, and prints a line for each'
+complete -c poke_batch -n '__poke_batch_has 0' -a bound -d 'Prints the most steps and slots that mapping a type over so many bits takes'
+complete -c poke_batch -n '__poke_batch_has 0' -a check -d 'Checks a pickle and prints the number of its types'
+complete -c poke_batch -n '__poke_batch_has 0' -a types -d 'Prints the name, the kind and the least width of each type of a pickle'
+complete -c poke_batch -n '__poke_batch_has 0' -a formats -d 'Prints the name, the type, the options and a sentence of each pickle that is installed'
+complete -c poke_batch -n '__poke_batch_has 0' -a dump -d 'Prints the bytes of a file in hexadecimal digits and as text'
 complete -c poke_batch -n '__poke_batch_has 0' -a help -d 'Print the help of the program or of a command'
 complete -c poke_batch -n '__poke_batch_has 1 help' -a 'map show each bound check types formats dump help'
 
-complete -c poke_batch -n '__poke_batch_is map show each' -l at -xa '(__poke_batch_offsets)' -d 'Where the value begins'
+complete -c poke_batch -n '__poke_batch_is map show each' -l at -xa '(__poke_batch_offsets)' -d 'Where the value begins in FILE'
 complete -c poke_batch -n '__poke_batch_is map show each' -l byte -x -d 'The byte where the value begins'
 complete -c poke_batch -n '__poke_batch_is map show each' -l endian -xa 'big little' -d 'The byte order'
 complete -c poke_batch -n '__poke_batch_is map show each' -l limit -x -d 'The most steps of the mapping'
-complete -c poke_batch -n '__poke_batch_is map bound' -l mode -xa 'flat tree json lines' -d 'How the value is printed'
-complete -c poke_batch -n '__poke_batch_is each' -l mode -xa 'flat json' -d 'How the value is printed'
-complete -c poke_batch -n '__poke_batch_is check types' -l mode -xa 'text json' -d 'How the answer is printed'
-complete -c poke_batch -n '__poke_batch_is map show each' -l whole -d 'Accept only a value that ends where the file does'
+complete -c poke_batch -n '__poke_batch_is map show each' -l whole -d 'Accept only a value that ends where FILE does'
 complete -c poke_batch -n '__poke_batch_is map show each' -l max-output -x -d 'The most bytes of the printed value'
 complete -c poke_batch -n '__poke_batch_is map show each' -l slots -x -d 'The most slots of each kind'
-complete -c poke_batch -n '__poke_batch_is map show each' -l get -x -d 'Print a part of the value'
-complete -c poke_batch -n '__poke_batch_is map' -l rows -x -d 'Print a line for each part of a pattern'
-complete -c poke_batch -n '__poke_batch_is map' -l header -d 'Print the paths of the columns first'
-complete -c poke_batch -n '__poke_batch_is map each' -l absent -xa 'fault empty' -d 'What an absent part is'
-complete -c poke_batch -n '__poke_batch_is map each bound' -l numbers -xa 'decimal hex digits' -d 'How numbers are printed'
-complete -c poke_batch -n '__poke_batch_is map each bound' -l chars -xa 'numbers text' -d 'How arrays of char are printed'
-complete -c poke_batch -n '__poke_batch_is map each' -l faults -xa 'text json' -d 'How a refusal or a fault is printed'
-complete -c poke_batch -n '__poke_batch_is map show each bound' -l elements -x -d 'The most elements of a printed array'
-complete -c poke_batch -n '__poke_batch_is map show each' -l spool -x -d 'Read a file without a length into memory, up to so many bytes'
+complete -c poke_batch -n '__poke_batch_is map' -l get -x -d 'Print parts of the value'
+complete -c poke_batch -n '__poke_batch_is show' -l get -x -d 'Print a part of the value'
+complete -c poke_batch -n '__poke_batch_is each' -l get -x -d 'Print a part of the value'
+complete -c poke_batch -n '__poke_batch_is map show each' -l spool -x -d 'Read a FILE without a length'
 complete -c poke_batch -n '__poke_batch_is map show each' -l progress -d 'Show how much is done'
-complete -c poke_batch -n '__poke_batch_is show' -l depth -x -d 'The most levels of parts that are shown'
-complete -c poke_batch -n '__poke_batch_is show' -l color -xa 'auto always never' -d 'When types are dimmed'
-complete -c poke_batch -n '__poke_batch_is each' -l flush -d 'Write each line before the next file'
-complete -c poke_batch -n '__poke_batch_is each' -l files0-from -rF -d 'Read the names of the files from a list'
+complete -c poke_batch -n '__poke_batch_is map' -l rows -x -d 'Print a line for each part that PATTERN leads to'
+complete -c poke_batch -n '__poke_batch_is map' -l header -d 'Print the paths of the columns first, with --rows'
+complete -c poke_batch -n '__poke_batch_is map each' -l absent -xa 'fault empty' -d 'What a part that isn\'t there is'
 complete -c poke_batch -n '__poke_batch_is bound' -l text -d 'Print the most bytes of the printed value too'
-complete -c poke_batch -n '__poke_batch_is map each bound check types' -l why -d 'Explain a refusal or a fault'
+complete -c poke_batch -n '__poke_batch_is map' -l mode -xa 'flat tree json lines' -d 'How the value is printed'
+complete -c poke_batch -n '__poke_batch_is each' -l mode -xa 'flat json' -d 'How the value is printed'
+complete -c poke_batch -n '__poke_batch_is bound' -l mode -xa 'flat tree json lines' -d 'In this mode alone, with --text'
+complete -c poke_batch -n '__poke_batch_is check types' -l mode -xa 'text json' -d 'How the answer is printed'
+complete -c poke_batch -n '__poke_batch_is map each' -l numbers -xa 'decimal hex digits' -d 'How numbers are printed'
+complete -c poke_batch -n '__poke_batch_is bound' -l numbers -xa 'decimal hex digits' -d 'For numbers in this form, with --text'
+complete -c poke_batch -n '__poke_batch_is map each' -l chars -xa 'numbers text' -d 'How arrays of char are printed'
+complete -c poke_batch -n '__poke_batch_is bound' -l chars -xa 'numbers text' -d 'For arrays of char in this form, with --text'
+complete -c poke_batch -n '__poke_batch_is map each' -l elements -x -d 'The most elements that are printed of an array'
+complete -c poke_batch -n '__poke_batch_is show' -l elements -x -d 'The most elements that are printed of an array'
+complete -c poke_batch -n '__poke_batch_is bound' -l elements -x -d 'For so many elements of an array, with --text'
+complete -c poke_batch -n '__poke_batch_is map each' -l faults -xa 'text json' -d 'How a refusal or a fault is printed'
+complete -c poke_batch -n '__poke_batch_is show' -l depth -x -d 'The most levels of parts below the value that are shown'
+complete -c poke_batch -n '__poke_batch_is show' -l color -xa 'auto always never' -d 'When colors are printed'
+complete -c poke_batch -n '__poke_batch_is map each' -l why -d 'Explain why the pickle or TYPE is refused'
+complete -c poke_batch -n '__poke_batch_is bound' -l why -d 'Explain why the pickle or TYPE is refused'
+complete -c poke_batch -n '__poke_batch_is check' -l why -d 'Explain why the pickle is refused'
+complete -c poke_batch -n '__poke_batch_is types' -l why -d 'Explain why the pickle is refused'
+complete -c poke_batch -n '__poke_batch_is each' -l flush -d 'Write the line of a file before the next file is mapped'
+complete -c poke_batch -n '__poke_batch_is each' -l files0-from -rF -d 'Read the names of the files from PATH'
 complete -c poke_batch -n '__poke_batch_is dump' -l from -xa '(__poke_batch_offsets)' -d 'The first byte'
-complete -c poke_batch -n '__poke_batch_is dump' -l size -xa '(__poke_batch_offsets)' -d 'The most bytes to print'
+complete -c poke_batch -n '__poke_batch_is dump' -l size -xa '(__poke_batch_offsets)' -d 'How much to dump at most'
 complete -c poke_batch -n '__poke_batch_is dump' -l skip -s s -x -d 'The first byte'
-complete -c poke_batch -n '__poke_batch_is dump' -l length -s n -x -d 'The most bytes to print'
+complete -c poke_batch -n '__poke_batch_is dump' -l length -s n -x -d 'How many bytes to dump at most'
 complete -c poke_batch -n '__poke_batch_is dump' -l no-ruler -d 'Leave out the line above the bytes'
 
 complete -c poke_batch -n '__poke_batch_has 1 map show each bound check types' -a '(__poke_batch_pickles)'
 complete -c poke_batch -n '__poke_batch_has 2 map show each bound' -a '(__poke_batch_types)'
 complete -c poke_batch -n '__poke_batch_has 3 map show; or __poke_batch_has 3+ each; or __poke_batch_has 1 dump' -F
+# tools/options: end

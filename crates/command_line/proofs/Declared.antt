@@ -1,18 +1,13 @@
 -- The arguments and commands of the program without ties.
-use Rattle.std.proofs.Common.{◌≡◌, ◌∙◌, ◌||◌, Result, Ok, Err, IfOk, sym, ap, ap₂, subst}
-use Rattle.clap.specs.Walk.{Rule}
-use Rattle.clap.specs.Simple.{App, with_rule, with_subcommand}
+use Rattle.std.proofs.Common.{◌≡◌, ◌∙◌, ◌||◌, ◌+◌, ◌<◌, ℕ, Bool, true, false, List, [], ◌∷◌, ◌++◌, length, take, get_or, Result, Ok, Err, IfOk, refl, sym, ap, ap₂, subst, append_assoc, append-nil}
+use Rattle.std.proofs.lemmas.List.{take_more}
+use Rattle.clap.specs.Walk.{Rule, Text}
+use Rattle.clap.specs.Simple.{App, new_app, new_shape, with_rule, with_subcommand}
 use Rattle.clap.specs.Words.{AddsArg, AddsSubcommand}
 use Rattle.clap.specs.declared.Arg.{Arg}
 use Rattle.clap.specs.declared.Command.{Command}
-use Rattle.command_line.specs.Commands.{IsArg, IsApp}
-
--- an argument that is tied only in a program with ties
-pub tied : {E : Type 0} (r : Result Arg E) (arg : Arg) (rule : Rule) (W : Type 0)
-    → IfOk r (λ tied. W → tied ≡ arg) → IsArg rule arg
-    → IfOk r (λ tied. W → IsArg rule tied)
-tied (Ok x) arg rule W same is = λ w. let P : Arg → Type 0 = IsArg rule in subst P (sym (same w)) is
-tied (Err e) arg rule W same is = tt
+use Rattle.command_line.specs.declared.words.arguments.Argument.{Argument}
+use Rattle.command_line.specs.Commands.{IsArg, IsApp, before_if, command_of, has, rules_of, rule_of_argument, with_rules}
 
 -- one argument more
 pub added : (old new : Command) (arg : Arg) (app : App) (rule : Rule) → AddsArg old arg new → IsApp app old →
@@ -29,3 +24,70 @@ joined old sub new app one adds is more = record {
   reads = adds.shape more.local ∙ ap₂ (λ a s. with_subcommand a s) is.reads (ap (λ (a : App). a.top) more.reads);
   local = adds.globals ∙ ap₂ ◌||◌ is.local more.local;
 }
+
+append_if : (b : Bool) (rule : Rule) (before after : List Rule)
+    → before_if b rule (before ++ after) ≡ before_if b rule before ++ after
+append_if true rule before after = refl
+append_if false rule before after = refl
+
+-- the rules of a command, of two tables one after the other
+rules_append : (command : Text) (table more : List Argument)
+    → rules_of command (table ++ more) ≡ rules_of command table ++ rules_of command more
+rules_append command [] more = refl
+rules_append command (argument ∷ table) more =
+    ap (before_if (has command argument) (rule_of_argument argument)) (rules_append command table more)
+    ∙ append_if (has command argument) (rule_of_argument argument) (rules_of command table) (rules_of command more)
+
+with_rules_append : (app : App) (rules more : List Rule)
+    → with_rules app (rules ++ more) ≡ with_rules (with_rules app rules) more
+with_rules_append app [] more = refl
+with_rules_append app (rule ∷ rules) more = with_rules_append (with_rule app rule) rules more
+
+app_more : (command : Text) (table : List Argument) (i : ℕ) (default : Argument) (app : App) → i < length table
+    → with_rules app (rules_of command (take (i + 1) table))
+    ≡ with_rules (with_rules app (rules_of command (take i table))) (rules_of command (get_or table i default ∷ []))
+app_more command table i default app lt =
+    ap (λ rows. with_rules app (rules_of command rows)) (take_more table i default lt)
+    ∙ ap (with_rules app) (rules_append command (take i table) (get_or table i default ∷ []))
+    ∙ with_rules_append app (rules_of command (take i table)) (rules_of command (get_or table i default ∷ []))
+
+-- one argument more of the table, if the command has it
+pub row_added : (command : Text) (table : List Argument) (i : ℕ) (default : Argument) (new : Command) (app : App)
+    → i < length table
+    → IsApp (with_rules (with_rules app (rules_of command (take i table)))
+    (before_if (has command (get_or table i default)) (rule_of_argument (get_or table i default)) [])) new
+    → IsApp (with_rules app (rules_of command (take (i + 1) table))) new
+row_added command table i default new app lt is =
+    let P : App → Type 0 = λ made. IsApp made new in
+    subst P (sym (app_more command table i default app lt)) is
+
+-- an argument that the command has
+pub had : {E : Type 0} (r : Result Command E) (old : Command) (arg : Arg) (b : Bool) (rule : Rule) (W : Type 0)
+    → b ≡ true → IfOk r (AddsArg old arg) → (W → IsArg rule arg)
+    → IfOk r (λ new. (app : App) → W → IsApp app old → IsApp (with_rules app (before_if b rule [])) new)
+had (Ok new) old arg b rule W has adds is = λ app w before.
+    let P : Bool → Type 0 = λ b. IsApp (with_rules app (before_if b rule [])) new in
+    subst P (sym has) (added old new arg app rule adds before (is w))
+had (Err e) old arg b rule W has adds is = tt
+
+-- one that it doesn't have
+pub not_had : (old : Command) (b : Bool) (rule : Rule) (W : Type 0) → b ≡ false
+    → (app : App) → W → IsApp app old → IsApp (with_rules app (before_if b rule [])) old
+not_had old b rule W has app w before =
+    let P : Bool → Type 0 = λ b. IsApp (with_rules app (before_if b rule [])) old in subst P (sym has) before
+
+-- a command with rules, and more of them
+abbrev pub app_of_rules : Text → List Rule → App
+app_of_rules name rules = record { top = record (new_shape name) { rules = rules }; subs = [] }
+
+rules_after : (name : Text) (rules more : List Rule)
+    → with_rules (app_of_rules name rules) more ≡ app_of_rules name (rules ++ more)
+rules_after name rules [] = ap (app_of_rules name) (sym (append-nil rules))
+rules_after name rules (rule ∷ more) = rules_after name (rules ++ rule ∷ []) more
+    ∙ ap (app_of_rules name) (append_assoc rules (rule ∷ []) more)
+
+-- the command of a name, with its arguments of a table
+pub commanded : (name : Text) (table : List Argument) (made : Command)
+    → IsApp (with_rules (new_app name) (rules_of name table)) made → IsApp (command_of name table) made
+commanded name table made is =
+    let P : App → Type 0 = λ app. IsApp app made in subst P (rules_after name [] (rules_of name table)) is

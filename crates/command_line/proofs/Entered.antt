@@ -47,7 +47,7 @@ found_here m s command found is named matched = entered m command.now (rows_of (
 -- it is in the matches that the parser finds for a line
 entered_by : (m : ArgMatches) (line : List (List ℕ)) (finds : Finds line m) (command : List ℕ) (rows : List Row)
     → subcommand_rows_of m ≡ Some (command, rows)
-    → subcommand_of (the_program finds.choices) line ≡ Some (command, rows)
+    → subcommand_of (the_program finds.table) line ≡ Some (command, rows)
 entered_by m line finds command rows here = sym finds.found ∙ here
 
 pub asked_by : (m : ArgMatches) (s : Option (Bor Text × Bor ArgMatches)) (command : Bor Text) (found : Bor ArgMatches)
@@ -57,7 +57,7 @@ pub asked_by : (m : ArgMatches) (s : Option (Bor Text × Bor ArgMatches)) (comma
     → OnOk r (keeps_ties command.now (found_of found.now) ≡ true) → IfOk r (AsksOf command.now (found_of found.now))
     → IfOk r (λ asked. (line : List (List ℕ)) → Finds line m → IsAskedBy line asked)
 asked_by m s command found (Ok asked) is named matched tied asks = λ line finds. record {
-  choices = finds.choices;
+  table = finds.table;
   listed = finds.listed;
   taken = finds.taken;
   command = command.now;
@@ -73,7 +73,7 @@ taken_as : (m : ArgMatches) (line : List (List ℕ)) (finds : Finds line m) (com
     (IsSuch : List ℕ → Found → Type 0)
     → subcommand_rows_of m ≡ Some (command, rows_of found) → IsSuch command found → IsTakenAs line IsSuch
 taken_as m line finds command found IsSuch here such = record {
-  choices = finds.choices;
+  table = finds.table;
   listed = finds.listed;
   taken = finds.taken;
   command = command;
@@ -103,7 +103,7 @@ pub none_by : (m : ArgMatches) (s : Option (Bor Text × Bor ArgMatches)) → s �
     → option_map (λ p. p.0.now) s ≡ subcommand_name_of m
     → (line : List (List ℕ)) → Finds line m → IsTakenAs line IsMisread ⊎ FindsNone line
 none_by m s is named line finds = inr (record {
-  choices = finds.choices;
+  table = finds.table;
   listed = finds.listed;
   none = sym finds.found ∙ no_rows (subcommand_rows_of m) (name_of m ∙ (sym named ∙ ap (option_map (λ p. p.0.now)) is));
 })

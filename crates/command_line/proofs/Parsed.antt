@@ -6,19 +6,11 @@ use Rattle.clap.specs.Kinds.{FailsBy, HasKind}
 use Rattle.clap.specs.declared.ArgMatches.{ArgMatches}
 use Rattle.clap.specs.declared.Command.{Command}
 use Rattle.clap.specs.declared.Error.{Error}
-use Rattle.clap.proofs.OnLiterals.{clap_on_literals}
 use Rattle.std.proofs.lemmas.Result.{IfOk-weaker, IfErr-weaker}
-use Rattle.command_line.specs.declared.words.choices.Choices.{Choices}
-use Rattle.command_line.specs.Commands.{AreChoices, IsApp, the_program}
+use Rattle.command_line.specs.declared.words.arguments.Argument.{Argument}
+use Rattle.command_line.specs.Commands.{IsTable, IsApp, the_program}
+use Rattle.command_line.proofs.SimpleProgram.{is_simple_program, is_free_program}
 use Rattle.command_line.specs.Commanded.{Finds, Fails}
-
-is_simple_program : (choices : Choices) → is_simple (the_program choices) ≡ true
-unfolding clap_on_literals
-is_simple_program choices = refl
-
-is_free_program : (choices : Choices) → is_simple_and_free (the_program choices) ≡ true
-unfolding clap_on_literals
-is_free_program choices = refl
 
 taken_by : (r : Result ArgMatches Error) (app program : App) (line : List (List ℕ)) → app ≡ program
     → is_simple program ≡ true → is_simple_and_free program ≡ true
@@ -37,19 +29,19 @@ failed_by (Ok m) app program line same free fails = tt
 failed_by (Err e) app program line same free fails =
     subst (λ a. HasKind (fault_of a line) e) same (fails (ap is_simple_and_free same ∙ free))
 
-pub finds : (r : Result ArgMatches Error) (command : Command) (choices : Choices) (line : List (List ℕ))
-    → AreChoices choices → IsApp (the_program choices) command
+pub finds : (r : Result ArgMatches Error) (command : Command) (table : List Argument) (line : List (List ℕ))
+    → IsTable table → IsApp (the_program table) command
     → IfOk r (HasMatchesOf (app_of command) line)
     → (is_simple_and_free (app_of command) ≡ true → FailsBy (fault_of (app_of command) line) r)
     → IfOk r (Finds line)
-finds r command choices line listed is found fails = IfOk-weaker r _ _
-    (λ m h. record { choices = choices; listed = listed; taken = h.0; found = h.1 })
-    (taken_by r (app_of command) (the_program choices) line is.reads (is_simple_program choices)
-    (is_free_program choices) found fails)
+finds r command table line listed is found fails = IfOk-weaker r _ _
+    (λ m h. record { table = table; listed = listed; taken = h.0; found = h.1 })
+    (taken_by r (app_of command) (the_program table) line is.reads (is_simple_program table listed)
+    (is_free_program table listed) found fails)
 
-pub fails : (r : Result ArgMatches Error) (command : Command) (choices : Choices) (line : List (List ℕ))
-    → AreChoices choices → IsApp (the_program choices) command
+pub fails : (r : Result ArgMatches Error) (command : Command) (table : List Argument) (line : List (List ℕ))
+    → IsTable table → IsApp (the_program table) command
     → (is_simple_and_free (app_of command) ≡ true → FailsBy (fault_of (app_of command) line) r) → IfErr r (Fails line)
-fails r command choices line listed is failing = IfErr-weaker r _ _
-    (λ e h. record { choices = choices; listed = listed; kind = h })
-    (failed_by r (app_of command) (the_program choices) line is.reads (is_free_program choices) failing)
+fails r command table line listed is failing = IfErr-weaker r _ _
+    (λ e h. record { table = table; listed = listed; kind = h })
+    (failed_by r (app_of command) (the_program table) line is.reads (is_free_program table listed) failing)

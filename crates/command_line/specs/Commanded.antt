@@ -11,14 +11,14 @@ use Rattle.clap.specs.declared.error.ErrorKind.TheVariants as kinds
 use Rattle.clap.specs.declared.parser.matches.Found.{Found}
 use Rattle.clap.specs.declared.ArgMatches.{ArgMatches}
 use Rattle.clap.specs.declared.Error.{Error}
-use Rattle.command_line.specs.declared.words.choices.Choices.{Choices}
+use Rattle.command_line.specs.declared.words.arguments.Argument.{Argument}
 use Rattle.command_line.specs.declared.answer_form.AnswerForm.{AnswerForm}
 use Rattle.command_line.specs.declared.answer_form.AnswerForm.TheVariants as answer
 use Rattle.command_line.specs.declared.words.Asked.{Asked}
 use Rattle.command_line.specs.declared.words.Job.{Job}
 use Rattle.command_line.specs.declared.words.WordFault.{WordFault}
 use Rattle.command_line.specs.declared.words.WordFault.TheVariants.{Usage, Help, Offset, Memory}
-use Rattle.command_line.specs.Commands.{AreChoices, the_program}
+use Rattle.command_line.specs.Commands.{IsTable, the_program}
 use Rattle.command_line.specs.Flags.{FlagIn}
 use Rattle.command_line.specs.Found.{Asks, IsJobOf, word_in}
 use Rattle.command_line.specs.Misread.{FailsFor, Misplaced, Misread}
@@ -27,16 +27,16 @@ use Rattle.command_line.specs.Ties.{is_given, keeps_ties}
 
 -- the parser takes the words of a line, and finds a command with these matches, or none
 pub record Finds (line : List (List ℕ)) (matches : ArgMatches) : Type 0 where
-  pub choices : Choices
-  pub listed : AreChoices choices
-  pub taken : fault_of (the_program choices) line ≡ []
-  pub found : subcommand_rows_of matches ≡ subcommand_of (the_program choices) line
+  pub table : List Argument
+  pub listed : IsTable table
+  pub taken : fault_of (the_program table) line ≡ []
+  pub found : subcommand_rows_of matches ≡ subcommand_of (the_program table) line
 
 -- the parser refuses the words, or memory ran out
 pub record Fails (line : List (List ℕ)) (error : Error) : Type 0 where
-  pub choices : Choices
-  pub listed : AreChoices choices
-  pub kind : HasKind (fault_of (the_program choices) line) error
+  pub table : List Argument
+  pub listed : IsTable table
+  pub kind : HasKind (fault_of (the_program table) line) error
 
 -- only these two commands have an option for the form of their answer
 abbrev pub has_answer_form : (command : List ℕ) → Bool
@@ -61,12 +61,12 @@ pub record AsksOf (command : List ℕ) (found : Found) (asked : Asked) : Type 0 
 
 -- the parser takes the words of a line, the ties between arguments are kept, and this is what they request
 pub record IsAskedBy (line : List (List ℕ)) (asked : Asked) : Type 0 where
-  pub choices : Choices
-  pub listed : AreChoices choices
-  pub taken : fault_of (the_program choices) line ≡ []
+  pub table : List Argument
+  pub listed : IsTable table
+  pub taken : fault_of (the_program table) line ≡ []
   pub command : List ℕ
   pub found : Found
-  pub enters : subcommand_of (the_program choices) line ≡ Some (command, rows_of found)
+  pub enters : subcommand_of (the_program table) line ≡ Some (command, rows_of found)
   pub tied : keeps_ties command found ≡ true
   pub asks : AsksOf command found asked
 
@@ -76,10 +76,10 @@ IsJobAskedBy line job = (asked : Asked) × IsAskedBy line asked × (job ≡ aske
 
 -- the parser refuses the words, by an error of such a kind
 pub record IsRefusedBy (line : List (List ℕ)) (IsSuch : ErrorKind → Type 0) : Type 0 where
-  pub choices : Choices
-  pub listed : AreChoices choices
+  pub table : List Argument
+  pub listed : IsTable table
   pub kind : ErrorKind
-  pub among : IsAmong kind (fault_of (the_program choices) line)
+  pub among : IsAmong kind (fault_of (the_program table) line)
   pub such : IsSuch kind
 
 abbrev pub IsHelp : ErrorKind → Type 0
@@ -97,19 +97,19 @@ IsRefused line Memory = Unit {0}
 
 -- the parser takes the words, and finds a command with such matches
 pub record IsTakenAs (line : List (List ℕ)) (IsSuch : (command : List ℕ) → Found → Type 0) : Type 0 where
-  pub choices : Choices
-  pub listed : AreChoices choices
-  pub taken : fault_of (the_program choices) line ≡ []
+  pub table : List Argument
+  pub listed : IsTable table
+  pub taken : fault_of (the_program table) line ≡ []
   pub command : List ℕ
   pub found : Found
-  pub enters : subcommand_of (the_program choices) line ≡ Some (command, rows_of found)
+  pub enters : subcommand_of (the_program table) line ≡ Some (command, rows_of found)
   pub such : IsSuch command found
 
 -- the parser finds no command
 pub record FindsNone (line : List (List ℕ)) : Type 0 where
-  pub choices : Choices
-  pub listed : AreChoices choices
-  pub none : subcommand_of (the_program choices) line ≡ None
+  pub table : List Argument
+  pub listed : IsTable table
+  pub none : subcommand_of (the_program table) line ≡ None
 
 -- a tie is broken, or the ties are kept and an argument is wrong
 abbrev pub IsMisread : (command : List ℕ) → Found → Type 0

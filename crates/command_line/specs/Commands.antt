@@ -1,7 +1,9 @@
 -- The commands and their arguments, as the parser reads them: without the ties between arguments and without help
 -- texts.
 use Rattle.std.specs.Borrow.{Bor}
-use Rattle.std.specs.Prelude.{◌≡◌, true, false, ℕ, List, [], ◌∷◌, ◌++◌, Some, codes}
+use Rattle.std.specs.Prelude.{◌≡◌, true, false, Bool, ℕ, List, [], ◌∷◌, ◌++◌, map, Option, Some, None, codes, if◌then◌else◌, option_map}
+use Rattle.std.specs.List.{list_any}
+use Rattle.std.specs.Str.{bytes_eq}
 use Rattle.clap.specs.Walk.{Rule, Text, rule_of, texts}
 use Rattle.clap.specs.Simple.{App, app_of, new_rule, new_shape, with_rule}
 use Rattle.clap.specs.declared.builder.ArgAction.TheVariants.{Append, SetTrue}
@@ -9,158 +11,242 @@ use Rattle.clap.specs.declared.builder.ValueParser.TheVariants.{Names, Unsigned}
 use Rattle.clap.specs.declared.Arg.{Arg}
 use Rattle.clap.specs.declared.Command.{Command}
 use Rattle.clap.specs.declared.Command.TheViews.{out-Command}
-use Rattle.command_line.specs.declared.words.choices.Choices.{Choices}
+use Rattle.command_line.specs.declared.words.arguments.Accepts.{Accepts}
+use Rattle.command_line.specs.declared.words.arguments.Accepts.TheVariants as accepts
+use Rattle.command_line.specs.declared.words.arguments.Argument.{Argument}
+use Rattle.command_line.specs.declared.words.arguments.Kind.{Kind}
+use Rattle.command_line.specs.declared.words.arguments.Kind.TheVariants.{Flag, Valued, Repeated, Positional, Positionals}
 
--- the words that options with a choice accept
-pub record AreChoices (choices : Choices) : Type 0 where
-  pub orders : texts choices.orders.now ≡ codes "big" ∷ codes "little" ∷ []
-  pub modes : texts choices.modes.now ≡ codes "flat" ∷ codes "tree" ∷ codes "json" ∷ codes "lines" ∷ []
-  pub line_modes : texts choices.line_modes.now ≡ codes "flat" ∷ codes "json" ∷ []
-  pub absent : texts choices.absent.now ≡ codes "fault" ∷ codes "empty" ∷ []
-  pub numbers : texts choices.numbers.now ≡ codes "decimal" ∷ codes "hex" ∷ codes "digits" ∷ []
-  pub chars : texts choices.chars.now ≡ codes "numbers" ∷ codes "text" ∷ []
-  pub forms : texts choices.forms.now ≡ codes "text" ∷ codes "json" ∷ []
-  pub times : texts choices.times.now ≡ codes "auto" ∷ codes "always" ∷ codes "never" ∷ []
+-- what the parser accepts as a value
+pub data Accepted : Type 0 where
+  AnyText : Accepted
+  ANumber : Accepted
+  OneOf : (words : List Text) → Accepted
 
--- `--name VALUE`
-abbrev pub option_rule : Text → Rule
-option_rule name = record (new_rule name) { long = Some name; value_names = 1 }
+-- an argument: the commands that have it, its name, the letter that is short for it, how it is given, the name of its
+-- value, what it accepts, and its value if it isn't given
+pub record Row : Type 0 where
+  pub of : List Text
+  pub name : Text
+  pub letter : Option ℕ
+  pub kind : Kind
+  pub value : Text
+  pub accepted : Accepted
+  pub default : Option Text
 
--- the same, with a value that it has if it isn't given
-abbrev pub default_rule : Text → Text → Rule
-default_rule name default = record (option_rule name) { defaults = default ∷ [] }
+abbrev pub option : (of : List Text) → (name value : Text) → Row
+option of name value = record {
+  of = of;
+  name = name;
+  letter = None;
+  kind = Valued;
+  value = value;
+  accepted = AnyText;
+  default = None;
+}
 
--- `--name`
-abbrev pub flag_rule : Text → Rule
-flag_rule name = record (new_rule name) { long = Some name; action = Some SetTrue }
+abbrev pub flag : (of : List Text) → (name : Text) → Row
+flag of name = record (option of name []) { kind = Flag }
 
--- an argument without a name before it, which must be given
-abbrev pub argument_rule : Text → Rule
-argument_rule name = record (new_rule name) { required = true }
+abbrev pub positional : (of : List Text) → (name : Text) → Row
+positional of name = record (option of name []) { kind = Positional }
 
--- the value is a number below 2^64
-abbrev pub numbered : Rule → Rule
-numbered rule = record rule { parser = Some (Unsigned 0 18446744073709551615) }
+-- a number below 2^64
+abbrev pub number : (of : List Text) → (name value : Text) → Row
+number of name value = record (option of name value) { accepted = ANumber }
 
--- the value is one of these words
-abbrev pub chosen : Rule → Bor (List (Bor Text)) → Rule
-chosen rule names = record rule { parser = Some (Names names) }
+-- one of some words
+abbrev pub choice : (of : List Text) → (name value : Text) → (words : List Text) → Row
+choice of name value words = record (option of name value) { accepted = OneOf words }
 
--- the option may be given many times
-abbrev pub repeated : Rule → Rule
-repeated rule = record rule { action = Some Append }
+-- with a value that it has if it isn't given
+abbrev pub defaulted : Row → Text → Row
+defaulted row default = record row { default = Some default }
 
--- `-l BYTES` or `--name BYTES`
-abbrev pub count_rule : Text → (letter : ℕ) → Rule
-count_rule name letter = record (option_rule name) { short = Some letter }
+-- it may be given many times
+abbrev pub repeated : Row → Row
+repeated row = record row { kind = Repeated }
 
--- FILE of `each`: any number of words
-abbrev pub files_rule : Rule
-files_rule = record (new_rule
-    (codes "FILE")) { range = Some (record { start_inclusive = 0; end_inclusive = 18446744073709551615 }) }
+abbrev pub lettered : Row → (letter : ℕ) → Row
+lettered row letter = record row { letter = Some letter }
 
-module _ (choices : Choices) where
-  abbrev pub endian_rule : Rule
-  endian_rule = chosen (default_rule (codes "endian") (codes "big")) choices.orders
+-- the commands that map a type, and those of them that print values
+abbrev pub mapping : List Text
+mapping = codes "map" ∷ codes "show" ∷ codes "each" ∷ []
 
-  abbrev pub absent_rule : Rule
-  absent_rule = chosen (default_rule (codes "absent") (codes "fault")) choices.absent
+abbrev pub printing : List Text
+printing = codes "map" ∷ codes "each" ∷ []
 
-  abbrev pub numbers_rule : Rule
-  numbers_rule = chosen (default_rule (codes "numbers") (codes "decimal")) choices.numbers
+abbrev pub only : (command : Text) → List Text
+only command = command ∷ []
 
-  abbrev pub chars_rule : Rule
-  chars_rule = chosen (default_rule (codes "chars") (codes "numbers")) choices.chars
+-- the words of choices that more than one option has
+abbrev pub modes : List Text
+modes = codes "flat" ∷ codes "tree" ∷ codes "json" ∷ codes "lines" ∷ []
 
-  abbrev pub faults_rule : Rule
-  faults_rule = chosen (default_rule (codes "faults") (codes "text")) choices.forms
+abbrev pub numbers : List Text
+numbers = codes "decimal" ∷ codes "hex" ∷ codes "digits" ∷ []
 
-  abbrev pub answer_rule : Rule
-  answer_rule = chosen (default_rule (codes "mode") (codes "text")) choices.forms
+abbrev pub chars : List Text
+chars = codes "numbers" ∷ codes "text" ∷ []
 
-  abbrev pub color_rule : Rule
-  color_rule = chosen (default_rule (codes "color") (codes "auto")) choices.times
+abbrev pub forms : List Text
+forms = codes "text" ∷ codes "json" ∷ []
 
-  -- how a value is printed, in all modes or in those of one line
-  abbrev pub mode_rule : Rule
-  mode_rule = chosen (default_rule (codes "mode") (codes "flat")) choices.modes
+-- the options of mappings, in the order in which the parser has them
+abbrev pub mapping_options : List Row
+mapping_options =
+    defaulted (option mapping (codes "at") (codes "OFFSET")) (codes "0#b")
+    ∷ option mapping (codes "byte") (codes "N")
+    ∷ defaulted (choice mapping (codes "endian") (codes "ORDER") (codes "big" ∷ codes "little" ∷ [])) (codes "big")
+    ∷ defaulted (number mapping (codes "limit") (codes "N")) (codes "1000000000")
+    ∷ flag mapping (codes "whole")
+    ∷ number mapping (codes "max-output") (codes "N")
+    ∷ number mapping (codes "slots") (codes "N")
+    ∷ repeated (option (only (codes "map")) (codes "get") (codes "PATH"))
+    ∷ option (only (codes "show")) (codes "get") (codes "PATH")
+    ∷ repeated (option (only (codes "each")) (codes "get") (codes "PATH"))
+    ∷ number mapping (codes "spool") (codes "BYTES")
+    ∷ flag mapping (codes "progress")
+    ∷ option (only (codes "map")) (codes "rows") (codes "PATTERN")
+    ∷ flag (only (codes "map")) (codes "header")
+    ∷ defaulted (choice printing (codes "absent") (codes "WHAT") (codes "fault" ∷ codes "empty" ∷ [])) (codes "fault")
+    ∷ []
 
-  abbrev pub line_mode_rule : Rule
-  line_mode_rule = chosen (default_rule (codes "mode") (codes "flat")) choices.line_modes
+-- those of printed values and answers
+abbrev pub style_options : List Row
+style_options =
+    flag (only (codes "bound")) (codes "text")
+    ∷ defaulted (choice (only (codes "map")) (codes "mode") (codes "MODE") modes) (codes "flat")
+    ∷ defaulted (choice (only (codes "each")) (codes "mode") (codes "MODE") (codes "flat" ∷ codes "json" ∷ []))
+    (codes "flat")
+    ∷ choice (only (codes "bound")) (codes "mode") (codes "MODE") modes
+    ∷ defaulted (choice (codes "check" ∷ codes "types" ∷ []) (codes "mode") (codes "MODE") forms) (codes "text")
+    ∷ defaulted (choice printing (codes "numbers") (codes "FORM") numbers) (codes "decimal")
+    ∷ choice (only (codes "bound")) (codes "numbers") (codes "FORM") numbers
+    ∷ defaulted (choice printing (codes "chars") (codes "FORM") chars) (codes "numbers")
+    ∷ choice (only (codes "bound")) (codes "chars") (codes "FORM") chars
+    ∷ defaulted (option printing (codes "elements") (codes "N")) (codes "all")
+    ∷ defaulted (option (only (codes "show")) (codes "elements") (codes "N")) (codes "16")
+    ∷ option (only (codes "bound")) (codes "elements") (codes "N")
+    ∷ defaulted (choice printing (codes "faults") (codes "FORM") forms) (codes "text")
+    ∷ defaulted (option (only (codes "show")) (codes "depth") (codes "N")) (codes "6")
+    ∷ defaulted (choice (only (codes "show")) (codes "color") (codes "WHEN")
+    (codes "auto" ∷ codes "always" ∷ codes "never" ∷ [])) (codes "auto")
+    ∷ flag printing (codes "why")
+    ∷ flag (only (codes "bound")) (codes "why")
+    ∷ flag (only (codes "check")) (codes "why")
+    ∷ flag (only (codes "types")) (codes "why")
+    ∷ []
 
-  -- the options of a mapping, with the one that chooses parts
-  abbrev pub mapping_rules : (get : Rule) → List Rule
-  mapping_rules get = default_rule (codes "at") (codes "0#b") ∷ option_rule (codes "byte") ∷ endian_rule
-      ∷ numbered (default_rule (codes "limit") (codes "1000000000")) ∷ flag_rule (codes "whole")
-      ∷ numbered (option_rule (codes "max-output")) ∷ numbered (option_rule (codes "slots")) ∷ get
-      ∷ numbered (option_rule (codes "spool")) ∷ flag_rule (codes "progress") ∷ []
+-- those of one command
+abbrev pub other_options : List Row
+other_options =
+    flag (only (codes "each")) (codes "flush")
+    ∷ option (only (codes "each")) (codes "files0-from") (codes "PATH")
+    ∷ defaulted (option (only (codes "dump")) (codes "from") (codes "OFFSET")) (codes "0#B")
+    ∷ defaulted (option (only (codes "dump")) (codes "size") (codes "OFFSET")) (codes "128#B")
+    ∷ lettered (option (only (codes "dump")) (codes "skip") (codes "BYTES")) 115
+    ∷ lettered (option (only (codes "dump")) (codes "length") (codes "BYTES")) 110
+    ∷ flag (only (codes "dump")) (codes "no-ruler")
+    ∷ []
 
-  -- the options of a printed value, with the one that chooses the mode
-  abbrev pub style_rules : (mode : Rule) → List Rule
-  style_rules mode = mode ∷ numbers_rule ∷ chars_rule ∷ default_rule (codes "elements") (codes "all") ∷ faults_rule ∷ []
+abbrev pub positionals : List Row
+positionals =
+    positional (codes "map" ∷ codes "show" ∷ codes "each" ∷ codes "bound" ∷ codes "check" ∷ codes "types" ∷ [])
+    (codes "PICKLE")
+    ∷ positional (codes "map" ∷ codes "show" ∷ codes "each" ∷ codes "bound" ∷ []) (codes "TYPE")
+    ∷ positional (codes "map" ∷ codes "show" ∷ codes "dump" ∷ []) (codes "FILE")
+    ∷ record (positional (only (codes "each")) (codes "FILE")) { kind = Positionals }
+    ∷ record (positional (only (codes "bound")) (codes "BITS")) { accepted = ANumber }
+    ∷ []
 
-  -- the options of the style that a bound is for
-  abbrev pub bound_style_rules : List Rule
-  bound_style_rules = chosen (option_rule (codes "numbers")) choices.numbers
-      ∷ chosen (option_rule (codes "chars")) choices.chars ∷ option_rule (codes "elements") ∷ []
+-- the arguments of all commands
+abbrev pub arguments : List Row
+arguments = mapping_options ++ style_options ++ other_options ++ positionals
 
--- the pickle and the type
-abbrev pub pickle_rules : List Rule
-pickle_rules = argument_rule (codes "PICKLE") ∷ argument_rule (codes "TYPE") ∷ []
+-- the row that an argument of the code is
+abbrev pub accepted : Accepts → Accepted
+accepted accepts.Number = ANumber
+accepted (accepts.OneOf words) = OneOf (texts words.now)
+accepted _ = AnyText
 
-abbrev pub get_rule : Rule
-get_rule = option_rule (codes "get")
+abbrev pub row_of : Argument → Row
+row_of argument = record {
+  of = texts argument.of.now;
+  name = argument.name.now;
+  letter = argument.letter;
+  kind = argument.kind;
+  value = argument.value.now;
+  accepted = accepted argument.accepts;
+  default = option_map (λ text. text.now) argument.default;
+}
 
-abbrev pub why_rule : Rule
-why_rule = flag_rule (codes "why")
+-- the table of the code has these arguments
+abbrev pub IsTable : List Argument → Type 0
+IsTable table = map row_of table ≡ arguments
+
+-- a rule of the parser, by how the argument is given
+abbrev pub with_kind : Kind → (name : Text) → Rule → Rule
+with_kind Flag name rule = record rule { long = Some name; action = Some SetTrue }
+with_kind Valued name rule = record rule { long = Some name; value_names = 1 }
+with_kind Repeated name rule = record rule { long = Some name; value_names = 1; action = Some Append }
+with_kind Positional name rule = record rule { required = true }
+with_kind Positionals name rule =
+    record rule { range = Some (record { start_inclusive = 0; end_inclusive = 18446744073709551615 }) }
+
+abbrev pub with_letter : Option ℕ → Rule → Rule
+with_letter None rule = rule
+with_letter (Some letter) rule = record rule { short = Some letter }
+
+abbrev pub with_default : Option Text → Rule → Rule
+with_default None rule = rule
+with_default (Some default) rule = record rule { defaults = default ∷ [] }
+
+abbrev pub with_values : (names : Bor (List (Bor Text))) → Accepted → Rule → Rule
+with_values names AnyText rule = rule
+with_values names ANumber rule = record rule { parser = Some (Unsigned 0 18446744073709551615) }
+with_values names (OneOf words) rule = record rule { parser = Some (Names names) }
+
+-- the parser's rule of a row. `names` is where the code has the words of a choice
+abbrev pub rule_of_row : (names : Bor (List (Bor Text))) → Row → Rule
+rule_of_row names row = with_values names row.accepted
+    (with_default row.default (with_letter row.letter (with_kind row.kind row.name (new_rule row.name))))
+
+-- where the words of an argument's choice are; for one that is none, any place will do
+abbrev pub names_in : Accepts → Bor (List (Bor Text)) → Bor (List (Bor Text))
+names_in (accepts.OneOf words) others = words
+names_in _ others = others
+
+abbrev pub names_of : Argument → Bor (List (Bor Text))
+names_of argument = names_in argument.accepts argument.of
+
+-- the parser's rule of an argument
+abbrev pub rule_of_argument : Argument → Rule
+rule_of_argument argument = rule_of_row (names_of argument) (row_of argument)
+
+-- the command of this name has the argument
+abbrev pub has : (command : Text) → Argument → Bool
+has command argument = list_any (λ name. bytes_eq name.now command) argument.of.now
+
+-- the rules with one before them if a test passes
+abbrev pub before_if : Bool → Rule → List Rule → List Rule
+before_if true rule rules = rule ∷ rules
+before_if false rule rules = rules
+
+-- the rules of a command
+abbrev pub rules_of : (command : Text) → List Argument → List Rule
+rules_of command [] = []
+rules_of command (argument ∷ arguments) =
+    before_if (has command argument) (rule_of_argument argument) (rules_of command arguments)
 
 -- a command with these arguments, in this order
 abbrev pub with_rules : App → List Rule → App
 with_rules app [] = app
 with_rules app (rule ∷ rules) = with_rules (with_rule app rule) rules
 
-abbrev pub command_of : Text → List Rule → App
-command_of name rules = record { top = record (new_shape name) { rules = rules }; subs = [] }
-
-module _ (choices : Choices) where
-  abbrev pub map_command : App
-  map_command = command_of (codes "map")
-      (mapping_rules choices (repeated get_rule)
-      ++ (option_rule (codes "rows") ∷ flag_rule (codes "header") ∷ absent_rule choices ∷ [])
-      ++ style_rules choices (mode_rule choices) ++ why_rule ∷ [] ++ pickle_rules ++ argument_rule (codes "FILE") ∷ [])
-
-  abbrev pub show_command : App
-  show_command = command_of (codes "show")
-      (mapping_rules choices get_rule ++ (default_rule (codes "elements") (codes "16")
-      ∷ default_rule (codes "depth") (codes "6") ∷ color_rule choices ∷ [])
-      ++ pickle_rules ++ argument_rule (codes "FILE") ∷ [])
-
-  abbrev pub each_command : App
-  each_command = command_of (codes "each")
-      (mapping_rules choices (repeated get_rule) ++ absent_rule choices ∷ []
-      ++ style_rules choices (line_mode_rule choices)
-      ++ (why_rule ∷ flag_rule (codes "flush") ∷ option_rule (codes "files0-from") ∷ [])
-      ++ pickle_rules ++ files_rule ∷ [])
-
-  abbrev pub bound_command : App
-  bound_command = command_of (codes "bound")
-      ((flag_rule (codes "text") ∷ chosen (option_rule (codes "mode")) choices.modes ∷ []) ++ bound_style_rules choices
-      ++ why_rule ∷ [] ++ pickle_rules ++ numbered (argument_rule (codes "BITS")) ∷ [])
-
-  abbrev pub check_command : App
-  check_command = command_of (codes "check") (answer_rule choices ∷ why_rule ∷ argument_rule (codes "PICKLE") ∷ [])
-
-  abbrev pub types_command : App
-  types_command = command_of (codes "types") (answer_rule choices ∷ why_rule ∷ argument_rule (codes "PICKLE") ∷ [])
-
-abbrev pub formats_command : App
-formats_command = command_of (codes "formats") []
-
-abbrev pub dump_command : App
-dump_command =
-    command_of (codes "dump") (default_rule (codes "from") (codes "0#B") ∷ default_rule (codes "size") (codes "128#B")
-    ∷ count_rule (codes "skip") 115 ∷ count_rule (codes "length") 110 ∷ flag_rule (codes "no-ruler")
-    ∷ argument_rule (codes "FILE") ∷ [])
+abbrev pub command_of : (name : Text) → List Argument → App
+command_of name table = record { top = record (new_shape name) { rules = rules_of name table }; subs = [] }
 
 -- the program before it has commands
 abbrev pub without_commands : App
@@ -169,14 +255,21 @@ without_commands = record {
   subs = [];
 }
 
--- the program: its commands, of which one must be given
-abbrev pub the_program : Choices → App
-the_program choices = record {
+-- the names of the commands
+abbrev pub commands : List Text
+commands = codes "map" ∷ codes "show" ∷ codes "each" ∷ codes "bound" ∷ codes "check" ∷ codes "types"
+    ∷ codes "formats" ∷ codes "dump" ∷ []
+
+-- a program whose commands have these rules, and of which one command must be given
+abbrev pub program_of : (rules_of : (command : Text) → List Rule) → App
+program_of rules_of = record {
   top = record (new_shape (codes "poke_batch")) { is_leaf = false; has_version = true; subcommand_required = true };
-  subs =
-      (map_command choices).top ∷ (show_command choices).top ∷ (each_command choices).top ∷ (bound_command choices).top
-      ∷ (check_command choices).top ∷ (types_command choices).top ∷ formats_command.top ∷ dump_command.top ∷ [];
+  subs = map (λ command. record (new_shape command) { rules = rules_of command }) commands;
 }
+
+-- the program of a table
+abbrev pub the_program : List Argument → App
+the_program table = program_of (λ command. rules_of command table)
 
 -- what is built has the arguments of a rule or of a command, and none that reaches into other commands
 pub record IsArg (rule : Rule) (arg : Arg) : Type 0 where

@@ -1,11 +1,12 @@
 //! Reads the arguments.
 mod arguments;
 mod bytes;
-mod choices;
 mod commands;
 mod found;
 mod line;
 mod mapping;
+mod overview;
+mod parser;
 mod selected;
 mod shown;
 mod style;
@@ -29,15 +30,16 @@ use crate::request::{FileNames, Form, Over, Request};
 use crate::selection::Choice;
 use crate::start::Start;
 use crate::terms::Terms;
+use arguments::arguments;
 use bit_space::Order;
 use bytes::bytes_in;
-use choices::{Choices, Ties};
 use clap::ArgMatches;
 use clap::error::ErrorKind;
 use commands::{PROGRAM, SHOWN_ELEMENTS, SHOWN_LEVELS, program};
 use found::{flag_of, number_if_any, number_of, word, word_of};
 use line::{command_line, without_help_of_help};
 use mapping::mapping_words;
+use parser::Ties;
 use selected::{part_beside, selection_of};
 use shown::shown_words;
 use std::alloc::{AllocError, Global};
@@ -181,7 +183,7 @@ fn matches_of<'a>(alloc: Global, line: &'a [String]) -> Result<ArgMatches<'a>, c
     ensures finds { IfOk result (Finds (map string_bytes line.entry.now)) }
     ensures fails { IfErr result (Fails (map string_bytes line.entry.now)) }
 {
-    program(alloc, Choices::all(), Ties::Without)?.try_get_matches_from(line)
+    program(alloc, arguments(), Ties::Without)?.try_get_matches_from(line)
 }
 
 // The job of the command that was found.
@@ -273,7 +275,7 @@ fn word_fault(alloc: Global, error: &clap::Error, words: &[String]) -> Result<Wo
 // The text of help for arguments, by the program with ties.
 fn help_of(alloc: Global, error: &clap::Error, words: &[String]) -> Result<String, AllocError> {
     let named = after_name(alloc, words)?;
-    match program(alloc, Choices::all(), Ties::With)?.try_get_matches_from(named.as_slice()) {
+    match program(alloc, arguments(), Ties::With)?.try_get_matches_from(named.as_slice()) {
         Ok(_matches) => text_of(alloc, error),
         Err(tied) => text_of(alloc, &tied),
     }
@@ -285,7 +287,7 @@ fn help_of(alloc: Global, error: &clap::Error, words: &[String]) -> Result<Strin
 fn usage_of(alloc: Global, words: &[String]) -> Result<String, AllocError> {
     let shown = shown_words(alloc, words)?;
     let named = after_name(alloc, shown.as_slice())?;
-    match program(alloc, Choices::all(), Ties::With)?.try_get_matches_from(named.as_slice()) {
+    match program(alloc, arguments(), Ties::With)?.try_get_matches_from(named.as_slice()) {
         Ok(_matches) => String::from_str(alloc, WRONG_WORD),
         Err(error) => text_of(alloc, &error),
     }

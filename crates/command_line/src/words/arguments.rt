@@ -1,468 +1,544 @@
-//! The arguments of the commands, with the texts of their help.
-ghost use Rattle.std.specs.Prelude.{◌≡◌, IfOk, codes};
-ghost use Rattle.command_line.specs.Commands.{IsArg, option_rule, default_rule, flag_rule, argument_rule, numbered, chosen, repeated, count_rule, files_rule};
-ghost use Rattle.command_line.specs.Commands.{endian_rule, absent_rule, numbers_rule, chars_rule, faults_rule, answer_rule, color_rule, get_rule, why_rule};
+//! The arguments of the commands: each option and each positional argument once.
+//!
+//! `tools/options --write` writes the option overview of `--help`, the manual page's OPTIONS, the completions and the
+//! tables of docs/COMMAND_LINE.md from `ARGUMENTS` and the comments in it, and `tools/options --check` compares them. A
+//! new option is a row here, and a row of `arguments` in specs/Commands.antt.
+ghost use Rattle.std.specs.Prelude.{◌≡◌};
+ghost use Rattle.command_line.specs.Commands.{IsTable};
 
-use crate::words::choices::{Choices, Ties};
-use clap::{Arg, ArgAction};
-use std::alloc::{AllocError, Global};
-
-/// Where a mapping begins, as an offset.
-pub fn at<'a>(alloc: Global) -> Arg<'a>
-    ensures { IsArg (default_rule (codes "at") (codes "0#b")) result }
-{
-    offset(alloc, "at", "Where the value begins in FILE", "0#b")
+/// How an argument is given.
+#[derive(Clone, Copy)]
+pub enum Kind {
+    /// `--name`.
+    Flag,
+    /// `--name VALUE`, at most once.
+    Valued,
+    /// `--name VALUE`, any number of times.
+    Repeated,
+    /// A word that must be given, by its place.
+    Positional,
+    /// Any number of words, by their place.
+    Positionals,
 }
 
-/// The same in bytes, which may be counted from the file's end.
-pub fn byte<'a>(alloc: Global, ties: Ties) -> Result<Arg<'a>, AllocError>
-    ensures { IfOk result (λ arg. ties ≡ Ties.Without → IsArg (option_rule (codes "byte")) arg) }
-{
-    let byte = option(alloc, "byte", "N").help(
-        "The byte where the value begins, as 446, 0x1be or, from the end of FILE, -512 [default: 0]",
-    );
-    match ties {
-        Ties::With => byte.allow_hyphen_values(true).conflicts_with("at"),
-        Ties::Without => Ok(byte),
-    }
+/// What the value of an argument may be.
+#[derive(Clone, Copy)]
+pub enum Accepts {
+    /// Any text that the command accepts.
+    Text,
+    /// An offset: a number, `#` and a unit.
+    Offset,
+    /// A number of bytes, after a `-` from the end of the file.
+    Place,
+    /// The path of a file.
+    File,
+    /// A number below 2^64.
+    Number,
+    /// One of these words.
+    OneOf(&'static [&'static str]),
 }
 
-/// The byte order.
-pub fn endian<'a>(alloc: Global, choices: Choices<'a>) -> Arg<'a>
-    ensures { IsArg (endian_rule choices.entry) result }
-{
-    option_with_default(alloc, "endian", "ORDER", "The byte order", "big").value_parser(
-        choices.orders,
-    )
+/// How an argument is tied to another one.
+#[derive(Clone, Copy)]
+pub enum Tie {
+    /// It isn't.
+    Free,
+    /// It excludes the other.
+    Apart(&'static str),
+    /// It requires the other.
+    Needs(&'static str),
+    /// Just one of both is given.
+    Either(&'static str),
 }
 
-/// The most steps.
-pub fn limit<'a>(alloc: Global) -> Arg<'a>
-    ensures { IsArg (numbered (default_rule (codes "limit") (codes "1000000000"))) result }
-{
-    option_with_default(
-        alloc,
-        "limit",
-        "N",
-        "The most steps of the mapping, 0 to 18446744073709551615",
-        "1000000000",
-    )
-    .value_parser(clap::value_parser!(u64))
+/// An argument of some commands.
+#[derive(Clone, Copy)]
+pub struct Argument {
+    /// The commands that have it.
+    pub of: &'static [&'static str],
+    /// Its name, for an option without the `--`.
+    pub name: &'static str,
+    /// The letter that is short for it.
+    pub letter: Option<char>,
+    /// How it is given.
+    pub kind: Kind,
+    /// What help calls its value, if it is an option with one.
+    pub value: &'static str,
+    /// What its value may be.
+    pub accepts: Accepts,
+    /// Its value if it isn't given.
+    pub default: Option<&'static str>,
+    /// What it excludes or requires.
+    pub tie: Tie,
+    /// Whether the short help leaves it out.
+    pub is_rare: bool,
+    /// The short sentence of help. The comment above a row of `ARGUMENTS` is the long one, in Markdown.
+    pub help: &'static str,
 }
 
-pub fn whole<'a>(alloc: Global) -> Arg<'a>
-    ensures { IsArg (flag_rule (codes "whole")) result }
-{
-    flag(alloc, "whole").help("Accept only a value that ends where FILE does [default: any end]")
-}
+/// What an option with a value has if its row says nothing else.
+const OPTION: Argument = Argument {
+    of: &[],
+    name: "",
+    letter: None,
+    kind: Kind::Valued,
+    value: "",
+    accepts: Accepts::Text,
+    default: None,
+    tie: Tie::Free,
+    is_rare: false,
+    help: "",
+};
 
-pub fn max_output<'a>(alloc: Global) -> Arg<'a>
-    ensures { IsArg (numbered (option_rule (codes "max-output"))) result }
-{
-    number(alloc, "max-output", "N").help(
-        "The most bytes of the printed value, 0 to 18446744073709551615 [default: any length]",
-    )
-}
+/// The same of a flag.
+const FLAG: Argument = Argument {
+    kind: Kind::Flag,
+    ..OPTION
+};
 
-pub fn slots<'a>(alloc: Global) -> Arg<'a>
-    ensures { IsArg (numbered (option_rule (codes "slots"))) result }
-{
-    number(alloc, "slots", "N").help(
-        "The most slots of the mapping, of each kind, reserved before it, 0 to 18446744073709551615 [default: any number]",
-    )
-}
+/// The same of a positional argument.
+const POSITIONAL: Argument = Argument {
+    kind: Kind::Positional,
+    ..OPTION
+};
 
-pub fn spool<'a>(alloc: Global) -> Arg<'a>
-    ensures { IsArg (numbered (option_rule (codes "spool"))) result }
-{
-    number(alloc, "spool", "BYTES").help(
-        "Read a FILE without a length, as a pipe, into memory, up to so many bytes, 0 to 18446744073709551615 [default: it isn't opened]",
-    )
-}
+/// The arguments of all commands, in the order in which help lists them.
+const ARGUMENTS: &[Argument] = &[
+    // The value begins this far from the start of FILE.
+    Argument {
+        of: &["map", "show", "each"],
+        name: "at",
+        value: "OFFSET",
+        accepts: Accepts::Offset,
+        default: Some("0#b"),
+        help: "Where the value begins in FILE",
+        ..OPTION
+    },
+    // The same in bytes, below 2^61: `446`, `0x1be` or, counted from the end of FILE, `-512`. A place before the first
+    // byte of FILE is `refused offset`.
+    Argument {
+        of: &["map", "show", "each"],
+        name: "byte",
+        value: "N",
+        accepts: Accepts::Place,
+        tie: Tie::Apart("at"),
+        help: "The byte where the value begins, as 446, 0x1be or, from the end of FILE, -512 [default: 0]",
+        ..OPTION
+    },
+    // The byte order of numbers whose field has neither `big` nor `little` before its type.
+    Argument {
+        of: &["map", "show", "each"],
+        name: "endian",
+        value: "ORDER",
+        accepts: Accepts::OneOf(&["big", "little"]),
+        default: Some("big"),
+        help: "The byte order",
+        ..OPTION
+    },
+    // The mapping takes at most N steps. If it needs more it ends with `fault Limit`.
+    Argument {
+        of: &["map", "show", "each"],
+        name: "limit",
+        value: "N",
+        accepts: Accepts::Number,
+        default: Some("1000000000"),
+        help: "The most steps of the mapping, 0 to 18446744073709551615",
+        ..OPTION
+    },
+    // Accept only a value that ends where FILE ends. Reject any other with `fault Left`.
+    Argument {
+        of: &["map", "show", "each"],
+        name: "whole",
+        help: "Accept only a value that ends where FILE does [default: any end]",
+        ..FLAG
+    },
+    // Accept only a value that is printed in at most N bytes, with the last line feed. Reject any other with
+    // `fault Output`.
+    Argument {
+        of: &["map", "show", "each"],
+        name: "max-output",
+        value: "N",
+        accepts: Accepts::Number,
+        is_rare: true,
+        help: "The most bytes of the printed value, 0 to 18446744073709551615 [default: any length]",
+        ..OPTION
+    },
+    // Reserve N slots of each kind before the mapping, which then allocates no more memory for values. A slot
+    // [stores a part of a value](OPERATORS.md#memory): a node, a link to a part, a part of a value that isn't finished, or
+    // a byte of a string. A mapping that needs more ends with `fault Slots`.
+    Argument {
+        of: &["map", "show", "each"],
+        name: "slots",
+        value: "N",
+        accepts: Accepts::Number,
+        is_rare: true,
+        help: "The most slots of each kind, reserved before the mapping, 0 to 18446744073709551615. A slot stores a part of a value: a node, a link, a pending child or a byte of a string [default: any number]",
+        ..OPTION
+    },
+    // Print the [part](#paths-and-parts) of the value at PATH, or the parts that a pattern leads to. If the option is
+    // given [many times](#many-parts-and-tables), each part is printed as it is printed alone.
+    Argument {
+        of: &["map"],
+        name: "get",
+        kind: Kind::Repeated,
+        value: "PATH",
+        help: "Print parts of the value: . or steps of .name, .place, [place], [*], [2:5], .* [default: .]",
+        ..OPTION
+    },
+    // Show the [part](#paths-and-parts) of the value at PATH, which is no pattern.
+    Argument {
+        of: &["show"],
+        name: "get",
+        value: "PATH",
+        help: "Print a part of the value: . or steps of .name, .place, [place] [default: .]",
+        ..OPTION
+    },
+    // Print the [part](#paths-and-parts) of the value at PATH. If the option is given
+    // [many times](#many-parts-and-tables), each part is a column, with tabs between them. In mode `json` the columns
+    // are one object.
+    Argument {
+        of: &["each"],
+        name: "get",
+        kind: Kind::Repeated,
+        value: "PATH",
+        help: "Print a part of the value, as a column if there are many: . or steps of .name, .place, [place] [default: .]",
+        ..OPTION
+    },
+    // Read a FILE that has no length, such as a pipe, [into memory](#a-file-without-a-length) before it is mapped. If it
+    // has more than BYTES bytes the run ends with `fault TooLong`. Without the option such a FILE is `fault Open`.
+    Argument {
+        of: &["map", "show", "each"],
+        name: "spool",
+        value: "BYTES",
+        accepts: Accepts::Number,
+        is_rare: true,
+        help: "Read a FILE without a length, as a pipe, into memory, up to so many bytes, 0 to 18446744073709551615 [default: it isn't opened]",
+        ..OPTION
+    },
+    // Show on standard error [how far](#progress) FILE was read, or of `each` how many files are done, if that is a
+    // terminal.
+    Argument {
+        of: &["map", "show", "each"],
+        name: "progress",
+        is_rare: true,
+        help: "Show how much is done, if standard error is a terminal [default: no]",
+        ..FLAG
+    },
+    // Print a [table](#many-parts-and-tables): a line for each part that PATTERN leads to, with a column for each
+    // `--get`, a path from that part on, and tabs between the columns. The mode is `flat` or `json`, in which each line
+    // is an object with the paths as keys.
+    Argument {
+        of: &["map"],
+        name: "rows",
+        value: "PATTERN",
+        tie: Tie::Needs("get"),
+        help: "Print a line for each part that PATTERN leads to, with a column for each --get",
+        ..OPTION
+    },
+    // With `--rows`, print the paths of the columns first.
+    Argument {
+        of: &["map"],
+        name: "header",
+        tie: Tie::Needs("rows"),
+        is_rare: true,
+        help: "With --rows, print the paths of the columns first [default: no]",
+        ..FLAG
+    },
+    // What a part that isn't there is: `fault NoSuchPart`, or with `empty` an empty column or line, in JSON `null`.
+    Argument {
+        of: &["map", "each"],
+        name: "absent",
+        value: "WHAT",
+        accepts: Accepts::OneOf(&["fault", "empty"]),
+        default: Some("fault"),
+        is_rare: true,
+        help: "What a part that isn't there is: a fault, or an empty column or line",
+        ..OPTION
+    },
+    // Also print how many bytes the printed value has at most.
+    Argument {
+        of: &["bound"],
+        name: "text",
+        help: "Print the most bytes of the printed value too",
+        ..FLAG
+    },
+    // How the value is printed. `flat` prints one line. `tree` prints a line for each part of the value, indented.
+    // `json` prints one line of JSON. `lines` prints a line for each part that has no parts inside: its path, its start,
+    // its size and its value, with tabs between them.
+    Argument {
+        of: &["map"],
+        name: "mode",
+        value: "MODE",
+        accepts: Accepts::OneOf(&["flat", "tree", "json", "lines"]),
+        default: Some("flat"),
+        help: "How the value is printed",
+        ..OPTION
+    },
+    // How the value is printed. `flat` prints it in the line of its file. `json` prints an object for each file instead.
+    Argument {
+        of: &["each"],
+        name: "mode",
+        value: "MODE",
+        accepts: Accepts::OneOf(&["flat", "json"]),
+        default: Some("flat"),
+        help: "How the value is printed",
+        ..OPTION
+    },
+    // With `--text`: the mode of the printed value.
+    Argument {
+        of: &["bound"],
+        name: "mode",
+        value: "MODE",
+        accepts: Accepts::OneOf(&["flat", "tree", "json", "lines"]),
+        tie: Tie::Needs("text"),
+        help: "With --text, in this mode alone [default: in any]",
+        ..OPTION
+    },
+    // How the answer is printed. `json` prints JSON objects on standard output, also for a pickle that is refused or
+    // can't be read. `check` prints one object, such as `{"accepted":true}` or `{"refused":"Syntax","byte":4}`. With
+    // `--why` it also has `warnings`, or the members `line`, `column`, `end`, `says` and `write`. `types` prints an object
+    // for each type, with its name, its kind, the text of its declaration and its fields.
+    Argument {
+        of: &["check", "types"],
+        name: "mode",
+        value: "MODE",
+        accepts: Accepts::OneOf(&["text", "json"]),
+        default: Some("text"),
+        help: "How the answer is printed",
+        ..OPTION
+    },
+    // How numbers are printed. `digits` prints decimal digits without the type and the unit.
+    Argument {
+        of: &["map", "each"],
+        name: "numbers",
+        value: "FORM",
+        accepts: Accepts::OneOf(&["decimal", "hex", "digits"]),
+        default: Some("decimal"),
+        help: "How numbers are printed",
+        ..OPTION
+    },
+    // With `--text`: how numbers are printed.
+    Argument {
+        of: &["bound"],
+        name: "numbers",
+        value: "FORM",
+        accepts: Accepts::OneOf(&["decimal", "hex", "digits"]),
+        tie: Tie::Needs("text"),
+        help: "With --text, for numbers in this form [default: decimal]",
+        ..OPTION
+    },
+    // How an array of `char` is printed. `text` prints it as a string, without the zero bytes at its end.
+    Argument {
+        of: &["map", "each"],
+        name: "chars",
+        value: "FORM",
+        accepts: Accepts::OneOf(&["numbers", "text"]),
+        default: Some("numbers"),
+        help: "How arrays of char are printed",
+        ..OPTION
+    },
+    // With `--text`: how an array of `char` is printed.
+    Argument {
+        of: &["bound"],
+        name: "chars",
+        value: "FORM",
+        accepts: Accepts::OneOf(&["numbers", "text"]),
+        tie: Tie::Needs("text"),
+        help: "With --text, for arrays of char in this form [default: numbers]",
+        ..OPTION
+    },
+    // Print at most N elements of each array, or `all`.
+    Argument {
+        of: &["map", "each"],
+        name: "elements",
+        value: "N",
+        default: Some("all"),
+        help: "The most elements that are printed of an array, or all",
+        ..OPTION
+    },
+    // Show at most N elements of an array and N lines of its bytes, or `all`.
+    Argument {
+        of: &["show"],
+        name: "elements",
+        value: "N",
+        default: Some("16"),
+        help: "The most elements that are printed of an array, or all",
+        ..OPTION
+    },
+    // With `--text`: at most N elements of each array are printed, or `all`.
+    Argument {
+        of: &["bound"],
+        name: "elements",
+        value: "N",
+        tie: Tie::Needs("text"),
+        help: "With --text, for so many elements of an array, or all [default: all]",
+        ..OPTION
+    },
+    // How a refusal or a fault is [printed](#streams-and-exit-statuses). `json` prints it as a JSON object, such as
+    // `{"fault":"End","at":32}`.
+    Argument {
+        of: &["map", "each"],
+        name: "faults",
+        value: "FORM",
+        accepts: Accepts::OneOf(&["text", "json"]),
+        default: Some("text"),
+        is_rare: true,
+        help: "How a refusal or a fault is printed",
+        ..OPTION
+    },
+    // Show at most N levels of parts below the value, or `all`. `..` replaces parts further down.
+    Argument {
+        of: &["show"],
+        name: "depth",
+        value: "N",
+        default: Some("6"),
+        help: "The most levels of parts below the value that are shown, or all",
+        ..OPTION
+    },
+    // Whether types are dimmed. With `auto` they are if standard output is a terminal and the environment has no NO_COLOR.
+    Argument {
+        of: &["show"],
+        name: "color",
+        value: "WHEN",
+        accepts: Accepts::OneOf(&["auto", "always", "never"]),
+        default: Some("auto"),
+        help: "When colors are printed",
+        ..OPTION
+    },
+    // Print more lines on standard error: [why](WHY.md#why-a-pickle-is-refused) the pickle or TYPE is refused, or
+    // [which part](WHY.md#why-a-mapping-stops) stops a mapping and why. With `--mode json` of `each` the reasons of a
+    // file are in its object, as the member `why`.
+    Argument {
+        of: &["map", "each"],
+        name: "why",
+        help: "Explain why the pickle or TYPE is refused, or what stops a mapping [default: no]",
+        ..FLAG
+    },
+    // Print more lines on standard error: [why](WHY.md#why-a-pickle-is-refused) the pickle or TYPE is refused.
+    Argument {
+        of: &["bound"],
+        name: "why",
+        help: "Explain why the pickle or TYPE is refused [default: no]",
+        ..FLAG
+    },
+    // Print more lines on standard error: [why](WHY.md#why-a-pickle-is-refused) the pickle is refused, or
+    // [what it says](WHY.md#what-an-accepted-pickle-cant-mean) and can't mean.
+    Argument {
+        of: &["check"],
+        name: "why",
+        help: "Explain why the pickle is refused, or what an accepted one can't mean [default: no]",
+        ..FLAG
+    },
+    // Print more lines on standard error: [why](WHY.md#why-a-pickle-is-refused) the pickle is refused.
+    Argument {
+        of: &["types"],
+        name: "why",
+        help: "Explain why the pickle is refused [default: no]",
+        ..FLAG
+    },
+    // Write the line of a file before the next file is mapped.
+    Argument {
+        of: &["each"],
+        name: "flush",
+        help: "Write the line of a file before the next file is mapped [default: no]",
+        ..FLAG
+    },
+    // Read the names of the files from PATH, or from standard input for `-`. A byte 0 ends each name, as `find -print0`
+    // writes them. Then there is no FILE argument. While the next name isn't there yet, all lines so far are written.
+    Argument {
+        of: &["each"],
+        name: "files0-from",
+        value: "PATH",
+        accepts: Accepts::File,
+        help: "Read the names of the files from PATH, or from standard input for -, each ended by a byte 0",
+        ..OPTION
+    },
+    // The first byte to print, as an offset of whole bytes.
+    Argument {
+        of: &["dump"],
+        name: "from",
+        value: "OFFSET",
+        accepts: Accepts::Offset,
+        default: Some("0#B"),
+        help: "The first byte, in whole bytes",
+        ..OPTION
+    },
+    // The most bytes to print, as an offset of whole bytes.
+    Argument {
+        of: &["dump"],
+        name: "size",
+        value: "OFFSET",
+        accepts: Accepts::Offset,
+        default: Some("128#B"),
+        help: "How much to dump at most, in whole bytes",
+        ..OPTION
+    },
+    // The first byte to print, instead of `--from`.
+    Argument {
+        of: &["dump"],
+        name: "skip",
+        letter: Some('s'),
+        value: "BYTES",
+        tie: Tie::Apart("from"),
+        help: "The first byte, as 446 or 0x1be",
+        ..OPTION
+    },
+    // The most bytes to print, instead of `--size`. Without both, and with standard error on a terminal, a line says how
+    // many bytes are left out.
+    Argument {
+        of: &["dump"],
+        name: "length",
+        letter: Some('n'),
+        value: "BYTES",
+        tie: Tie::Apart("size"),
+        help: "How many bytes to dump at most",
+        ..OPTION
+    },
+    // Leave out the line above the bytes.
+    Argument {
+        of: &["dump"],
+        name: "no-ruler",
+        help: "Leave out the line above the bytes [default: it is printed]",
+        ..FLAG
+    },
+    Argument {
+        of: &["map", "show", "each", "bound", "check", "types"],
+        name: "PICKLE",
+        help: "The file of the pickle, - for standard input, or +NAME for one that is installed",
+        ..POSITIONAL
+    },
+    Argument {
+        of: &["map", "show", "each", "bound"],
+        name: "TYPE",
+        help: "The name of the type to map",
+        ..POSITIONAL
+    },
+    Argument {
+        of: &["map", "show", "dump"],
+        name: "FILE",
+        help: "The file of the bytes",
+        ..POSITIONAL
+    },
+    Argument {
+        of: &["each"],
+        name: "FILE",
+        kind: Kind::Positionals,
+        tie: Tie::Either("files0-from"),
+        help: "The files of the bytes",
+        ..POSITIONAL
+    },
+    Argument {
+        of: &["bound"],
+        name: "BITS",
+        accepts: Accepts::Number,
+        help: "The size of a file in bits, 0 to 18446744073709551615",
+        ..POSITIONAL
+    },
+];
 
-pub fn progress<'a>(alloc: Global) -> Arg<'a>
-    ensures { IsArg (flag_rule (codes "progress")) result }
+/// The arguments of all commands, in the order in which help lists them.
+pub fn arguments() -> &'static [Argument]
+    ensures { IsTable result.now }
 {
-    flag(alloc, "progress")
-        .help("Show how much is done, if standard error is a terminal [default: no]")
-        .hide_short_help(true)
-}
-
-/// The part of a value that `show` prints.
-pub fn part<'a>(alloc: Global) -> Arg<'a>
-    ensures { IsArg get_rule result }
-{
-    option(alloc, "get", "PATH").help(
-        "Print a part of the value: . or steps of .name, .place, [place] [default: .]",
-    )
-}
-
-/// The parts of a value, each with its option.
-pub fn paths<'a>(alloc: Global) -> Arg<'a>
-    ensures { IsArg (repeated get_rule) result }
-{
-    part(alloc).action(ArgAction::Append).help(
-        "Print a part of the value, as a column if there are many: . or steps of .name, .place, [place] [default: .]",
-    )
-}
-
-/// The same, and patterns.
-pub fn parts<'a>(alloc: Global) -> Arg<'a>
-    ensures { IsArg (repeated get_rule) result }
-{
-    part(alloc).action(ArgAction::Append).help(
-        "Print parts of the value: . or steps of .name, .place, [place], [*], [2:5], .* [default: .]",
-    )
-}
-
-pub fn rows<'a>(alloc: Global, ties: Ties) -> Result<Arg<'a>, AllocError>
-    ensures { IfOk result (λ arg. ties ≡ Ties.Without → IsArg (option_rule (codes "rows")) arg) }
-{
-    let rows = option(alloc, "rows", "PATTERN").help(
-        "Print a line for each part that PATTERN leads to, with a column for each --get",
-    );
-    needing(rows, "get", ties)
-}
-
-pub fn header<'a>(alloc: Global, ties: Ties) -> Result<Arg<'a>, AllocError>
-    ensures { IfOk result (λ arg. ties ≡ Ties.Without → IsArg (flag_rule (codes "header")) arg) }
-{
-    let header = flag(alloc, "header")
-        .help("Print the paths of the columns first [default: no]")
-        .hide_short_help(true);
-    needing(header, "rows", ties)
-}
-
-pub fn absent<'a>(alloc: Global, choices: Choices<'a>) -> Arg<'a>
-    ensures { IsArg (absent_rule choices.entry) result }
-{
-    option_with_default(
-        alloc,
-        "absent",
-        "WHAT",
-        "What a part that isn't there is: a fault, or an empty column or line",
-        "fault",
-    )
-    .value_parser(choices.absent)
-    .hide_short_help(true)
-}
-
-/// How a value is printed, in one of these modes.
-pub fn mode<'a>(alloc: Global, modes: &'a [&'a str]) -> Arg<'a>
-    ensures { IsArg (chosen (default_rule (codes "mode") (codes "flat")) modes.entry) result }
-{
-    option_with_default(alloc, "mode", "MODE", "How the value is printed", "flat").value_parser(
-        modes,
-    )
-}
-
-pub fn numbers<'a>(alloc: Global, choices: Choices<'a>) -> Arg<'a>
-    ensures { IsArg (numbers_rule choices.entry) result }
-{
-    option_with_default(
-        alloc,
-        "numbers",
-        "FORM",
-        "How numbers are printed",
-        "decimal",
-    )
-    .value_parser(choices.numbers)
-}
-
-pub fn chars<'a>(alloc: Global, choices: Choices<'a>) -> Arg<'a>
-    ensures { IsArg (chars_rule choices.entry) result }
-{
-    option_with_default(
-        alloc,
-        "chars",
-        "FORM",
-        "How arrays of char are printed",
-        "numbers",
-    )
-    .value_parser(choices.chars)
-}
-
-/// The most elements of an array, with what it is if it isn't given.
-pub fn elements<'a>(alloc: Global, default: &'a str) -> Arg<'a>
-    ensures { IsArg (default_rule (codes "elements") default.entry.now) result }
-{
-    let help = "The most elements that are printed of an array, or all";
-    option_with_default(alloc, "elements", "N", help, default)
-}
-
-pub fn faults<'a>(alloc: Global, choices: Choices<'a>) -> Arg<'a>
-    ensures { IsArg (faults_rule choices.entry) result }
-{
-    option_with_default(
-        alloc,
-        "faults",
-        "FORM",
-        "How a refusal or a fault is printed",
-        "text",
-    )
-    .value_parser(choices.forms)
-    .hide_short_help(true)
-}
-
-pub fn depth<'a>(alloc: Global) -> Arg<'a>
-    ensures { IsArg (default_rule (codes "depth") (codes "6")) result }
-{
-    let help = "The most levels of parts below the value that are shown, or all";
-    option_with_default(alloc, "depth", "N", help, "6")
-}
-
-pub fn color<'a>(alloc: Global, choices: Choices<'a>) -> Arg<'a>
-    ensures { IsArg (color_rule choices.entry) result }
-{
-    option_with_default(alloc, "color", "WHEN", "When colors are printed", "auto").value_parser(
-        choices.times,
-    )
-}
-
-/// The files of `each`.
-pub fn files<'a>(alloc: Global, ties: Ties) -> Result<Arg<'a>, AllocError>
-    ensures { IfOk result (λ arg. ties ≡ Ties.Without → IsArg files_rule arg) }
-{
-    let files = Arg::new(alloc, "FILE")
-        .num_args(0..)
-        .help("The files of the bytes");
-    match ties {
-        Ties::With => files
-            .required_unless_present("files0-from")?
-            .conflicts_with("files0-from"),
-        Ties::Without => Ok(files),
-    }
-}
-
-/// The list of the files of `each`.
-pub fn list_of_files<'a>(alloc: Global) -> Arg<'a>
-    ensures { IsArg (option_rule (codes "files0-from")) result }
-{
-    option(alloc, "files0-from", "PATH").help(
-        "Read the names of the files from PATH, or from standard input for -, each ended by a byte 0",
-    )
-}
-
-pub fn flush<'a>(alloc: Global) -> Arg<'a>
-    ensures { IsArg (flag_rule (codes "flush")) result }
-{
-    flag(alloc, "flush").help(
-        "Write the line of a file before the next file is mapped [default: no]",
-    )
-}
-
-pub fn text<'a>(alloc: Global) -> Arg<'a>
-    ensures { IsArg (flag_rule (codes "text")) result }
-{
-    flag(alloc, "text").help("Print the most bytes of the printed value too")
-}
-
-/// The mode that a bound is for.
-pub fn bound_mode<'a>(
-    alloc: Global,
-    choices: Choices<'a>,
-    ties: Ties,
-) -> Result<Arg<'a>, AllocError>
-    ensures { IfOk result
-        (λ arg. ties ≡ Ties.Without → IsArg (chosen (option_rule (codes "mode")) choices.entry.modes) arg) }
-{
-    let mode = option(alloc, "mode", "MODE")
-        .help("With --text, in this mode alone [default: in any]")
-        .value_parser(choices.modes);
-    needing(mode, "text", ties)
-}
-
-/// The form of numbers that a bound is for.
-pub fn bound_numbers<'a>(
-    alloc: Global,
-    choices: Choices<'a>,
-    ties: Ties,
-) -> Result<Arg<'a>, AllocError>
-    ensures { IfOk result
-        (λ arg. ties ≡ Ties.Without → IsArg (chosen (option_rule (codes "numbers")) choices.entry.numbers) arg) }
-{
-    let numbers = option(alloc, "numbers", "FORM")
-        .help("With --text, for numbers in this form [default: decimal]")
-        .value_parser(choices.numbers);
-    needing(numbers, "text", ties)
-}
-
-/// The form of arrays of `char` that a bound is for.
-pub fn bound_chars<'a>(
-    alloc: Global,
-    choices: Choices<'a>,
-    ties: Ties,
-) -> Result<Arg<'a>, AllocError>
-    ensures { IfOk result
-        (λ arg. ties ≡ Ties.Without → IsArg (chosen (option_rule (codes "chars")) choices.entry.chars) arg) }
-{
-    let chars = option(alloc, "chars", "FORM")
-        .help("With --text, for arrays of char in this form [default: numbers]")
-        .value_parser(choices.chars);
-    needing(chars, "text", ties)
-}
-
-/// The most elements of an array that a bound is for.
-pub fn bound_elements<'a>(alloc: Global, ties: Ties) -> Result<Arg<'a>, AllocError>
-    ensures { IfOk result (λ arg. ties ≡ Ties.Without → IsArg (option_rule (codes "elements")) arg) }
-{
-    let elements = option(alloc, "elements", "N").help(
-        "With --text, for so many elements of an array, or all [default: all]",
-    );
-    needing(elements, "text", ties)
-}
-
-/// How an answer about a pickle is printed.
-pub fn answer<'a>(alloc: Global, choices: Choices<'a>) -> Arg<'a>
-    ensures { IsArg (answer_rule choices.entry) result }
-{
-    option_with_default(alloc, "mode", "MODE", "How the answer is printed", "text").value_parser(
-        choices.forms,
-    )
-}
-
-pub fn why<'a>(alloc: Global) -> Arg<'a>
-    ensures { IsArg why_rule result }
-{
-    flag(alloc, "why").help(
-        "Explain why the pickle or TYPE is refused, or what stops a mapping [default: no]",
-    )
-}
-
-pub fn pickle<'a>(alloc: Global) -> Arg<'a>
-    ensures { IsArg (argument_rule (codes "PICKLE")) result }
-{
-    argument(alloc, "PICKLE").help(
-        "The file of the pickle, - for standard input, or +NAME for one that is installed",
-    )
-}
-
-pub fn name<'a>(alloc: Global) -> Arg<'a>
-    ensures { IsArg (argument_rule (codes "TYPE")) result }
-{
-    argument(alloc, "TYPE").help("The name of the type to map")
-}
-
-pub fn file<'a>(alloc: Global) -> Arg<'a>
-    ensures { IsArg (argument_rule (codes "FILE")) result }
-{
-    argument(alloc, "FILE").help("The file of the bytes")
-}
-
-/// The size of a file, for which a bound is.
-pub fn bits<'a>(alloc: Global) -> Arg<'a>
-    ensures { IsArg (numbered (argument_rule (codes "BITS"))) result }
-{
-    argument(alloc, "BITS")
-        .help("The size of a file in bits, 0 to 18446744073709551615")
-        .value_parser(clap::value_parser!(u64))
-}
-
-/// The first byte of a dump, as an offset.
-pub fn from<'a>(alloc: Global) -> Arg<'a>
-    ensures { IsArg (default_rule (codes "from") (codes "0#B")) result }
-{
-    offset(alloc, "from", "The first byte, in whole bytes", "0#B")
-}
-
-/// The size of a dump, as an offset.
-pub fn size<'a>(alloc: Global) -> Arg<'a>
-    ensures { IsArg (default_rule (codes "size") (codes "128#B")) result }
-{
-    offset(
-        alloc,
-        "size",
-        "How much to dump at most, in whole bytes",
-        "128#B",
-    )
-}
-
-/// The first byte of a dump, as a number.
-pub fn skip<'a>(alloc: Global, ties: Ties) -> Result<Arg<'a>, AllocError>
-    ensures { IfOk result (λ arg. ties ≡ Ties.Without → IsArg (count_rule (codes "skip") 115) arg) }
-{
-    let skip = option(alloc, "skip", "BYTES")
-        .short('s')
-        .help("The first byte, as 446 or 0x1be");
-    apart(skip, "from", ties)
-}
-
-/// The size of a dump, as a number.
-pub fn length<'a>(alloc: Global, ties: Ties) -> Result<Arg<'a>, AllocError>
-    ensures { IfOk result (λ arg. ties ≡ Ties.Without → IsArg (count_rule (codes "length") 110) arg) }
-{
-    let length = option(alloc, "length", "BYTES")
-        .short('n')
-        .help("How many bytes to dump at most");
-    apart(length, "size", ties)
-}
-
-pub fn no_ruler<'a>(alloc: Global) -> Arg<'a>
-    ensures { IsArg (flag_rule (codes "no-ruler")) result }
-{
-    flag(alloc, "no-ruler").help("Leave out the line above the bytes [default: it is printed]")
-}
-
-// The argument, tied to another that has to be given too.
-fn needing<'a>(arg: Arg<'a>, other: &'a str, ties: Ties) -> Result<Arg<'a>, AllocError>
-    ensures { IfOk result (λ tied. ties ≡ Ties.Without → tied ≡ arg.entry) }
-{
-    match ties {
-        Ties::With => arg.requires_arg(other),
-        Ties::Without => Ok(arg),
-    }
-}
-
-// The argument, tied to another that may not be given too.
-fn apart<'a>(arg: Arg<'a>, other: &'a str, ties: Ties) -> Result<Arg<'a>, AllocError>
-    ensures { IfOk result (λ tied. ties ≡ Ties.Without → tied ≡ arg.entry) }
-{
-    match ties {
-        Ties::With => arg.conflicts_with(other),
-        Ties::Without => Ok(arg),
-    }
-}
-
-fn option<'a>(alloc: Global, name: &'a str, value: &'a str) -> Arg<'a>
-    ensures { IsArg (option_rule name.entry.now) result }
-{
-    Arg::new(alloc, name).long(name).value_name(value)
-}
-
-fn option_with_default<'a>(
-    alloc: Global,
-    name: &'a str,
-    value: &'a str,
-    help: &'a str,
-    default: &'a str,
-) -> Arg<'a>
-    ensures { IsArg (default_rule name.entry.now default.entry.now) result }
-{
-    option(alloc, name, value).help(help).default_value(default)
-}
-
-fn offset<'a>(alloc: Global, name: &'a str, help: &'a str, default: &'a str) -> Arg<'a>
-    ensures { IsArg (default_rule name.entry.now default.entry.now) result }
-{
-    option_with_default(alloc, name, "OFFSET", help, default)
-}
-
-fn number<'a>(alloc: Global, name: &'a str, value: &'a str) -> Arg<'a>
-    ensures { IsArg (numbered (option_rule name.entry.now)) result }
-{
-    option(alloc, name, value)
-        .value_parser(clap::value_parser!(u64))
-        .hide_short_help(true)
-}
-
-fn flag<'a>(alloc: Global, name: &'a str) -> Arg<'a>
-    ensures { IsArg (flag_rule name.entry.now) result }
-{
-    Arg::new(alloc, name).long(name).action(ArgAction::SetTrue)
-}
-
-fn argument<'a>(alloc: Global, name: &'a str) -> Arg<'a>
-    ensures { IsArg (argument_rule name.entry.now) result }
-{
-    Arg::new(alloc, name).required(true)
+    ARGUMENTS
 }

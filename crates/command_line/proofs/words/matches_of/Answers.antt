@@ -7,6 +7,6 @@ returns c =
     let is = c.in_ok-program.ensures refl in
     let parse = c.try_get_matches_from in
     record {
-      finds = finds parse.result _ _ _ c.all.ensures is parse.ensures.matches parse.ensures.kinds;
-      fails = fails parse.result _ _ _ c.all.ensures is parse.ensures.kinds;
+      finds = finds parse.result _ _ _ c.arguments.ensures is parse.ensures.matches parse.ensures.kinds;
+      fails = fails parse.result _ _ _ c.arguments.ensures is parse.ensures.kinds;
     }

@@ -1,0 +1,85 @@
+//! The long help of the program.
+
+/// The long help of the program. `tools/options --write` writes the options in it, from the first to the line that begins
+/// with "Without arguments".
+pub const PROGRAM_HELP: &str = "\
+PICKLE is a path, - for standard input, or +NAME for a pickle that is installed, as +png: `poke_batch formats` lists
+these. They are in the folder that POKE_BATCH_PICKLES names, else in ../share/poke_batch/pickles from the program.
+OFFSET is a number, # and a unit: b for bits, B for bytes, or a number of bits, as 8#b, 1#B or 2#4.
+
+Options of map, show and each:
+  --at OFFSET      where the value begins in FILE [default: 0#b]
+  --byte N         the byte where the value begins, as 446, 0x1be or, from the end of FILE, -512 [default: 0]
+  --endian ORDER   the byte order (big or little) [default: big]
+  --limit N        the most steps of the mapping, 0 to 18446744073709551615 [default: 1000000000]
+  --whole          accept only a value that ends where FILE does [default: any end]
+  --max-output N   the most bytes of the printed value, 0 to 18446744073709551615 [default: any length]
+  --slots N        the most slots of each kind, reserved before the mapping, 0 to 18446744073709551615. A slot stores a
+                   part of a value: a node, a link, a pending child or a byte of a string [default: any number]
+  --spool BYTES    read a FILE without a length, as a pipe, into memory, up to so many bytes, 0 to 18446744073709551615
+                   [default: it isn't opened]
+  --progress       show how much is done, if standard error is a terminal [default: no]
+
+Options of map:
+  --get PATH       print parts of the value: . or steps of .name, .place, [place], [*], [2:5], .* [default: .]
+  --rows PATTERN   print a line for each part that PATTERN leads to, with a column for each --get
+  --header         with --rows, print the paths of the columns first [default: no]
+  --mode MODE      how the value is printed (flat, tree, json or lines) [default: flat]
+
+Options of show:
+  --get PATH       print a part of the value: . or steps of .name, .place, [place] [default: .]
+  --elements N     the most elements that are printed of an array, or all [default: 16]
+  --depth N        the most levels of parts below the value that are shown, or all [default: 6]
+  --color WHEN     when colors are printed (auto, always or never) [default: auto]
+
+Options of each:
+  --get PATH       print a part of the value, as a column if there are many: . or steps of .name, .place, [place]
+                   [default: .]
+  --mode MODE      how the value is printed (flat or json) [default: flat]
+  --flush          write the line of a file before the next file is mapped [default: no]
+  --files0-from PATH  read the names of the files from PATH, or from standard input for -, each ended by a byte 0
+
+Options of map and each:
+  --absent WHAT    what a part that isn't there is: a fault, or an empty column or line (fault or empty)
+                   [default: fault]
+  --numbers FORM   how numbers are printed (decimal, hex or digits) [default: decimal]
+  --chars FORM     how arrays of char are printed (numbers or text) [default: numbers]
+  --elements N     the most elements that are printed of an array, or all [default: all]
+  --faults FORM    how a refusal or a fault is printed (text or json) [default: text]
+  --why            explain why the pickle or TYPE is refused, or what stops a mapping [default: no]
+
+Options of bound:
+  --text           print the most bytes of the printed value too
+  --mode MODE      with --text, in this mode alone (flat, tree, json or lines) [default: in any]
+  --numbers FORM   with --text, for numbers in this form (decimal, hex or digits) [default: decimal]
+  --chars FORM     with --text, for arrays of char in this form (numbers or text) [default: numbers]
+  --elements N     with --text, for so many elements of an array, or all [default: all]
+  --why            explain why the pickle or TYPE is refused [default: no]
+
+Options of check and types:
+  --mode MODE      how the answer is printed (text or json) [default: text]
+
+Options of check:
+  --why            explain why the pickle is refused, or what an accepted one can't mean [default: no]
+
+Options of types:
+  --why            explain why the pickle is refused [default: no]
+
+Options of dump:
+  --from OFFSET    the first byte, in whole bytes [default: 0#B]
+  --size OFFSET    how much to dump at most, in whole bytes [default: 128#B]
+  -s, --skip BYTES  the first byte, as 446 or 0x1be
+  -n, --length BYTES  how many bytes to dump at most
+  --no-ruler       leave out the line above the bytes [default: it is printed]
+
+Without arguments the program runs `check -`.
+
+Example:
+  printf '\\001\\002\\003' > three.bin
+  echo 'type P = struct { uint<8> a; uint<16> b; };' | poke_batch map - P three.bin
+
+Exit status:
+  0  done
+  1  the mapping has a fault, or its value is rejected
+  2  refused: the arguments, an offset, the pickle or the type's name
+  3  memory, a file, standard input or an output failed";

@@ -1,0 +1,146 @@
+//! The arguments of the table, as the parser reads them.
+ghost use Rattle.std.specs.Prelude.{◌≡◌, [], IfOk, option_map};
+ghost use Rattle.clap.specs.Walk.{Rule};
+ghost use Rattle.clap.specs.Simple.{App, new_rule};
+ghost use Rattle.command_line.specs.Commands.{IsArg, IsApp, rule_of_argument, rules_of, with_rules, before_if, has, accepted, names_of, with_kind, with_letter, with_default, with_values};
+
+use crate::words::arguments::{Accepts, Argument, Kind, Tie};
+use clap::{Arg, ArgAction, Command};
+use std::alloc::{AllocError, Global};
+
+/// Whether the program has the ties between its arguments: those that exclude or require one another, and the values
+/// that may begin with `-`. The contract of the parser says what it finds only for a program without ties.
+#[derive(Clone, Copy)]
+pub enum Ties {
+    With,
+    Without,
+}
+
+/// The command with the arguments of the table that the command `name` has.
+pub fn with_arguments<'a>(
+    alloc: Global,
+    command: Command<'a>,
+    name: &str,
+    table: &'static [Argument],
+    ties: Ties,
+) -> Result<Command<'a>, AllocError>
+    ensures { IfOk result (λ made. (app : App) → ties ≡ Ties.Without → IsApp app command.entry
+        → IsApp (with_rules app (rules_of name.now table.entry.now)) made) }
+{
+    let mut command = command;
+    for row in table {
+        command = with_row(alloc, command, row, name, ties)?;
+    }
+    Ok(command)
+}
+
+// The command with the argument, if it has that.
+fn with_row<'a>(
+    alloc: Global,
+    command: Command<'a>,
+    row: &Argument,
+    name: &str,
+    ties: Ties,
+) -> Result<Command<'a>, AllocError>
+    ensures { IfOk result (λ made. (app : App) → ties ≡ Ties.Without → IsApp app command.entry
+        → IsApp (with_rules app (before_if (has name.now row.now) (rule_of_argument row.now) [])) made) }
+{
+    if !has(row, name) {
+        return Ok(command);
+    }
+    command.arg(argument(alloc, row, ties)?)
+}
+
+// Whether a command has the argument.
+fn has(row: &Argument, command: &str) -> bool
+    ensures { result ≡ has command.now row.now }
+{
+    row.of.contains(&command)
+}
+
+fn argument<'a>(alloc: Global, row: &Argument, ties: Ties) -> Result<Arg<'a>, AllocError>
+    ensures { IfOk result (λ arg. ties ≡ Ties.Without → IsArg (rule_of_argument row.now) arg) }
+{
+    let arg = free_argument(alloc, row);
+    match ties {
+        Ties::With => with_tie(arg, row),
+        Ties::Without => Ok(arg),
+    }
+}
+
+// Without what it excludes and requires.
+fn free_argument<'a>(alloc: Global, row: &Argument) -> Arg<'a>
+    ensures { IsArg (rule_of_argument row.now) result }
+{
+    let arg = with_kind(bare_argument(alloc, row), row);
+    let arg = with_letter(arg, row.letter);
+    let arg = with_default(arg, row.default);
+    with_values(arg, row)
+}
+
+fn bare_argument<'a>(alloc: Global, row: &Argument) -> Arg<'a>
+    ensures { IsArg (new_rule row.now.name.now) result }
+{
+    Arg::new(alloc, row.name)
+        .help(row.help)
+        .hide_short_help(row.is_rare)
+}
+
+fn with_kind<'a>(arg: Arg<'a>, row: &Argument) -> Arg<'a>
+    ensures { (rule : Rule) → IsArg rule arg.entry → IsArg (with_kind row.now.kind row.now.name.now rule) result }
+{
+    match row.kind {
+        Kind::Flag => arg.long(row.name).action(ArgAction::SetTrue),
+        Kind::Valued => arg.long(row.name).value_name(row.value),
+        Kind::Repeated => arg
+            .long(row.name)
+            .value_name(row.value)
+            .action(ArgAction::Append),
+        Kind::Positional => arg.required(true),
+        Kind::Positionals => arg.num_args(0..),
+    }
+}
+
+fn with_letter<'a>(arg: Arg<'a>, letter: Option<char>) -> Arg<'a>
+    ensures { (rule : Rule) → IsArg rule arg.entry → IsArg (with_letter letter rule) result }
+{
+    match letter {
+        Some(letter) => arg.short(letter),
+        None => arg,
+    }
+}
+
+fn with_default<'a>(arg: Arg<'a>, default: Option<&'a str>) -> Arg<'a>
+    ensures { (rule : Rule) → IsArg rule arg.entry
+        → IsArg (with_default (option_map (λ text. text.now) default.entry) rule) result }
+{
+    match default {
+        Some(default) => arg.default_value(default),
+        None => arg,
+    }
+}
+
+fn with_values<'a>(arg: Arg<'a>, row: &Argument) -> Arg<'a>
+    ensures { (rule : Rule) → IsArg rule arg.entry
+        → IsArg (with_values (names_of row.now) (accepted row.now.accepts) rule) result }
+{
+    match row.accepts {
+        Accepts::Number => arg.value_parser(clap::value_parser!(u64)),
+        Accepts::OneOf(words) => arg.value_parser(words),
+        _ => arg,
+    }
+}
+
+// With what it excludes and requires.
+fn with_tie<'a>(arg: Arg<'a>, row: &Argument) -> Result<Arg<'a>, AllocError> {
+    let arg = match row.accepts {
+        Accepts::Place => arg.allow_hyphen_values(true),
+        _ => arg,
+    };
+    match row.tie {
+        Tie::Free => Ok(arg),
+        Tie::Apart(other) => arg.conflicts_with(other),
+        Tie::Needs(other) => arg.requires_arg(other),
+        Tie::Either(other) => arg.required_unless_present(other)?.conflicts_with(other),
+    }
+}
