@@ -1,17 +1,12 @@
 -- What is written of many files, one after another.
-use Rattle.std.proofs.Common.{◌≡◌, ◌∙◌, ◌==◌, ℕ, List, [], ◌∷◌, ◌++◌, if◌then◌else◌, Option, Some, None, Bool, false, String, string_bytes, refl, ap}
+use Rattle.std.proofs.Common.{◌≡◌, ◌∙◌, ◌==◌, ℕ, List, [], ◌∷◌, ◌++◌, if◌then◌else◌, Option, Some, None, false, String, string_bytes, refl, ap}
 use Rattle.std.specs.Io.Buffered.{reader_remaining, reader_inner, reader_buffer, reader_capacity}
 use Rattle.std.specs.declared.io.buffered.BufReader.{BufReader}
 use Rattle.std.proofs.KnownBytes.{Appends-nil, Appends-trans}
 use Rattle.std.specs.declared.alloc.Global.{Global}
 use Rattle.std.specs.Io.KnownBytes.{Keeps, prepend_known}
-use Rattle.command_line.specs.Requests.{faults_in}
-use Rattle.command_line.specs.declared.request.Request.{Request}
-use Rattle.jobs.specs.Aims.{Aim, form_mode, requested_aim}
-use Rattle.jobs.specs.Jobs.{every_for}
-use Rattle.jobs.specs.declared.file_run.FileForm.{FileForm}
 use Rattle.jobs.specs.Every.{AppendsFile, AppendsNamed}
-use Rattle.jobs.specs.Files.{Every, file_form, no_files, one_more, greater}
+use Rattle.jobs.specs.Files.{Every, no_files, one_more, greater}
 use Rattle.jobs.specs.Gives.{Gives}
 use Rattle.jobs.specs.Names.{AreNamed}
 use Rattle.run_parts.specs.declared.status.Status.{Status}
@@ -81,28 +76,3 @@ fresh_reader remaining reader inner size is none capacity some =
     ∙ ap (λ b. if b then None else prepend_known (reader_buffer reader) (remaining (reader_inner reader))) some
     ∙ ap (λ bytes. prepend_known bytes (remaining (reader_inner reader))) none
     ∙ prepend_none (remaining (reader_inner reader)) ∙ ap remaining is
-
--- what every file's run is given, by what a request gives
-pub every_same : (request : Request) (why : Bool) (pickle : List ℕ) (aim : Aim) (spool : Option ℕ) (form : FileForm)
-    → aim ≡ requested_aim request → spool ≡ request.spool
-    → form ≡ file_form (form_mode request.form) (faults_in request.form)
-    → record { pickle = pickle; aim = aim; terms = request.terms; spool = spool; form = form; why = why }
-    ≡ every_for request why pickle
-every_same request why pickle aim spool form aims spools forms =
-    ap (λ aim. record { pickle = pickle; aim = aim; terms = request.terms; spool = spool; form = form; why = why }) aims
-    ∙ ap (λ spool. record {
-      pickle = pickle;
-      aim = requested_aim request;
-      terms = request.terms;
-      spool = spool;
-      form = form;
-      why = why;
-    }) spools
-    ∙ ap (λ form. record {
-      pickle = pickle;
-      aim = requested_aim request;
-      terms = request.terms;
-      spool = request.spool;
-      form = form;
-      why = why;
-    }) forms

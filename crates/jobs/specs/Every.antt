@@ -22,7 +22,7 @@ abbrev pub every_of : Typed → Every
 every_of typed = record {
   pickle = typed.pickle.now.bytes.items;
   aim = aim_of typed.mapping;
-  terms = typed.terms.now;
+  terms = typed.mapping.terms.now;
   spool = typed.mapping.spool;
   form = typed.form;
   why = typed.explains;

@@ -9,16 +9,14 @@ use Rattle.command_line.specs.Starts.{start_bit}
 use Rattle.command_line.specs.declared.answer_form.AnswerForm.{AnswerForm}
 use Rattle.command_line.specs.declared.answer_form.AnswerForm.TheVariants as answer
 use Rattle.command_line.specs.declared.ask.Ask.{Ask}
-use Rattle.command_line.specs.Requests.{faults_in}
 use Rattle.command_line.specs.declared.request.FileNames.{FileNames}
 use Rattle.command_line.specs.declared.request.Over.{Over}
 use Rattle.command_line.specs.declared.request.Over.TheVariants.{File, Files}
-use Rattle.command_line.specs.declared.request.Request.{Request}
 use Rattle.command_line.specs.declared.terms.Terms.{Terms}
 use Rattle.command_line.specs.declared.words.Asked.{Asked}
 use Rattle.command_line.specs.declared.words.Job.{Job}
 use Rattle.command_line.specs.declared.words.Job.TheVariants as job
-use Rattle.jobs.specs.Aims.{Aim, IsAskOf, form_mode, plain_aim, requested_aim}
+use Rattle.jobs.specs.Aims.{Aim, IsAskOf, Requested, of_request, plain_request}
 use Rattle.jobs.specs.Files.{Every, AppendsFiles, WritesRuns, file_form}
 use Rattle.jobs.specs.Gives.{Gives}
 use Rattle.jobs.specs.Names.{AreNamesOf}
@@ -29,11 +27,9 @@ use Rattle.run_parts.specs.declared.dump.DumpFault.{DumpFault}
 use Rattle.jobs.specs.declared.ending.Ending.TheVariants.{Run, Silent}
 use Rattle.pickle_json.specs.Checks.{Answers, AnswersPart}
 use Rattle.pickle_json.specs.TypeObjects.{TypesInJson}
-use Rattle.poke_batch.specs.Runs.{ChecksAs, BoundsAs}
+use Rattle.poke_batch.specs.Runs.{ChecksAs, BoundsAs, HasNoType}
 use Rattle.poke_batch.specs.RunsUnder.{MapsUnder}
-use Rattle.pickle_tree.specs.Tree.{DeclarationTree}
-use Rattle.pickle_types.specs.Names.{Names, find_type}
-use Rattle.run_parts.specs.Accepted.{IsAccepted, Refuses}
+use Rattle.run_parts.specs.Accepted.{Refuses}
 use Rattle.run_parts.specs.DumpText.{Dumps, DumpsPart, dump_text}
 use Rattle.poke_batch.specs.FileObject.{lines_json, text_lines}
 use Rattle.run_parts.specs.Outcomes.{EndsAs, outcome_members, outcome_status}
@@ -123,15 +119,15 @@ abbrev pub AddsIf : (why : Bool) → (out out' : Option (List ℕ)) → Type 0
 AddsIf false out out' = Keeps out out'
 AddsIf true out out' = (text : List ℕ) × AppendsUpTo out out' text
 
--- a mapping of a type of the pickle that an argument names over the file that another names
-pub record MapsOver (IsPickle : List ℕ → Type 0) (IsFile : SpaceView → Type 0) (aim : Aim) (terms : Terms) (why : Bool)
-    (out out' : Option (List ℕ)) (ended : Outcome) : Type 0 where
+-- a requested mapping over the file at a path
+pub record MapsOver (gives : Gives) (requested : Requested) (path : List ℕ) (why : Bool) (out out' : Option (List ℕ))
+    (ended : Outcome) : Type 0 where
   pub pickle : List ℕ
-  pub given : IsPickle pickle
+  pub given : gives.is_pickle requested.pickle pickle
   pub file : SpaceView
-  pub opened : IsFile file
+  pub opened : gives.is_file path requested.spool file
   pub told : Option (List ℕ)
-  pub ends : MapsFile pickle aim terms file out told ended
+  pub ends : MapsFile pickle requested.aim requested.terms file out told ended
   pub more : AddsIf why told out'
 
 -- a dump of the file that an argument names
@@ -157,19 +153,16 @@ StopsDump IsFile from size ruler out out' = Keeps out out' ⊎ DumpsPartOver IsF
 -- or an output fails
 pub data EndsEach (every : Every) (Done : (out out' : Option (List ℕ)) → Status → Type 0)
     (out out' : Option (List ℕ)) : Ending → Type 0 where
-  refused_each : {refusal : Refusal} → Refuses every.pickle refusal → Keeps out out' →
-      EndsEach every Done out out' (Run (outcome.Refused refusal))
-  no_type : {declarations : List DeclarationTree} {types : Names} → IsAccepted every.pickle declarations types
-      → find_type every.aim.name types ≡ None → Keeps out out'
-      → EndsEach every Done out out' (Run outcome.NoSuchType)
+  refused_each : {ended : Outcome} → HasNoType every.pickle every.aim.name ended → Keeps out out' →
+      EndsEach every Done out out' (Run ended)
   each_done : {greatest : Status} → Done out out' greatest → EndsEach every Done out out' (Silent greatest)
   each_fails : (why : Failure) → EndsEach every Done out out' (Run (outcome.Failed why))
 
 -- why a mapping isn't run: the pickle isn't read, the file isn't opened, or memory for its pages lacks
-pub data FailsMap (gives : Gives) (word path : List ℕ) (spool : Option ℕ) : FileFault → Type 0 where
-  pickle_fails : {fault : FileFault} → gives.is_unread word fault → FailsMap gives word path spool fault
-  file_fails : {fault : FileFault} → gives.is_unopened path spool fault → FailsMap gives word path spool fault
-  pages_fail : FailsMap gives word path spool fault.Memory
+pub data FailsMap (gives : Gives) (requested : Requested) (path : List ℕ) : FileFault → Type 0 where
+  pickle_fails : {fault : FileFault} → gives.is_unread requested.pickle fault → FailsMap gives requested path fault
+  file_fails : {fault : FileFault} → gives.is_unopened path requested.spool fault → FailsMap gives requested path fault
+  pages_fail : FailsMap gives requested path fault.Memory
 
 -- why a dump isn't whole: the file isn't opened, memory for its pages lacks, or a read or the output failed
 pub data FailsDump (gives : Gives) (path : List ℕ) : FileFault → Type 0 where
@@ -193,64 +186,39 @@ abbrev pub TypesIn : (IsPickle : List ℕ → Type 0) → (why : Bool) → (out 
 TypesIn IsPickle why out out' answer.Text = Ends (EndsOver IsPickle TypesAs out out')
 TypesIn IsPickle why out out' answer.Json = TypesOver IsPickle why out out'
 
--- what the run of every file of a request is given
-abbrev pub every_for : Request → (why : Bool) → (pickle : List ℕ) → Every
-every_for request why pickle = record {
+-- what the run of every file is given
+abbrev pub every_for : Requested → (why : Bool) → (pickle : List ℕ) → Every
+every_for requested why pickle = record {
   pickle = pickle;
-  aim = requested_aim request;
-  terms = request.terms;
-  spool = request.spool;
-  form = file_form (form_mode request.form) (faults_in request.form);
+  aim = requested.aim;
+  terms = requested.terms;
+  spool = requested.spool;
+  form = file_form requested.aim.mode requested.faults;
   why = why;
 }
 
--- a job over a file, without terms
-abbrev pub IsOverFile : Job → Type 0
-IsOverFile (job.Map at order limit mode pickle name file) = Unit {0}
-IsOverFile (job.Request request) = ⊥
-IsOverFile (job.Bound pickle name bits) = ⊥
-IsOverFile (job.BoundText pickle name bits mode style) = ⊥
-IsOverFile (job.Check pickle) = ⊥
-IsOverFile (job.Types pickle) = ⊥
-IsOverFile job.Formats = ⊥
-IsOverFile (job.Dump from size ruler file) = Unit {0}
-
--- a job that bounds a type
-abbrev pub IsBound : Job → Type 0
-IsBound (job.Map at order limit mode pickle name file) = ⊥
-IsBound (job.Request request) = ⊥
-IsBound (job.Bound pickle name bits) = Unit {0}
-IsBound (job.BoundText pickle name bits mode style) = Unit {0}
-IsBound (job.Check pickle) = ⊥
-IsBound (job.Types pickle) = ⊥
-IsBound job.Formats = ⊥
-IsBound (job.Dump from size ruler file) = ⊥
-
 -- What the jobs write of what an opener gives. Reasons may be requested.
 module _ (gives : Gives) (why : Bool) (out out' : Option (List ℕ)) where
-  -- how the mapping of a request over many files ends
-  abbrev pub EndsOfEach : Request → FileNames → (pickle : List ℕ) → Ending → Type 0
-  EndsOfEach request names pickle =
-      EndsEach (every_for request why pickle)
-      (AppendsFiles (WritesRuns gives (every_for request why pickle)) (AreNamesOf gives names)) out out'
+  -- how a requested mapping over many files ends
+  abbrev pub EndsOfEach : Requested → FileNames → (pickle : List ℕ) → Ending → Type 0
+  EndsOfEach requested names pickle =
+      EndsEach (every_for requested why pickle)
+      (AppendsFiles (WritesRuns gives (every_for requested why pickle)) (AreNamesOf gives names)) out out'
 
-  -- a mapping of a type of the pickle that an argument names over many files
-  pub record MapsEach (request : Request) (names : FileNames) (ending : Ending) : Type 0 where
+  -- a requested mapping over many files
+  pub record MapsEach (requested : Requested) (names : FileNames) (ending : Ending) : Type 0 where
     pub pickle : List ℕ
-    pub given : gives.is_pickle (string_bytes request.pickle) pickle
-    pub ends : EndsOfEach request names pickle ending
+    pub given : gives.is_pickle requested.pickle pickle
+    pub ends : EndsOfEach requested names pickle ending
 
-  abbrev pub MapsRequest : Request → Over → Ending → Type 0
-  MapsRequest request (File file) =
-      Ends (MapsOver (gives.is_pickle (string_bytes request.pickle)) (gives.is_file (string_bytes file) request.spool)
-      (requested_aim request) request.terms why out out')
-  MapsRequest request (Files names flush) = MapsEach request names
+  abbrev pub MapsRequest : Requested → Over → Ending → Type 0
+  MapsRequest requested (File file) = Ends (MapsOver gives requested (string_bytes file) why out out')
+  MapsRequest requested (Files names flush) = MapsEach requested names
 
   abbrev pub DoesJob : Job → AnswerForm → Ending → Type 0
   DoesJob (job.Map at order limit mode pickle name file) form =
-      Ends (MapsOver (gives.is_pickle (string_bytes pickle)) (gives.is_file (string_bytes file) None)
-      (plain_aim (string_bytes name) at order limit mode) no_terms why out out')
-  DoesJob (job.Request request) form = MapsRequest request request.over
+      MapsRequest (plain_request (string_bytes pickle) (string_bytes name) at order limit mode no_terms) (File file)
+  DoesJob (job.Request request) form = MapsRequest (of_request request) request.over
   DoesJob (job.Bound pickle name bits) form = Ends
       (EndsOver (gives.is_pickle (string_bytes pickle)) (λ bytes. BoundsAs bytes (string_bytes name) bits) out out')
   DoesJob (job.BoundText pickle name bits mode style) form =
@@ -263,18 +231,8 @@ module _ (gives : Gives) (why : Bool) (out out' : Option (List ℕ)) where
       (λ ended. (ended ≡ outcome.Done) × DumpsOver (gives.is_file (string_bytes file) None) from size ruler out out')
 
   -- the list of formats is all that isn't done
-  abbrev pub IsFormats : Job → Type 0
-  IsFormats (job.Map at order limit mode pickle name file) = ⊥
-  IsFormats (job.Request request) = ⊥
-  IsFormats (job.Bound pickle name bits) = ⊥
-  IsFormats (job.BoundText pickle name bits mode style) = ⊥
-  IsFormats (job.Check pickle) = ⊥
-  IsFormats (job.Types pickle) = ⊥
-  IsFormats job.Formats = Unit {0}
-  IsFormats (job.Dump from size ruler file) = ⊥
-
   abbrev pub IfDone : Asked → Option Ending → Type 0
-  IfDone asked None = IsFormats asked.job × Keeps out out'
+  IfDone asked None = (asked.job ≡ job.Formats) × Keeps out out'
   IfDone asked (Some ending) = DoesJob asked.job asked.answer ending
 
   -- what was written of a job that failed at a file
@@ -283,14 +241,14 @@ module _ (gives : Gives) (why : Bool) (out out' : Option (List ℕ)) where
   StopsJob job = Keeps out out'
 
 -- why a job fails at a file
-abbrev pub FailsRequest : Gives → Request → Over → FileFault → Type 0
-FailsRequest gives request (File file) = FailsMap gives (string_bytes request.pickle) (string_bytes file) request.spool
-FailsRequest gives request (Files names flush) = gives.is_unread (string_bytes request.pickle)
+abbrev pub FailsRequest : Gives → Requested → Over → FileFault → Type 0
+FailsRequest gives requested (File file) = FailsMap gives requested (string_bytes file)
+FailsRequest gives requested (Files names flush) = gives.is_unread requested.pickle
 
 abbrev pub FailsJob : Gives → Job → FileFault → Type 0
-FailsJob gives (job.Map at order limit mode pickle name file) =
-    FailsMap gives (string_bytes pickle) (string_bytes file) None
-FailsJob gives (job.Request request) = FailsRequest gives request request.over
+FailsJob gives (job.Map at order limit mode pickle name file) = FailsRequest gives
+    (plain_request (string_bytes pickle) (string_bytes name) at order limit mode no_terms) (File file)
+FailsJob gives (job.Request request) = FailsRequest gives (of_request request) request.over
 FailsJob gives (job.Bound pickle name bits) = gives.is_unread (string_bytes pickle)
 FailsJob gives (job.BoundText pickle name bits mode style) = gives.is_unread (string_bytes pickle)
 FailsJob gives (job.Check pickle) = gives.is_unread (string_bytes pickle)

@@ -1,9 +1,10 @@
 //! A type of a pickle, mapped over many files, whose names are in the arguments or in a list.
-ghost use Rattle.std.specs.Prelude.{◌≡◌, IfOk, IfErr, OnErr, string_bytes};
+ghost use Rattle.std.specs.Prelude.{◌≡◌, IfOk, IfErr, OnErr};
 ghost use Rattle.std.specs.Io.KnownBytes.{Keeps};
+ghost use Rattle.jobs.specs.Aims.{of_mapping};
 ghost use Rattle.jobs.specs.Every.{AppendsNamed, IsTyped, every_of};
 ghost use Rattle.jobs.specs.Files.{greater, rank};
-ghost use Rattle.jobs.specs.Given.{EndsMany, MapsMany};
+ghost use Rattle.jobs.specs.Jobs.{MapsEach};
 ghost use Rattle.jobs.specs.Names.{AreListed, AreNamed, AreNamesOf};
 
 use crate::aside::Aside;
@@ -11,94 +12,55 @@ use crate::ending::Ending;
 use crate::fault::FileFault;
 use crate::file_run::{FileForm, Typed, flush, run_name};
 use crate::names::{ListFault, read_name};
-use crate::opener::{NamedPickle, Opener};
+use crate::opener::Opener;
 use crate::settings::Mapping;
 use crate::why::{Why, explain};
-use command_line::request::{FileNames, Request};
-use poke_batch::accept::accept;
+use command_line::request::FileNames;
 use poke_batch::each::Kept;
 use poke_batch::outcome::Outcome;
+use poke_batch::resolve::resolve;
 use poke_batch::status::Status;
 use std::alloc::Global;
 use std::io::{BufReader, Read, Write};
-
-/// The files of a request, and whether the line of each is written at once.
-#[derive(Clone, Copy)]
-pub struct Many<'a> {
-    pub request: &'a Request,
-    pub names: &'a FileNames,
-    pub flush: bool,
-}
-
-/// A pickle that was read, and whether reasons are requested.
-#[derive(Clone, Copy)]
-struct ReadPickle<'a> {
-    pickle: &'a NamedPickle,
-    explains: bool,
-}
 
 /// Maps a type of a pickle over many files, and writes a line for each. Ends with the greatest exit status of all.
 #[inline(never)]
 pub fn map_files<P: Opener, A: Aside, O: Write>(
     alloc: Global,
     opener: &P,
-    many: Many<'_>,
+    mapping: Mapping<'_>,
+    names: &FileNames,
     out: &mut O,
     aside: &mut A,
     why: &mut Why<'_>,
 ) -> Result<Ending, FileFault>
-    ensures ok { IfOk result
-        (MapsMany (P.gives opener.now) why.old.asked (O.contents out.old) (O.contents out.new) many.entry) }
+    ensures ok { IfOk result (MapsEach (P.gives opener.now) why.old.asked
+        (O.contents out.old) (O.contents out.new) (of_mapping mapping.entry) names.now) }
     ensures err { OnErr result (Keeps (O.contents out.old) (O.contents out.new)) }
-    ensures fault { IfErr result ((P.gives opener.now).is_unread (string_bytes many.entry.request.now.pickle)) }
+    ensures fault { IfErr result ((P.gives opener.now).is_unread mapping.entry.pickle.now) }
 {
-    let mapping = Mapping::of_request(many.request);
-    let pickle = opener.read_pickle(&many.request.pickle)?;
-    let read = ReadPickle {
+    let pickle = opener.read_pickle(mapping.pickle)?;
+    let (table, id) = match resolve(alloc, &pickle.bytes, mapping.name) {
+        Ok(found) => found,
+        Err(outcome) => {
+            explain(alloc, why, outcome, &pickle, Some(mapping.name));
+            return Ok(Ending::Run(outcome));
+        }
+    };
+    let typed = Typed {
+        alloc,
+        mapping,
         pickle: &pickle,
+        table: &table,
+        id,
+        form: FileForm::of(mapping.mode, mapping.faults),
         explains: why.asked,
     };
-    let ending = many.run(alloc, opener, read, out, aside);
+    let written = run_files(opener, typed, names, out, aside);
     aside.clear();
-    explain(alloc, why, ending.status(), &pickle, Some(mapping.name));
-    Ok(ending)
-}
-
-impl Many<'_> {
-    // Maps over the files, with the pickle that was read.
-    fn run<P: Opener, A: Aside, O: Write>(
-        self,
-        alloc: Global,
-        opener: &P,
-        read: ReadPickle<'_>,
-        out: &mut O,
-        aside: &mut A,
-    ) -> Ending
-        ensures { EndsMany (P.gives opener.now) (O.contents out.old) (O.contents out.new) self.entry read.entry result }
-    {
-        let table = match accept(alloc, &read.pickle.bytes) {
-            Ok(table) => table,
-            Err(refusal) => return Ending::Run(Outcome::Refused(refusal)),
-        };
-        let mapping = Mapping::of_request(self.request);
-        let Some(id) = table.find(mapping.name) else {
-            return Ending::Run(Outcome::NoSuchType);
-        };
-        let typed = Typed {
-            alloc,
-            pickle: read.pickle,
-            table: &table,
-            id,
-            mapping,
-            terms: &self.request.terms,
-            form: FileForm::of(mapping.mode, self.request.faults()),
-            flush: self.flush,
-            explains: read.explains,
-        };
-        match run_files(opener, typed, self.names, out, aside) {
-            Ok(status) => Ending::Silent(status),
-            Err(fault) => Ending::Run(Outcome::Failed(fault.failure())),
-        }
+    match written {
+        Ok(status) => Ok(Ending::Silent(status)),
+        Err(fault) => Ok(Ending::Run(Outcome::Failed(fault.failure()))),
     }
 }
 
@@ -136,7 +98,7 @@ fn run_words<P: Opener, A: Aside, O: Write>(
         (AppendsNamed (P.gives opener.now) (every_of typed.entry) (AreNamed (P.gives opener.now).is_name words.now)
         (O.contents out.old) (O.contents out.new)) }
 {
-    let mut kept = Kept::new(typed.alloc, typed.terms.most_slots)?;
+    let mut kept = Kept::new(typed.alloc, typed.mapping.terms.most_slots)?;
     let mut greatest = Status::Done;
     for word in words {
         let name = opener.file_name(word)?;
@@ -162,7 +124,7 @@ fn run_list<P: Opener, L: Read + Drop, A: Aside, O: Write>(
     let Ok(mut list) = BufReader::new(typed.alloc, list) else {
         return Err(ListFault::Memory);
     };
-    let mut kept = Kept::new(typed.alloc, typed.terms.most_slots)?;
+    let mut kept = Kept::new(typed.alloc, typed.mapping.terms.most_slots)?;
     let mut name = Vec::new(typed.alloc);
     let mut greatest = Status::Done;
     for _ in 0..u64::MAX {

@@ -6,18 +6,15 @@ ghost use Rattle.run_parts.specs.Outcomes.{outcome_status};
 ghost use Rattle.jobs.specs.Every.{AppendsFile, IsTyped, every_of, unmapped_text};
 ghost use Rattle.jobs.specs.Files.{AppendsOver, file_form};
 ghost use Rattle.jobs.specs.Opened.{FailsNamed};
-ghost use Rattle.jobs.specs.Aims.{IsAskOf, aim_of};
 
 use crate::aside::Aside;
 use crate::fault::FileFault;
 use crate::one_file::is_mapped;
 use crate::opener::{Lengthless, NamedPickle, Opener};
 use crate::settings::Mapping;
+use crate::why::reasons_of;
 use bit_space::{OpenFault, Paged, Space};
-use fault_report::mapping::{Pickle, TypeMapping};
-use fault_report::reasons_in;
 use pickle_types::table::{Table, TypeId};
-use poke_batch::ask::Ask;
 use poke_batch::each::{Kept, map_file, run_file};
 use poke_batch::fault_form::FaultForm;
 use poke_batch::file_line::{put_file_line, put_name};
@@ -25,34 +22,22 @@ use poke_batch::file_object::put_file_object;
 use poke_batch::mode::Mode;
 use poke_batch::outcome::Outcome;
 use poke_batch::status::Status;
-use poke_batch::terms::Terms;
 use poke_batch::type_run::TypeRun;
 use poke_batch::write::{WriteFault, put};
 use std::alloc::Global;
 use std::io::Write;
 
-/// What the mapping of every file uses.
+/// A mapping and the type that it has in its pickle: what the run of every file uses.
 #[derive(Clone, Copy)]
 pub struct Typed<'a> {
     pub alloc: Global,
+    pub mapping: Mapping<'a>,
     pub pickle: &'a NamedPickle,
     pub table: &'a Table,
     pub id: TypeId,
-    pub mapping: Mapping<'a>,
-    pub terms: &'a Terms,
     pub form: FileForm,
-    /// Whether the line of a file is written before the next file is mapped.
-    pub flush: bool,
     /// Whether reasons are requested.
     pub explains: bool,
-}
-
-/// A file, and what its run is given.
-#[derive(Clone, Copy)]
-struct FileRun<'a> {
-    typed: Typed<'a>,
-    name: &'a [u8],
-    ask: Ask<'a>,
 }
 
 /// How the run of a file is written.
@@ -86,8 +71,8 @@ pub fn run_name<P: Opener, A: Aside, O: Write>(
     out: &mut O,
 ) -> Result<Status, WriteFault>
     requires typed { IsTyped typed }
-    requires store { IsStoreOf typed.terms.now.most_slots kept.old.store }
-    ensures store { IsStoreOf typed.entry.terms.now.most_slots kept.new.store }
+    requires store { IsStoreOf typed.mapping.terms.now.most_slots kept.old.store }
+    ensures store { IsStoreOf typed.entry.mapping.terms.now.most_slots kept.new.store }
     ensures ok { IfOk result
         (AppendsFile (P.gives opener.now) (every_of typed.entry) name.now (O.contents out.old) (O.contents out.new)) }
 {
@@ -96,7 +81,7 @@ pub fn run_name<P: Opener, A: Aside, O: Write>(
         Ok(mut space) => run_space(typed, kept, name, &mut space, aside, out)?,
         Err(fault) => run_unopened(opener, typed, name, fault, aside, out)?,
     };
-    if typed.flush {
+    if typed.mapping.flush {
         aside.clear();
         flush(out)?;
     }
@@ -203,124 +188,52 @@ fn run_space<S: Space, A: Aside, O: Write>(
     out: &mut O,
 ) -> Result<Status, WriteFault>
     requires typed { IsTyped typed }
-    requires store { IsStoreOf typed.terms.now.most_slots kept.old.store }
-    ensures store { IsStoreOf typed.entry.terms.now.most_slots kept.new.store }
+    requires store { IsStoreOf typed.mapping.terms.now.most_slots kept.old.store }
+    ensures store { IsStoreOf typed.entry.mapping.terms.now.most_slots kept.new.store }
     ensures ok { IfOk result
         (AppendsOver (S.view space.old) (every_of typed.entry) name.now (O.contents out.old) (O.contents out.new)) }
 {
     let Some(ask) = typed.mapping.ask_in(space) else {
         return put_unmapped(typed.form, name, Outcome::Offset, b"", out);
     };
-    let run = FileRun { typed, name, ask };
-    match typed.form {
-        FileForm::Line(faults) => run_line(run, faults, kept, space, aside, out),
-        FileForm::Object => run_object(run, kept, space, out),
-    }
-}
-
-// Maps a type over an open file, and writes its line and, if requested, the reasons after it.
-fn run_line<S: Space, A: Aside, O: Write>(
-    run: FileRun<'_>,
-    faults: FaultForm,
-    kept: &mut Kept,
-    space: &mut S,
-    aside: &mut A,
-    out: &mut O,
-) -> Result<Status, WriteFault>
-    requires typed { IsTyped run.typed }
-    requires form { run.typed.form ≡ FileForm.Line faults }
-    requires ask { IsAskOf (aim_of run.typed.mapping) (S.view space.old).len run.ask }
-    requires store { IsStoreOf run.typed.terms.now.most_slots kept.old.store }
-    ensures store { IsStoreOf run.entry.typed.terms.now.most_slots kept.new.store }
-    ensures ok { IfOk result (AppendsOver (S.view space.old) (every_of run.entry.typed) run.entry.name.now
-        (O.contents out.old) (O.contents out.new)) }
-{
-    let FileRun { typed, name, ask } = run;
-    let Typed {
-        alloc,
-        table,
-        id,
-        terms,
-        ..
-    } = typed;
-    let mapped = TypeRun {
-        alloc,
-        table,
-        id,
+    let run = TypeRun {
+        alloc: typed.alloc,
+        table: typed.table,
+        id: typed.id,
         ask: &ask,
-        terms,
+        terms: typed.mapping.terms,
     };
-    let status = run_file(&mapped, faults, kept, name, space, out)?;
-    let lines = reasons_of(run, kept.outcome(), space);
-    tell_reasons(typed, name, &lines, aside, out)?;
-    Ok(status)
-}
-
-// Maps a type over an open file, and writes its object with the reasons, if they are requested.
-fn run_object<S: Space, O: Write>(
-    run: FileRun<'_>,
-    kept: &mut Kept,
-    space: &mut S,
-    out: &mut O,
-) -> Result<Status, WriteFault>
-    requires typed { IsTyped run.typed }
-    requires form { run.typed.form ≡ FileForm.Object }
-    requires ask { IsAskOf (aim_of run.typed.mapping) (S.view space.old).len run.ask }
-    requires store { IsStoreOf run.typed.terms.now.most_slots kept.old.store }
-    ensures store { IsStoreOf run.entry.typed.terms.now.most_slots kept.new.store }
-    ensures ok { IfOk result (AppendsOver (S.view space.old) (every_of run.entry.typed) run.entry.name.now
-        (O.contents out.old) (O.contents out.new)) }
-{
-    let Typed {
-        alloc,
-        table,
-        id,
-        terms,
-        ..
-    } = run.typed;
-    let mapped = TypeRun {
-        alloc,
-        table,
-        id,
-        ask: &run.ask,
-        terms,
-    };
-    map_file(&mapped, kept, space);
-    let lines = reasons_of(run, kept.outcome(), space);
-    kept.put_object(out, run.name, &lines)
+    match typed.form {
+        FileForm::Line(faults) => {
+            let status = run_file(&run, faults, kept, name, space, out)?;
+            let lines = reason_lines(typed, &run, kept.outcome(), space);
+            tell_reasons(typed, name, &lines, aside, out)?;
+            Ok(status)
+        }
+        FileForm::Object => {
+            map_file(&run, kept, space);
+            let lines = reason_lines(typed, &run, kept.outcome(), space);
+            kept.put_object(out, name, &lines)
+        }
+    }
 }
 
 // The lines that explain how the run of a file ended, if they are requested and the file was mapped. If an allocation
 // fails there are none.
-fn reasons_of<S: Space>(run: FileRun<'_>, outcome: Outcome, space: &mut S) -> Vec<u8>
-    requires typed { IsTyped run.typed }
-    ensures quiet { run.entry.typed.explains ≡ false → result.items ≡ [] }
+fn reason_lines<S: Space>(
+    typed: Typed<'_>,
+    run: &TypeRun<'_>,
+    outcome: Outcome,
+    space: &mut S,
+) -> Vec<u8>
+    ensures quiet { typed.entry.explains ≡ false → result.items ≡ [] }
 {
-    let typed = run.typed;
     if !typed.explains || !is_mapped(outcome.status()) {
         return Vec::new(typed.alloc);
     }
-    let Typed {
-        alloc,
-        pickle,
-        table,
-        id,
-        terms,
-        ..
-    } = typed;
-    let mapping = TypeMapping {
-        alloc,
-        table,
-        id,
-        ask: &run.ask,
-    };
-    let source = Pickle {
-        bytes: &pickle.bytes,
-        path: pickle.path.as_bytes(),
-    };
-    match reasons_in(mapping, source, terms, space, outcome) {
+    match reasons_of(run, typed.pickle, outcome, space) {
         Ok(reasons) => reasons.text,
-        Err(_) => Vec::new(alloc),
+        Err(_) => Vec::new(typed.alloc),
     }
 }
 

@@ -1,23 +1,23 @@
 //! Mappings of a type of a pickle over a file.
 ghost use Rattle.std.specs.Prelude.{true, IfOk, IfErr, OnErr};
 ghost use Rattle.std.specs.Io.KnownBytes.{Keeps};
-ghost use Rattle.jobs.specs.Given.{FailsTarget, MapsTarget};
-ghost use Rattle.jobs.specs.Jobs.{AddsIf};
+ghost use Rattle.jobs.specs.Aims.{of_mapping};
+ghost use Rattle.jobs.specs.Given.{MapsSpace};
+ghost use Rattle.jobs.specs.Jobs.{AddsIf, FailsMap, MapsOver};
 
 use crate::fault::FileFault;
 use crate::head::wants_little;
 use crate::opener::{NamedPickle, Opener};
 use crate::settings::Mapping;
-use crate::why::{Why, explain};
+use crate::why::{Why, explain, reasons_of};
 use bit_space::{Order, Paged, Space};
 use command_line::start::Start;
-use fault_report::mapping::Pickle;
-use fault_report::reasons;
 use poke_batch::ask::Ask;
 use poke_batch::outcome::Outcome;
-use poke_batch::run::map_outcome;
+use poke_batch::resolve::resolve;
 use poke_batch::status::Status;
 use poke_batch::terms::Terms;
+use poke_batch::type_run::TypeRun;
 use poke_batch::write::put;
 use std::alloc::Global;
 use std::io::Write;
@@ -25,105 +25,102 @@ use std::io::Write;
 /// How the name of a pickle's file ends.
 const PICKLE_ENDING: &str = ".pk";
 
-/// A type of a pickle, and the file that it is mapped over.
-#[derive(Clone, Copy)]
-pub struct Target<'a> {
-    /// The argument that names the pickle.
-    pub pickle: &'a str,
-    /// The path of the file.
-    pub file: &'a str,
-    pub mapping: Mapping<'a>,
-    pub terms: &'a Terms,
-}
-
-/// A run that ended, with what it was given.
-#[derive(Clone, Copy)]
-struct FinishedRun<'a> {
-    pickle: &'a NamedPickle,
-    ask: &'a Ask<'a>,
-    terms: &'a Terms,
-    outcome: Outcome,
-}
-
-/// Maps a type of a pickle over a file.
+/// Maps a type of a pickle over the file at a path.
 #[inline(never)]
 pub fn map_file<P: Opener, O: Write>(
     alloc: Global,
     opener: &P,
-    target: Target<'_>,
+    mapping: Mapping<'_>,
+    path: &str,
     out: &mut O,
     why: &mut Why<'_>,
 ) -> Result<Outcome, FileFault>
-    ensures ok { IfOk result
-        (MapsTarget (P.gives opener.now) target.entry why.old.asked (O.contents out.old) (O.contents out.new)) }
+    ensures ok { IfOk result (MapsOver (P.gives opener.now) (of_mapping mapping.entry) path.now
+        why.old.asked (O.contents out.old) (O.contents out.new)) }
     ensures err { OnErr result (Keeps (O.contents out.old) (O.contents out.new)) }
-    ensures fault { IfErr result (FailsTarget (P.gives opener.now) target.entry) }
+    ensures fault { IfErr result (FailsMap (P.gives opener.now) (of_mapping mapping.entry) path.now) }
 {
-    let Target { mapping, terms, .. } = target;
-    let pickle = opener.read_pickle(target.pickle)?;
-    let bytes = opener.open(target.file, mapping.spool, mapping.progress)?;
+    let pickle = opener.read_pickle(mapping.pickle)?;
+    let bytes = opener.open(path, mapping.spool, mapping.progress)?;
     let mut space = Paged::new(alloc, bytes)?;
     let Some(ask) = &mapping.ask_in(&space) else {
         tell_start(alloc, why, mapping.start, space.len());
         return Ok(Outcome::Offset);
     };
-    let outcome = map_outcome(alloc, &pickle.bytes, ask, terms, &mut space, out);
-    if why.asked {
-        let ended = FinishedRun {
-            pickle: &pickle,
-            ask,
-            terms,
-            outcome,
-        };
-        explain_run(alloc, ended, &mut space, out, why);
-        tell_arguments(target.file, ended, why);
+    let outcome = map_space(alloc, &pickle, ask, mapping.terms, &mut space, out, why);
+    if outcome.status() == Status::Fault {
+        tell_arguments(path, ask.order, &pickle, why);
     }
     Ok(outcome)
 }
 
+// Maps a type of a pickle over a space and, if reasons are requested, explains how the run ended.
+fn map_space<S: Space, O: Write>(
+    alloc: Global,
+    pickle: &NamedPickle,
+    ask: &Ask<'_>,
+    terms: &Terms,
+    space: &mut S,
+    out: &mut O,
+    why: &mut Why<'_>,
+) -> Outcome
+    ensures { MapsSpace pickle.now.bytes.items ask.now terms.now (S.view space.old) why.old.asked
+        (O.contents out.old) (O.contents out.new) result }
+{
+    let (table, id) = match resolve(alloc, &pickle.bytes, ask.name) {
+        Ok(found) => found,
+        Err(outcome) => {
+            explain(alloc, why, outcome, pickle, Some(ask.name));
+            return outcome;
+        }
+    };
+    let run = TypeRun {
+        alloc,
+        table: &table,
+        id,
+        ask,
+        terms,
+    };
+    let outcome = run.map_new(space, out);
+    if why.asked {
+        explain_run(&run, pickle, outcome, space, out, why);
+    }
+    outcome
+}
+
 // Explains how a run ended. Of a value that is shown to the eye, what was met before its fault is shown.
 fn explain_run<S: Space, O: Write>(
-    alloc: Global,
-    ended: FinishedRun<'_>,
+    run: &TypeRun<'_>,
+    pickle: &NamedPickle,
+    outcome: Outcome,
     space: &mut S,
     out: &mut O,
     why: &mut Why<'_>,
 )
     ensures { AddsIf true (O.contents out.old) (O.contents out.new) }
 {
-    let FinishedRun {
-        pickle,
-        ask,
-        terms,
-        outcome,
-    } = ended;
-    explain(alloc, why, outcome.status(), pickle, Some(ask.name));
-    if !is_explained(outcome.status(), terms) {
+    if !is_explained(outcome.status(), run.terms) {
         return;
     }
-    let source = Pickle {
-        bytes: &pickle.bytes,
-        path: pickle.path.as_bytes(),
-    };
-    if let Ok(reasons) = reasons(alloc, source, ask, terms, space, outcome) {
+    if let Ok(reasons) = reasons_of(run, pickle, outcome, space) {
         *why.text = reasons.text;
         // What fails here fails again when the answer is flushed.
         let _shown = put(out, reasons.met.as_slice());
     }
 }
 
-// Adds what the arguments of a mapping with a fault may have wrong.
-fn tell_arguments(file: &str, ended: FinishedRun<'_>, why: &mut Why<'_>) {
-    if ended.outcome.status() != Status::Fault {
+// Adds what the arguments of a mapping with a fault may have wrong, if reasons are requested.
+fn tell_arguments(path: &str, order: Order, pickle: &NamedPickle, why: &mut Why<'_>) {
+    if !why.asked {
         return;
     }
-    if file.ends_with(PICKLE_ENDING) {
+    if path.ends_with(PICKLE_ENDING) {
         tell(
             why.text,
             b"  FILE ends in .pk: are PICKLE and FILE swapped?\n",
         );
     }
-    if ended.ask.order == Order::Big && wants_little(&ended.pickle.bytes) {
+    if order == Order::Big && wants_little(&pickle.bytes) {
         tell(why.text, b"  the pickle's head says: --endian little\n");
     }
 }

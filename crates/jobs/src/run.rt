@@ -1,26 +1,27 @@
 //! A job, done over an opener and a writer.
-ghost use Rattle.std.specs.Prelude.{IfOk, IfErr, OnErr, Some};
+ghost use Rattle.std.specs.Prelude.{IfOk, IfErr, OnErr};
 ghost use Rattle.std.specs.Io.KnownBytes.{Keeps};
-ghost use Rattle.jobs.specs.Jobs.{ChecksIn, FailsJob, FailsRequest, IfDone, IsBound, IsOverFile, MapsRequest, StopsJob, TypesIn};
+ghost use Rattle.jobs.specs.Aims.{of_mapping};
+ghost use Rattle.jobs.specs.Jobs.{ChecksIn, FailsJob, FailsRequest, IfDone, MapsRequest, StopsJob, TypesIn};
 
 use crate::answers::{check_in_json, types_in_json};
 use crate::aside::Aside;
 use crate::dumps::{Range, dump_file};
-use crate::each::{Many, map_files};
+use crate::each::map_files;
 use crate::ending::Ending;
 use crate::fault::FileFault;
-use crate::one_file::{Target, map_file};
+use crate::one_file::map_file;
 use crate::opener::Opener;
-use crate::pickles::{Bounded, TextForm, bound_text, bound_type, check_pickle, tell_types};
+use crate::pickles::{bound_text, bound_type, check_pickle, tell_types};
 use crate::settings::Mapping;
 use crate::why::Why;
 use command_line::answer_form::AnswerForm;
-use command_line::request::{Over, Request};
-use poke_batch::outcome::Outcome;
+use command_line::request::Over;
 use poke_batch::terms::Terms;
 use poke_batch::words::{Asked, Job};
 use std::alloc::Global;
 use std::io::Write;
+use text_bounds::texts::Texts;
 
 /// Does a job, and returns how it ended. What it prints is written to `out`; the line of its ending, [`Ending::tell`], is
 /// the caller's to write. `None` is returned for the list of formats, which isn't read by an opener. Reasons go to `why`, if
@@ -42,39 +43,6 @@ pub fn run_job<P: Opener, O: Write, A: Aside>(
     ensures fault { IfErr result (FailsJob (P.gives opener.now) asked.now.job) }
 {
     match &asked.job {
-        Job::Request(request) => { Ok(Some(map_request(alloc, opener, request, out, aside, why)?)) }
-        Job::Check { pickle } => {
-            Ok(Some(check_job(alloc, opener, pickle, asked.answer, out, why)?))
-        }
-        Job::Types { pickle } => {
-            Ok(Some(types_job(alloc, opener, pickle, asked.answer, out, why)?))
-        }
-        Job::Formats => Ok(None),
-        Job::Map { .. } | Job::Dump { .. } => {
-            Ok(Some(Ending::Run(run_file(alloc, opener, asked, out, why)?)))
-        }
-        Job::Bound { .. } | Job::BoundText { .. } => {
-            Ok(Some(Ending::Run(run_bound(alloc, opener, asked, out, why)?)))
-        }
-    }
-}
-
-// Maps or dumps a file, without terms.
-fn run_file<P: Opener, O: Write>(
-    alloc: Global,
-    opener: &P,
-    asked: &Asked,
-    out: &mut O,
-    why: &mut Why<'_>,
-) -> Result<Outcome, FileFault>
-    requires file { IsOverFile asked.now.job }
-    ensures done { IfOk result (λ outcome. IfDone (P.gives opener.now) why.old.asked
-        (O.contents out.old) (O.contents out.new) asked.now (Some (Ending.Run outcome))) }
-    ensures stops { OnErr result (StopsJob (P.gives opener.now) why.old.asked
-        (O.contents out.old) (O.contents out.new) asked.now.job) }
-    ensures fault { IfErr result (FailsJob (P.gives opener.now) asked.now.job) }
-{
-    match &asked.job {
         Job::Map {
             at,
             order,
@@ -84,14 +52,38 @@ fn run_file<P: Opener, O: Write>(
             name,
             file,
         } => {
-            let target = Target {
-                pickle,
-                file,
-                mapping: Mapping::from_bit(name, *at, *order, *limit, *mode),
-                terms: &Terms::none(),
-            };
-            map_file(alloc, opener, target, out, why)
+            let terms = &Terms::none();
+            let mapping = Mapping::from_bit(pickle, name, *at, *order, *limit, *mode, terms);
+            Ok(Some(Ending::Run(map_file(alloc, opener, mapping, file, out, why)?)))
         }
+        Job::Request(request) => {
+            let mapping = Mapping::of_request(request);
+            Ok(Some(map_over(alloc, opener, mapping, &request.over, out, aside, why)?))
+        }
+        Job::Bound { pickle, name, bits } => {
+            Ok(Some(Ending::Run(bound_type(alloc, opener, pickle, name, *bits, out, why)?)))
+        }
+        Job::BoundText {
+            pickle,
+            name,
+            bits,
+            mode,
+            style,
+        } => {
+            let texts = Texts {
+                bits: *bits,
+                style: *style,
+                mode: *mode,
+            };
+            Ok(Some(Ending::Run(bound_text(alloc, opener, pickle, name, texts, out, why)?)))
+        }
+        Job::Check { pickle } => {
+            Ok(Some(check_job(alloc, opener, pickle, asked.answer, out, why)?))
+        }
+        Job::Types { pickle } => {
+            Ok(Some(types_job(alloc, opener, pickle, asked.answer, out, why)?))
+        }
+        Job::Formats => Ok(None),
         Job::Dump {
             from,
             size,
@@ -104,81 +96,29 @@ fn run_file<P: Opener, O: Write>(
                 ruler: *ruler,
                 tells_rest: asked.default_size,
             };
-            dump_file(alloc, opener, file, range, out, why.text)
+            Ok(Some(Ending::Run(dump_file(alloc, opener, file, range, out, why.text)?)))
         }
-        _ => unreachable!(),
     }
 }
 
-// Bounds a type.
-fn run_bound<P: Opener, O: Write>(
+// Maps over the file or the files of a request.
+fn map_over<P: Opener, O: Write, A: Aside>(
     alloc: Global,
     opener: &P,
-    asked: &Asked,
-    out: &mut O,
-    why: &mut Why<'_>,
-) -> Result<Outcome, FileFault>
-    requires bound { IsBound asked.now.job }
-    ensures done { IfOk result (λ outcome. IfDone (P.gives opener.now) why.old.asked
-        (O.contents out.old) (O.contents out.new) asked.now (Some (Ending.Run outcome))) }
-    ensures stops { OnErr result (StopsJob (P.gives opener.now) why.old.asked
-        (O.contents out.old) (O.contents out.new) asked.now.job) }
-    ensures fault { IfErr result (FailsJob (P.gives opener.now) asked.now.job) }
-{
-    match &asked.job {
-        Job::Bound { pickle, name, bits } => {
-            bound_type(alloc, opener, Bounded::new(pickle, name, *bits), out, why)
-        }
-        Job::BoundText {
-            pickle,
-            name,
-            bits,
-            mode,
-            style,
-        } => {
-            let of = Bounded::new(pickle, name, *bits);
-            let form = TextForm {
-                style: *style,
-                mode: *mode,
-            };
-            bound_text(alloc, opener, of, form, out, why)
-        }
-        _ => unreachable!(),
-    }
-}
-
-// Maps as a request says.
-fn map_request<P: Opener, O: Write, A: Aside>(
-    alloc: Global,
-    opener: &P,
-    request: &Request,
+    mapping: Mapping<'_>,
+    over: &Over,
     out: &mut O,
     aside: &mut A,
     why: &mut Why<'_>,
 ) -> Result<Ending, FileFault>
     ensures done { IfOk result (MapsRequest (P.gives opener.now) why.old.asked
-        (O.contents out.old) (O.contents out.new) request.now request.now.over) }
+        (O.contents out.old) (O.contents out.new) (of_mapping mapping.entry) over.now) }
     ensures stops { OnErr result (Keeps (O.contents out.old) (O.contents out.new)) }
-    ensures fault { IfErr result (FailsRequest (P.gives opener.now) request.now request.now.over) }
+    ensures fault { IfErr result (FailsRequest (P.gives opener.now) (of_mapping mapping.entry) over.now) }
 {
-    match &request.over {
-        Over::File(file) => {
-            let target = Target {
-                pickle: &request.pickle,
-                file,
-                mapping: Mapping::of_request(request),
-                terms: &request.terms,
-            };
-            Ok(Ending::Run(map_file(alloc, opener, target, out, why)?))
-        }
-        Over::Files { names, flush } => {
-            let many = Many {
-                request,
-                names,
-                flush: *flush,
-            };
-            map_files(alloc, opener, many, out, aside, why)
-        }
+    match over {
+        Over::File(file) => Ok(Ending::Run(map_file(alloc, opener, mapping, file, out, why)?)),
+        Over::Files { names, .. } => map_files(alloc, opener, mapping, names, out, aside, why),
     }
 }
 

@@ -1,17 +1,21 @@
-//! What a job gives to the mapping of a file.
+//! What a job requests of a mapping.
 ghost use Rattle.std.specs.Prelude.{◌≡◌, None, false, IfNone, IfSome};
 ghost use Rattle.command_line.specs.Starts.{start_bit};
-ghost use Rattle.jobs.specs.Aims.{IsAskOf, aim_of, plain_aim, requested_aim};
+ghost use Rattle.jobs.specs.Aims.{IsAskOf, aim_of, of_mapping, of_request, plain_request};
 
 use bit_space::{Order, Space};
-use command_line::request::{Form, Request};
+use command_line::fault_form::FaultForm;
+use command_line::request::{Form, Over, Request};
 use command_line::start::Start;
 use poke_batch::ask::Ask;
 use poke_batch::mode::Mode;
+use poke_batch::terms::Terms;
 
-/// What a job gives to the mapping of a file.
+/// What a job requests of a mapping, over one file or many.
 #[derive(Clone, Copy)]
 pub struct Mapping<'a> {
+    /// The argument that names the pickle.
+    pub pickle: &'a str,
     /// The name of the type to map.
     pub name: &'a [u8],
     pub start: Start,
@@ -19,47 +23,68 @@ pub struct Mapping<'a> {
     /// The most steps.
     pub limit: u64,
     pub mode: Mode,
+    /// What each value must meet, and how it looks.
+    pub terms: &'a Terms,
+    /// How a refusal or a fault of one file among many is written.
+    pub faults: FaultForm,
     /// The most bytes of a file without a length that are read into memory. `None` opens no such file.
     pub spool: Option<u64>,
     /// Whether a terminal shows how much is done.
     pub progress: bool,
+    /// Whether what is written of one file among many is written before the next file is mapped.
+    pub flush: bool,
 }
 
 impl<'a> Mapping<'a> {
-    /// What the mapping of a type from the bit `at` on is given.
-    pub fn from_bit(name: &'a str, at: u64, order: Order, limit: u64, mode: Mode) -> Mapping<'a>
-        ensures aim { aim_of result ≡ plain_aim name.now at order limit mode }
-        ensures plain { (result.spool ≡ None) × (result.progress ≡ false) }
+    /// The mapping of a type over one file, from the bit `at` on.
+    pub fn from_bit(
+        pickle: &'a str,
+        name: &'a str,
+        at: u64,
+        order: Order,
+        limit: u64,
+        mode: Mode,
+        terms: &'a Terms,
+    ) -> Mapping<'a>
+        ensures request { of_mapping result ≡ plain_request pickle.now name.now at order limit mode terms.now }
+        ensures plain { (result.progress ≡ false) × (result.flush ≡ false) }
     {
         Mapping {
+            pickle,
             name: name.as_bytes(),
             start: Start::Bit(at),
             order,
             limit,
             mode,
+            terms,
+            faults: FaultForm::Text,
             spool: None,
             progress: false,
+            flush: false,
         }
     }
 
-    /// What a request gives to the mapping of each file. A value that is shown to the eye has no mode: its look replaces
-    /// it.
+    /// The mapping that a request says. A value that is shown to the eye has no mode: its look replaces it.
     pub fn of_request(request: &'a Request) -> Mapping<'a>
-        ensures aim { aim_of result ≡ requested_aim request.now }
-        ensures reads { (result.spool ≡ request.now.spool) × (result.progress ≡ request.now.progress) }
+        ensures request { of_mapping result ≡ of_request request.now }
+        ensures shows { result.progress ≡ request.now.progress }
     {
         let mode = match request.form {
             Form::Printed { mode, .. } => mode,
             Form::Shown { .. } => Mode::Flat,
         };
         Mapping {
+            pickle: &request.pickle,
             name: request.name.as_bytes(),
             start: request.start,
             order: request.order,
             limit: request.limit,
             mode,
+            terms: &request.terms,
+            faults: request.faults(),
             spool: request.spool,
             progress: request.progress,
+            flush: matches!(request.over, Over::Files { flush: true, .. }),
         }
     }
 

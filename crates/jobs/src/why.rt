@@ -1,10 +1,14 @@
 //! The reasons of a job, which are printed after its line.
 use crate::opener::NamedPickle;
+use bit_space::Space;
+use fault_report::mapping::{Pickle, TypeMapping};
+use fault_report::{Explained, reasons_in};
 use pickle_reasons::{explanation, refusal_explanation};
 use pickle_warnings::accepted_warnings;
-use poke_batch::accept::Refusal;
+use poke_batch::outcome::Outcome;
 use poke_batch::status::Status;
-use std::alloc::Global;
+use poke_batch::type_run::TypeRun;
+use std::alloc::{AllocError, Global};
 
 /// Where the reasons of a job are written.
 #[derive(Drop)]
@@ -14,36 +18,55 @@ pub struct Why<'a> {
     pub asked: bool,
 }
 
-/// Writes why a pickle or a name is refused, if reasons are requested and the run ended with a refusal. If an
+/// Writes why a pickle, or the name of a type in it, is refused, if reasons are requested and the run ended so. If an
 /// allocation fails there is only the line of the refusal.
 pub fn explain(
     alloc: Global,
     why: &mut Why<'_>,
-    status: Status,
+    outcome: Outcome,
     pickle: &NamedPickle,
     name: Option<&[u8]>,
 ) {
-    if !why.asked || status != Status::Refused {
+    if !why.asked {
         return;
     }
-    if let Ok(text) = explanation(alloc, &pickle.bytes, pickle.path.as_bytes(), name) {
-        *why.text = text;
-    }
-}
-
-/// Writes why a pickle is refused. If an allocation fails there is only the line of the refusal.
-pub fn explain_refusal(alloc: Global, why: &mut Why<'_>, refusal: Refusal, pickle: &NamedPickle) {
-    if let Ok(text) = refusal_explanation(alloc, &pickle.bytes, pickle.path.as_bytes(), refusal) {
+    let path = pickle.path.as_bytes();
+    let text = match outcome {
+        Outcome::Refused(refusal) => refusal_explanation(alloc, &pickle.bytes, path, refusal),
+        Outcome::NoSuchType => explanation(alloc, &pickle.bytes, path, name),
+        _ => return,
+    };
+    if let Ok(text) = text {
         *why.text = text;
     }
 }
 
 /// Writes what an accepted pickle says and can't mean. If an allocation fails nothing more is written.
 pub fn warn(alloc: Global, why: &mut Why<'_>, status: Status, pickle: &NamedPickle) {
-    if status != Status::Done {
+    if !why.asked || status != Status::Done {
         return;
     }
     if let Ok(text) = accepted_warnings(alloc, &pickle.bytes, pickle.path.as_bytes()) {
         *why.text = text;
     }
+}
+
+/// What explains how a run over a type of a pickle ended. The type is mapped again.
+pub fn reasons_of<S: Space>(
+    run: &TypeRun<'_>,
+    pickle: &NamedPickle,
+    outcome: Outcome,
+    space: &mut S,
+) -> Result<Explained, AllocError> {
+    let mapping = TypeMapping {
+        alloc: run.alloc,
+        table: run.table,
+        id: run.id,
+        ask: run.ask,
+    };
+    let source = Pickle {
+        bytes: &pickle.bytes,
+        path: pickle.path.as_bytes(),
+    };
+    reasons_in(mapping, source, run.terms, space, outcome)
 }

@@ -13,6 +13,7 @@ pub mod ObjectLaws
 pub mod Counted
 pub mod Mappings
 pub mod UnderTerms
+pub mod Unresolved
 pub mod PartsFound
 pub mod PartsKept
 pub mod PartTexts

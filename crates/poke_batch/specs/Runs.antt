@@ -14,6 +14,8 @@ use Rattle.bit_space.specs.declared.order.Order.{Order}
 use Rattle.bit_space.specs.Bits.{bits_of}
 use Rattle.bit_space.specs.SpaceView.{SpaceView, HasRisen}
 use Rattle.run_parts.specs.declared.accept.Refusal.{Refusal}
+use Rattle.run_parts.specs.declared.outcome.Outcome.{Outcome}
+use Rattle.run_parts.specs.declared.outcome.Outcome.TheVariants as outcome
 use Rattle.command_line.specs.declared.ask.Ask.{Ask}
 use Rattle.run_parts.specs.declared.status.Status.TheVariants.{Fault, Refused, Outside}
 use Rattle.run_parts.specs.Accepted.{IsAccepted, Refuses, refusal_saying}
@@ -51,6 +53,12 @@ pub record IsAsked (pickle name : List ℕ) (type : PokeType) : Type 0 where
   pub types : Names
   pub accepted : IsAccepted pickle declarations types
   pub found : find_type name types ≡ Some type
+
+-- why a pickle has no type of a name: it is refused, or declares none
+pub data HasNoType (pickle name : List ℕ) : Outcome → Type 0 where
+  refused_pickle : {refusal : Refusal} → Refuses pickle refusal → HasNoType pickle name (outcome.Refused refusal)
+  no_type : {declarations : List DeclarationTree} {types : Names} → IsAccepted pickle declarations types
+      → find_type name types ≡ None → HasNoType pickle name outcome.NoSuchType
 
 -- the answer of a type from the bit `start` of a file's bytes on, under a limit of steps, in some steps and with some
 -- values made

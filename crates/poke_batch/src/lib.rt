@@ -32,6 +32,7 @@ pub mod part;
 pub mod places;
 pub mod presence;
 pub mod report;
+pub mod resolve;
 pub mod run;
 pub mod run_laws;
 pub mod selected;

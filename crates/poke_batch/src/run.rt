@@ -13,6 +13,7 @@ ghost use Rattle.poke_batch.specs.TypeRuns.{EndsRun, run_saying};
 ghost use Rattle.text_output.specs.Written.{AppendsPart};
 ghost use Rattle.value_store.specs.Slots.{levels};
 
+use crate::resolve::resolve;
 use crate::type_run::TypeRun;
 use bit_space::{Memory, Meter, Space};
 use command_line::ask::Ask;
@@ -85,16 +86,13 @@ pub fn bound_outcome<O: Write>(
 ) -> Outcome
     ensures { EndsAs (BoundsAs pickle.now name.now bits) result (O.contents out.old) (O.contents out.new) }
 {
-    let table = match accept(alloc, pickle) {
-        Ok(table) => table,
-        Err(refusal) => return Outcome::Refused(refusal),
+    let (table, id) = match resolve(alloc, pickle, name) {
+        Ok(found) => found,
+        Err(outcome) => return outcome,
     };
-    match table.find(name) {
-        Some(ty) => match table.bounds(alloc, ty, bits) {
-            Ok(bounds) => answer(put_bounds(out, bounds.steps, bounds.slots)),
-            Err(_) => Outcome::Failed(Failure::Memory),
-        },
-        None => Outcome::NoSuchType,
+    match table.bounds(alloc, id, bits) {
+        Ok(bounds) => answer(put_bounds(out, bounds.steps, bounds.slots)),
+        Err(_) => Outcome::Failed(Failure::Memory),
     }
 }
 
@@ -158,28 +156,23 @@ pub fn map_outcome<S: Space, O: Write>(
         (O.contents out.old) (O.contents out.new) }
     ensures keeps { Keeps (S.view space.old) (S.view space.new) }
 {
-    let table = match accept(alloc, pickle) {
-        Ok(table) => table,
-        Err(refusal) => return Outcome::Refused(refusal),
+    let (table, id) = match resolve(alloc, pickle, ask.name) {
+        Ok(found) => found,
+        Err(outcome) => return outcome,
     };
-    match table.find(ask.name) {
-        Some(id) => {
-            let run = TypeRun {
-                alloc,
-                table: &table,
-                id,
-                ask,
-                terms,
-            };
-            run.map_new(space, out)
-        }
-        None => Outcome::NoSuchType,
-    }
+    let run = TypeRun {
+        alloc,
+        table: &table,
+        id,
+        ask,
+        terms,
+    };
+    run.map_new(space, out)
 }
 
 impl TypeRun<'_> {
-    /// Maps into a new store.
-    fn map_new<S: Space, O: Write>(&self, space: &mut S, out: &mut O) -> Outcome
+    /// Maps the type into a new store. Writes the printed value to `out`, if the mapping has no fault.
+    pub fn map_new<S: Space, O: Write>(&self, space: &mut S, out: &mut O) -> Outcome
         ensures ends { EndsRun self.now (S.view space.old) (S.view space.new) result
             (O.contents out.old) (O.contents out.new) }
         ensures keeps { Keeps (S.view space.old) (S.view space.new) }

@@ -6,7 +6,7 @@ use Rattle.jobs.proofs.each.run_list.Given as goal
 
 abbrev pub invariant-loop : goal.invariant-loop
 invariant-loop g l = record {
-  store : IsStoreOf l.typed.terms.now.most_slots l.kept.store;
+  store : IsStoreOf l.typed.mapping.terms.now.most_slots l.kept.store;
   written : AppendsNamed (g.P.Opener.gives l.opener) (every_of l.typed)
       (ReadsNames (reader_remaining g.L.Read.remaining l.initial.list) (reader_remaining g.L.Read.remaining l.list))
       (g.O.Write.contents l.initial.out) (g.O.Write.contents l.out) l.greatest;

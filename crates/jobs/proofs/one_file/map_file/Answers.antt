@@ -1,7 +1,6 @@
 use Rattle.std.proofs.KnownBytes.{Keeps-refl}
 use Rattle.jobs.specs.Jobs.{starts_nowhere, maps, pickle_fails, file_fails, pages_fail}
-use Rattle.jobs.proofs.Written.{adds_none, adds_where}
-use Rattle.jobs.proofs.one_file.map_file.Goals.{then-why, else-why}
+use Rattle.jobs.proofs.Written.{adds_none}
 use Rattle.std.proofs.lemmas.Result.{err_from_is_err_and}
 use Rattle.jobs.proofs.one_file.map_file.Goals as goal
 
@@ -33,14 +32,12 @@ returns-in_default-clause-ok g c = record {
 
 pub returns-clause-ok : goal.returns-clause-ok
 returns-clause-ok g c = record {
-  pickle = c.deref.result.now;
-  given = rw c.deref.ensures.value c.in_ok-pickle.ensures.ok;
+  pickle = c.in_ok-pickle.pickle.bytes.items;
+  given = c.in_ok-pickle.ensures.ok;
   file = g.P.Bytes.Space.view c.in_ok-space.space;
   opened = rw c.in_ok-space.ensures c.in_ok-bytes.ensures.ok;
-  told = g.O.Write.contents c.map_outcome-outcome.new.out;
-  ends = maps c.in-Some.ask _ (rw c.in-Some.is at c.ask_in.ensures.some) c.map_outcome-outcome.ensures.ends;
-  more = elim c.if-why.branch [
-    | then-why w ↦ adds_where _ _ _ w.if-why.true (rw w.out-is w.explain_run.ensures)
-    | else-why w ↦ rw w.out-is (adds_none _ _)
-  ];
+  told = c.map_space-outcome.ensures.told;
+  ends = maps c.in-Some.ask c.map_space-outcome.ensures.after (rw c.in-Some.is at c.ask_in.ensures.some)
+      c.map_space-outcome.ensures.ends;
+  more = c.map_space-outcome.ensures.more;
 }
