@@ -11,7 +11,7 @@ ghost use Rattle.fault_report.specs.Mapped.{EndsWith, IsKnown, mapped_type};
 ghost use Rattle.fault_report.specs.Meant.{HasValue};
 
 use crate::cause::Fault;
-use crate::endings::Endings;
+use crate::endings::EarlyEndings;
 use crate::mapping::TypeMapping;
 use crate::watcher::Told;
 use bit_space::{Meter, Space};
@@ -25,10 +25,7 @@ use std::alloc::AllocError;
 pub struct Kept {
     /// The part with the fault that ended the mapping, if it is known.
     pub fault: Option<Fault>,
-    /// The arrays that ended inside an element.
-    pub broken: Endings,
-    /// The arrays whose next element begins otherwise.
-    pub planned: Endings,
+    pub ended: EarlyEndings,
 }
 
 /// How a mapping ended, and what the watcher stored of it.
@@ -73,22 +70,14 @@ impl TypeMapping<'_> {
         let end = map_watched(
             table, id, ask.order, ask.start, space, &mut meter, store, &mut told,
         );
-        let Kept {
-            fault,
-            broken,
-            planned,
-        } = told.into_kept()?;
+        let Kept { fault, ended } = told.into_kept()?;
         let fault = match &end {
             Ok(()) => None,
             Err(stopped) => self.part_with(look, *stopped, fault, space, store)?,
         };
         Ok(Again {
             end,
-            kept: Kept {
-                fault,
-                broken,
-                planned,
-            },
+            kept: Kept { fault, ended },
         })
     }
 }

@@ -82,11 +82,7 @@ impl<'t> Approach<'t> {
         if starved {
             return Err(AllocError);
         }
-        let Kept {
-            fault,
-            broken: _,
-            planned: _,
-        } = told.into_kept()?;
+        let Kept { fault, ended: _ } = told.into_kept()?;
         let cause = match fault {
             Some(fault) => Some(fault.into_cause()),
             None => None,

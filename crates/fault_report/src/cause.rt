@@ -8,6 +8,7 @@ use pickle_map::MapFault;
 use pickle_map::extent::Extent;
 use pickle_map::mapper::stop::Stop;
 use pickle_map::mapper::watch::Clause;
+use pickle_types::view::Node;
 use std::alloc::Global;
 
 /// A part that stopped a mapping, that ended an array, or that made an alternative fail to match.
@@ -42,6 +43,19 @@ impl Fault {
             around: _,
         } = self;
         cause
+    }
+
+    /// Whether the fault is in the first number of the part to which the first `count` steps lead: that doesn't match.
+    /// If no alternative of a union fits, all of them stop at their first number.
+    pub fn is_at_first_number(&self, nodes: &[Node], count: usize) -> bool {
+        let is_first = self.stop.misses() && self.way.is_first(nodes, count);
+        match &self.cause {
+            Cause::NoneFits(misses) => {
+                let mut told = misses.told.iter();
+                is_first && told.all(|miss| miss.way.is_first(nodes, count))
+            }
+            _ => is_first,
+        }
     }
 
     /// The lines on what the mapping had met before the part.
@@ -169,8 +183,6 @@ pub struct Miss {
 /// An array without a bound that a fault of an element ended.
 #[derive(Drop)]
 pub struct EndedArray {
-    /// Its number, counted from 0.
-    pub number: usize,
     /// The path to the array.
     pub array: Way,
     /// How many elements it has.

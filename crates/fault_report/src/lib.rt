@@ -31,6 +31,7 @@ mod lines;
 pub mod mapping;
 mod members;
 mod met;
+mod mismatches;
 mod missing;
 mod names;
 mod other;
@@ -170,11 +171,7 @@ fn met_of(alloc: Global, kept: Kept, text: &[u8]) -> Vec<u8> {
     if text.is_empty() {
         return Vec::new(alloc);
     }
-    let Kept {
-        fault,
-        broken: _,
-        planned: _,
-    } = kept;
+    let Kept { fault, ended: _ } = kept;
     match fault {
         Some(fault) => fault.into_met(),
         None => Vec::new(alloc),

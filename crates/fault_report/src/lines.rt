@@ -386,11 +386,11 @@ pub fn arrays_text(scene: &Scene<'_, '_>, kept: &Kept, is_faulty: bool) -> Resul
     requires root { scene.now.root < length scene.now.nodes.now }
     ensures arrays { IfOk result (λ text. TellsArrays (scene_type scene.now) text.bytes.items) }
 {
-    let text = say_endings(scene, Text::new(scene.alloc), &kept.broken)?;
+    let text = say_endings(scene, Text::new(scene.alloc), &kept.ended.broken)?;
     let text = if is_faulty {
-        say_endings(scene, text, &kept.planned)?
+        say_endings(scene, text, &kept.ended.planned)?
     } else {
-        say_planned(scene, text, kept.planned.count)?
+        say_planned(scene, text, kept.ended.planned.count)?
     };
     Ok(text)
 }

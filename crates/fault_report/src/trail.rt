@@ -1,6 +1,10 @@
 //! The arrays, structs and unions that a walk is in, the outermost first.
 
-use crate::way::{Way, WayStep};
+use crate::endings::Counts;
+use crate::way::{Way, WayStep, is_array};
+use pickle_map::extent::Extent;
+use pickle_map::mapper::stop::Stop;
+use pickle_types::view::{Extent as Bound, Node, Shape};
 use std::alloc::{AllocError, Global};
 
 /// An array, struct, union or integral struct that the walk is in.
@@ -12,25 +16,6 @@ pub struct Level {
     pub begun: usize,
     /// How many arrays had ended early when that part began.
     pub ended: Counts,
-}
-
-/// How many arrays have ended early.
-#[derive(Clone, Copy)]
-pub struct Counts {
-    /// Those that ended inside an element.
-    pub broken: usize,
-    /// Those whose next element begins otherwise.
-    pub planned: usize,
-}
-
-impl Counts {
-    /// No arrays.
-    pub fn none() -> Counts {
-        Counts {
-            broken: 0,
-            planned: 0,
-        }
-    }
 }
 
 /// The levels that a walk is in, the outermost first.
@@ -58,9 +43,18 @@ impl Trail {
         self.levels.get(from_outermost).copied()
     }
 
-    /// The levels, the outermost first.
-    pub fn levels(&self) -> &[Level] {
-        self.levels.as_slice()
+    /// Whether a level after the first `depth` is an array.
+    pub fn has_array_after(&self, nodes: &[Node], depth: usize) -> bool {
+        let mut inner = self.levels.iter().skip(depth);
+        inner.any(|level| is_array(nodes, level.node))
+    }
+
+    /// Whether a stop of the part that is under way only means that an alternative doesn't match, or that an array ends,
+    /// of a union or array that the walk is in.
+    pub fn catches(&self, table: &[Node], stop: Stop) -> bool {
+        self.levels
+            .iter()
+            .any(|level| catches(table, level.node, stop))
     }
 
     /// Goes into the node at a place of the table.
@@ -122,4 +116,16 @@ fn way_along(alloc: Global, levels: &[Level]) -> Result<Way, AllocError> {
         }
     }
     Ok(way)
+}
+
+/// Whether the node at a place of the table goes on after one of its parts that stops in this way.
+fn catches(table: &[Node], at: usize, stop: Stop) -> bool {
+    match table.get(at) {
+        Some(node) => match &node.shape {
+            Shape::Union { .. } => stop.misses(),
+            Shape::Array(_, Bound::Unbounded) => stop.ends(Extent::Open),
+            _ => false,
+        },
+        None => false,
+    }
 }
