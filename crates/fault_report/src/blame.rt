@@ -1,22 +1,23 @@
-//! What is wrong with an expression that stops a mapping.
+//! Finds what is wrong with an expression that stops a mapping.
 
 ghost use Rattle.pickle_types.specs.Sound.{IsSoundTerm};
 ghost use Rattle.pickle_types.specs.Table.{term_of};
 
-use crate::cause::{Blamed, Lead, Said};
-use crate::flat::{Base, say_known, say_number};
+use crate::cause::{Blamed, Lead};
+use crate::defect::{AbsentElement, Defect, WideShift};
 use crate::names::named_values;
 use crate::seen::Seen;
+use crate::value::StoredValue;
 use crate::way::Way;
 use pickle_map::MapFaultKind;
 use pickle_map::known::Known;
 use pickle_map::mapper::stop::Stop;
 use pickle_map::mapper::watch::Clause;
-use pickle_source::text::Text;
 use pickle_types::view::Resolved;
 use std::alloc::AllocError;
 
-/// What is wrong with an expression that stops a mapping. `None` if the run stops the mapping, as a limit does.
+/// What is wrong with an expression that stops a mapping, and the values of its names. `None` if the run stops the
+/// mapping, as a limit does.
 pub fn blame_of(
     seen: Seen<'_>,
     clause: Clause,
@@ -30,19 +31,9 @@ pub fn blame_of(
     };
     Ok(Some(Blamed {
         clause,
-        decimal: fault_texts(seen.in_base(Base::Ten), e, kind)?,
-        hexadecimal: fault_texts(seen.in_base(Base::Sixteen), e, kind)?,
-    }))
-}
-
-/// What is wrong with an expression, and the values of its names.
-fn fault_texts(seen: Seen<'_>, e: &Resolved, kind: MapFaultKind) -> Result<Said, AllocError>
-    requires { IsSoundTerm (term_of e.now) }
-{
-    Ok(Said {
-        wrong: wrong(seen, e, kind)?.into_bytes(),
+        defect: defect_of(seen, e, kind)?,
         names: named_values(seen, e)?,
-    })
+    }))
 }
 
 /// A bound or a label on the path to a part, with its value. `None` if it has no value, or no names that have any.
@@ -55,8 +46,11 @@ pub fn lead(
 ) -> Result<Option<Lead>, AllocError>
     requires { IsSoundTerm (term_of e.now) }
 {
-    let decimal = value_texts(seen.in_base(Base::Ten), e)?;
-    if decimal.names.is_empty() || seen.known(e).is_none() {
+    let names = named_values(seen, e)?;
+    let Some(known) = seen.known(e) else {
+        return Ok(None);
+    };
+    if names.is_empty() {
         return Ok(None);
     }
     Ok(Some(Lead {
@@ -64,45 +58,34 @@ pub fn lead(
         start,
         value: Blamed {
             clause,
-            decimal,
-            hexadecimal: value_texts(seen.in_base(Base::Sixteen), e)?,
+            defect: Defect::Value(StoredValue::of_expression(seen.alloc, known)?),
+            names,
         },
     }))
 }
 
-/// The value of an expression, and those of its names.
-fn value_texts(seen: Seen<'_>, e: &Resolved) -> Result<Said, AllocError>
+/// What is wrong with an expression that has a fault.
+fn defect_of(seen: Seen<'_>, e: &Resolved, kind: MapFaultKind) -> Result<Defect, AllocError>
     requires { IsSoundTerm (term_of e.now) }
 {
-    Ok(Said {
-        wrong: say_value(seen, Text::new(seen.alloc), e)?.into_bytes(),
-        names: named_values(seen, e)?,
-    })
-}
-
-/// What is wrong with an expression, such as `is 0`.
-fn wrong(seen: Seen<'_>, e: &Resolved, kind: MapFaultKind) -> Result<Text, AllocError>
-    requires { IsSoundTerm (term_of e.now) }
-{
-    let text = Text::new(seen.alloc);
     match kind {
-        MapFaultKind::Constraint => text.say(b"is 0"),
-        MapFaultKind::Bounds => say_value(seen, text, e),
-        MapFaultKind::Zero => text.say(b"divides by zero"),
-        MapFaultKind::Overflow => text.say(b"overflows"),
-        MapFaultKind::Absent => say_absent(seen, text, culprit(seen, e)),
-        MapFaultKind::Index => say_index(seen, text, culprit(seen, e)),
-        _ => text.say(b"has no value"),
+        MapFaultKind::Constraint => Ok(Defect::Unmet),
+        MapFaultKind::Bounds => value_of(seen, e),
+        MapFaultKind::Zero => Ok(Defect::DividesByZero),
+        MapFaultKind::Overflow => Ok(Defect::Overflows),
+        MapFaultKind::Absent => absent_part(seen, culprit(seen, e)),
+        MapFaultKind::Index => absent_index(seen, culprit(seen, e)),
+        _ => Ok(Defect::Valueless),
     }
 }
 
-/// Adds the value of an expression, which isn't allowed.
-fn say_value(seen: Seen<'_>, text: Text, e: &Resolved) -> Result<Text, AllocError>
+/// The value of an expression, which isn't allowed.
+fn value_of(seen: Seen<'_>, e: &Resolved) -> Result<Defect, AllocError>
     requires { IsSoundTerm (term_of e.now) }
 {
     match seen.known(e) {
-        Some(known) => say_known(seen.alloc, text.say(b"is ")?, known, seen.base),
-        None => text.say(b"has no value"),
+        Some(known) => Ok(Defect::Value(StoredValue::of_expression(seen.alloc, known)?)),
+        None => Ok(Defect::Valueless),
     }
 }
 
@@ -150,71 +133,60 @@ fn is_faulty<'a>(seen: Seen<'a>, e: &'a Resolved) -> bool
     seen.known(e).is_none()
 }
 
-/// Adds that a part isn't there.
-fn say_absent(seen: Seen<'_>, text: Text, e: &Resolved) -> Result<Text, AllocError>
+/// A part that an expression asks for and that isn't there.
+fn absent_part(seen: Seen<'_>, e: &Resolved) -> Result<Defect, AllocError>
     requires { IsSoundTerm (term_of e.now) }
 {
-    let text = text.say(b"asks for ")?;
+    Ok(Defect::AbsentPart(path_of(seen, e)?))
+}
+
+/// The path that an expression is, as it is printed. `None` for any other expression.
+fn path_of(seen: Seen<'_>, e: &Resolved) -> Result<Option<Vec<u8>>, AllocError>
+    requires { IsSoundTerm (term_of e.now) }
+{
     match seen.expression_path(e)? {
-        Some(called) => text
-            .quote(called.text.into_bytes().as_slice())?
-            .say(b", which isn't there"),
-        None => text.say(b"what isn't there"),
+        Some(called) => Ok(Some(called.text.into_bytes())),
+        None => Ok(None),
     }
 }
 
-/// Adds that an array has no such element, or that an operand has fewer bits than it is shifted by.
-fn say_index(seen: Seen<'_>, text: Text, e: &Resolved) -> Result<Text, AllocError>
+/// An element that an array doesn't have, or an operand that has fewer bits than it is shifted by.
+fn absent_index(seen: Seen<'_>, e: &Resolved) -> Result<Defect, AllocError>
     requires { IsSoundTerm (term_of e.now) }
 {
     match e {
-        Resolved::Index(of, i) => say_element(seen, text, of, i),
-        Resolved::Infix(_, a, b) => say_shift(seen, text, a, b),
-        _ => text.say(b"asks for what isn't there"),
+        Resolved::Index(of, i) => absent_element(seen, of, i),
+        Resolved::Infix(_, a, b) => Ok(Defect::WideShift(wide_shift(seen, a, b))),
+        _ => Ok(Defect::AbsentPart(None)),
     }
 }
 
-fn say_element(seen: Seen<'_>, text: Text, of: &Resolved, i: &Resolved) -> Result<Text, AllocError>
+fn absent_element(seen: Seen<'_>, of: &Resolved, i: &Resolved) -> Result<Defect, AllocError>
     requires array { IsSoundTerm (term_of of.now) }
     requires index { IsSoundTerm (term_of i.now) }
 {
-    let text = text.say(b"asks for element ")?;
-    let text = match seen.number(i) {
-        Some(number) => say_number(text, number)?,
-        None => text,
+    let count = match seen.known(of) {
+        Some(Known::Value(array)) => Some(array.len()),
+        _ => None,
     };
-    let text = match seen.expression_path(of)? {
-        Some(called) => text
-            .say(b" of ")?
-            .quote(called.text.into_bytes().as_slice())?,
-        None => text,
-    };
-    match seen.known(of) {
-        Some(Known::Value(array)) => text.say(b", which has ")?.say_number(array.len()),
-        _ => Ok(text),
-    }
+    Ok(Defect::AbsentElement(AbsentElement {
+        place: seen.number(i),
+        array: path_of(seen, of)?,
+        count,
+    }))
 }
 
-fn say_shift(seen: Seen<'_>, text: Text, a: &Resolved, b: &Resolved) -> Result<Text, AllocError>
+fn wide_shift(seen: Seen<'_>, a: &Resolved, b: &Resolved) -> WideShift
     requires left { IsSoundTerm (term_of a.now) }
     requires right { IsSoundTerm (term_of b.now) }
 {
-    let text = match seen.known(a) {
-        Some(Known::Integer(_, of)) => say_bits(text.say(b"shifts ")?, of.width)?,
-        Some(Known::Value(value)) => say_bits(text.say(b"shifts ")?, value.width())?,
-        _ => text.say(b"shifts")?,
+    let width = match seen.known(a) {
+        Some(Known::Integer(_, of)) => Some(of.width),
+        Some(Known::Value(value)) => Some(value.width()),
+        _ => None,
     };
-    match seen.number(b) {
-        Some(number) => say_number(text.say(b" by ")?, number),
-        None => Ok(text),
-    }
-}
-
-fn say_bits(text: Text, count: u8) -> Result<Text, AllocError> {
-    let text = text.say_number(usize::from(count))?;
-    if count == 1 {
-        text.say(b" bit")
-    } else {
-        text.say(b" bits")
+    WideShift {
+        width,
+        by: seen.number(b),
     }
 }

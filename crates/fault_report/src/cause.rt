@@ -2,6 +2,8 @@
 
 ghost use Rattle.std.specs.Prelude.{◌≡◌};
 
+use crate::defect::Defect;
+use crate::names::NamedValue;
 use crate::way::Way;
 use bit_space::Order;
 use pickle_map::MapFault;
@@ -81,8 +83,8 @@ impl Fault {
 pub struct Around {
     /// The last bounds and labels on the path to the part, the outermost first.
     pub leads: Vec<Lead>,
-    /// The last fields before the part, each with its value, such as `n=2UB`.
-    pub front: Vec<Vec<u8>>,
+    /// The last fields before the part, each with its value.
+    pub front: Vec<NamedValue>,
     /// The byte order in which the part's constraint would hold, if that is the other one.
     pub fits: Option<Order>,
     /// The lines on what the mapping had met before the part. Empty unless they are requested.
@@ -141,18 +143,10 @@ pub enum Cause {
 #[derive(Drop)]
 pub struct Blamed {
     pub clause: Clause,
-    /// What is printed of it in base ten, and in base sixteen.
-    pub decimal: Said,
-    pub hexadecimal: Said,
-}
-
-/// What is printed of an expression.
-#[derive(Drop)]
-pub struct Said {
-    /// What is wrong with it, such as `is 0`.
-    pub wrong: Vec<u8>,
-    /// The names in it that have values, each with its value, such as `n=2UB`.
-    pub names: Vec<Vec<u8>>,
+    /// What is wrong with it.
+    pub defect: Defect,
+    /// The names in it that have values.
+    pub names: Vec<NamedValue>,
 }
 
 /// The alternatives of a union that didn't match.

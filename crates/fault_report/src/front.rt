@@ -1,9 +1,9 @@
 //! The fields before a part, with their values.
 
-use crate::flat::say_value;
+use crate::names::NamedValue;
+use crate::value::StoredValue;
 use crate::way::WayStep;
 use pickle_map::{Store, ValueRef};
-use pickle_source::text::Text;
 use pickle_types::view::{Field, Name, Node, Part, Shape};
 use std::alloc::{AllocError, Global};
 
@@ -18,15 +18,15 @@ struct Frames<'a> {
     store: &'a Store,
 }
 
-/// The last named fields before a part, of the structs that it is in, each with its value, such as `n=2UB`. Steps
-/// lead to the part, and the store has a frame for each of them. `inner` frames more are open in the part itself.
+/// The last named fields before a part, of the structs that it is in, each with its value. Steps lead to the part, and
+/// the store has a frame for each of them. `inner` frames more are open in the part itself.
 pub fn front(
     alloc: Global,
     nodes: &[Node],
     store: &Store,
     steps: &[WayStep],
     inner: usize,
-) -> Result<Vec<Vec<u8>>, AllocError> {
+) -> Result<Vec<NamedValue>, AllocError> {
     let frames = Frames {
         alloc,
         nodes,
@@ -50,7 +50,7 @@ impl Frames<'_> {
         shape: &Shape,
         level: usize,
         count: usize,
-        told: &mut Vec<Vec<u8>>,
+        told: &mut Vec<NamedValue>,
     ) -> Result<(), AllocError> {
         match shape {
             Shape::Struct { fields, .. } => self.add_fields(fields, level, count, told),
@@ -64,7 +64,7 @@ impl Frames<'_> {
         fields: &[Field],
         level: usize,
         count: usize,
-        told: &mut Vec<Vec<u8>>,
+        told: &mut Vec<NamedValue>,
     ) -> Result<(), AllocError> {
         for (place, field) in fields.iter().enumerate().take(count) {
             self.add_field(&field.name, level, place, told)?;
@@ -77,7 +77,7 @@ impl Frames<'_> {
         parts: &[Part],
         level: usize,
         count: usize,
-        told: &mut Vec<Vec<u8>>,
+        told: &mut Vec<NamedValue>,
     ) -> Result<(), AllocError> {
         for (place, part) in parts.iter().enumerate().take(count) {
             self.add_field(&part.name, level, place, told)?;
@@ -91,17 +91,17 @@ impl Frames<'_> {
         name: &Option<Name>,
         level: usize,
         place: usize,
-        told: &mut Vec<Vec<u8>>,
+        told: &mut Vec<NamedValue>,
     ) -> Result<(), AllocError> {
         let (Some(name), Some(stored)) = (name, self.store.part(level, place)) else {
             return Ok(());
         };
-        let text = Text::new(self.alloc).say(name.as_slice())?.say(b"=")?;
-        let text = say_value(self.alloc, text, ValueRef::new(stored, self.nodes))?;
+        let value = StoredValue::of_mapped(self.alloc, ValueRef::new(stored, self.nodes))?;
+        let name = Vec::from_slice(self.alloc, name.as_slice())?;
         if MOST_FIELDS <= told.len() {
             let _first = told.remove(0);
         }
-        told.push(text.into_bytes())?;
+        told.push(NamedValue { name, value })?;
         Ok(())
     }
 }

@@ -6,13 +6,15 @@ ghost use Rattle.fault_report.specs.Found.{scene_type, way_places};
 ghost use Rattle.fault_report.specs.Why.{ShowsPart, TellsArray, TellsArrays, planned_ending};
 
 use crate::again::Kept;
-use crate::cause::{Blamed, Cause, EndedArray, Fault, Lead, Miss, Misses, Said};
+use crate::cause::{Blamed, Cause, EndedArray, Fault, Lead, Miss, Misses};
 use crate::endings::Endings;
+use crate::lengths::{say_bits, say_left, say_length, say_room};
+use crate::names::NamedValue;
 use crate::place::say_bit;
 use crate::scene::{Scene, purpose_of};
+use crate::value::Base;
 use crate::way::{FoundPart, Way};
 use bit_space::Order;
-use itoa::Buffer;
 use pickle_map::MapFaultKind;
 use pickle_map::extent::Extent;
 use pickle_map::mapper::stop::Stop;
@@ -118,7 +120,7 @@ fn say_blamed(
 ) -> Result<Text, AllocError> {
     let text = text.say(b"  the ")?.say(word_of(blamed.clause))?;
     let text = scene.say_clause(text, way, purpose_of(blamed.clause))?;
-    say_said(text.say(b" ")?, scene.texts_of(blamed, way)?)?.say(b"\n")
+    scene.say_blamed(text.say(b" ")?, blamed, way)?.say(b"\n")
 }
 
 /// What a clause is called.
@@ -130,11 +132,6 @@ fn word_of(clause: Clause) -> &'static [u8] {
         Clause::Count => b"count",
         Clause::Size => b"size",
     }
-}
-
-/// Adds what is wrong with an expression, and the values of its names, to the text.
-fn say_said(text: Text, said: &Said) -> Result<Text, AllocError> {
-    say_names(text.say(said.wrong.as_slice())?, said.names.as_slice())
 }
 
 /// Adds to the text the lines on the bounds and labels on the path to a part, the innermost first.
@@ -161,7 +158,7 @@ fn say_lead(scene: &Scene<'_, '_>, text: Text, lead: &Lead) -> Result<Text, Allo
     let text = text.say(b"  the ")?.say(word_of(clause))?;
     let text = scene.say_clause(text, &lead.way, purpose_of(clause))?;
     let text = text.say(b" of ")?.say(found.path.as_slice())?.say(b" ")?;
-    let text = say_said(text, scene.texts_of(&lead.value, &lead.way)?)?;
+    let text = scene.say_blamed(text, &lead.value, &lead.way)?;
     let text = match clause {
         Clause::Label => say_bit(scene.alloc, text.say(b", counted from ")?, lead.start)?,
         Clause::Constraint | Clause::Condition | Clause::Count | Clause::Size => text,
@@ -170,30 +167,17 @@ fn say_lead(scene: &Scene<'_, '_>, text: Text, lead: &Lead) -> Result<Text, Allo
     say_room(text.say(b", and ")?, left)?.say(b"\n")
 }
 
-/// Adds to the text how many bytes remain, or how many bits if the last of them isn't a whole byte.
-pub fn say_room(text: Text, bits: u128) -> Result<Text, AllocError> {
-    if bits & 7 != 0 {
-        let are: &[u8] = if bits == 1 { b" is left" } else { b" are left" };
-        return say_bits(text, bits)?.say(are);
-    }
-    match bits >> 3 {
-        0 => text.say(b"no byte is left"),
-        1 => text.say(b"1 byte is left"),
-        bytes => say_count(text, bytes)?.say(b" bytes are left"),
-    }
-}
-
 /// Adds to the text a line on the fields before a part, except those that are in it already.
 fn say_front(scene: &Scene<'_, '_>, text: Text, fault: &Fault) -> Result<Text, AllocError> {
     let mut line = Text::new(scene.alloc);
-    for name in fault.around.front.as_slice() {
-        if !is_said(fault, name.as_slice()) {
+    for field in fault.around.front.as_slice() {
+        if !is_said(fault, field) {
             let link: &[u8] = if line.len() == 0 {
                 b"  before it: "
             } else {
                 b", "
             };
-            line = line.say(link)?.say(name.as_slice())?;
+            line = field.say(scene.alloc, line.say(link)?, Base::Ten)?;
         }
     }
     if line.len() == 0 {
@@ -202,10 +186,10 @@ fn say_front(scene: &Scene<'_, '_>, text: Text, fault: &Fault) -> Result<Text, A
     text.say(line.into_bytes().as_slice())?.say(b"\n")
 }
 
-/// Whether a name with its value is in what is printed of the expressions.
-fn is_said(fault: &Fault, name: &[u8]) -> bool {
+/// Whether a field with its value is in what is printed of the expressions.
+fn is_said(fault: &Fault, field: &NamedValue) -> bool {
     let is_blamed = match &fault.cause {
-        Cause::Expression(blamed) => has_name(blamed, name),
+        Cause::Expression(blamed) => has_name(blamed, field),
         _ => false,
     };
     is_blamed
@@ -213,11 +197,11 @@ fn is_said(fault: &Fault, name: &[u8]) -> bool {
             .around
             .leads
             .iter()
-            .any(|lead| has_name(&lead.value, name))
+            .any(|lead| has_name(&lead.value, field))
 }
 
-fn has_name(blamed: &Blamed, name: &[u8]) -> bool {
-    blamed.decimal.names.iter().any(|it| it.as_slice() == name)
+fn has_name(blamed: &Blamed, field: &NamedValue) -> bool {
+    blamed.names.iter().any(|name| name.is(field))
 }
 
 /// Adds a line to the text that says in which byte order the file fits.
@@ -227,22 +211,6 @@ fn say_order(text: Text, fits: Option<Order>) -> Result<Text, AllocError> {
         Some(Order::Big) => text.say(b"  fits in big-endian: --endian big\n"),
         Some(Order::Little) => text.say(b"  fits in little-endian: --endian little\n"),
     }
-}
-
-/// Adds names with their values to the text.
-fn say_names(text: Text, names: &[Vec<u8>]) -> Result<Text, AllocError> {
-    let mut text = text;
-    for (place, name) in names.iter().enumerate() {
-        let link: &[u8] = if place == 0 {
-            b", with "
-        } else if place.saturating_add(1) == names.len() {
-            b" and "
-        } else {
-            b", "
-        };
-        text = text.say(link)?.say(name.as_slice())?;
-    }
-    Ok(text)
 }
 
 /// Adds a line on an array whose elements end after its size to the text.
@@ -287,40 +255,6 @@ fn say_end(
         Shape::String => text.say(b"  no byte 0 before the end\n"),
         Shape::Array(_, _) | Shape::Struct { .. } | Shape::Union { .. } => Ok(text),
     }
-}
-
-/// Adds to the text how many bits remain.
-fn say_left(text: Text, count: u128) -> Result<Text, AllocError> {
-    match count {
-        0 => text.say(b", and none is left\n"),
-        1 => text.say(b", and 1 is left\n"),
-        _ => say_count(text.say(b", and ")?, count)?.say(b" are left\n"),
-    }
-}
-
-/// Adds a number of bits to the text, as bytes if it is one of whole bytes.
-fn say_length(text: Text, bits: u128) -> Result<Text, AllocError> {
-    if bits & 7 != 0 {
-        return say_bits(text, bits);
-    }
-    match bits >> 3 {
-        1 => text.say(b"1 byte"),
-        bytes => say_count(text, bytes)?.say(b" bytes"),
-    }
-}
-
-fn say_bits(text: Text, count: u128) -> Result<Text, AllocError> {
-    let text = say_count(text, count)?;
-    if count == 1 {
-        text.say(b" bit")
-    } else {
-        text.say(b" bits")
-    }
-}
-
-fn say_count(text: Text, count: u128) -> Result<Text, AllocError> {
-    let mut digits = Buffer::new();
-    text.say(digits.format(count).as_bytes())
 }
 
 /// Adds the lines on the alternatives of a union to the text.
@@ -376,7 +310,7 @@ fn say_unmet(
     blamed: &Blamed,
 ) -> Result<Text, AllocError> {
     let text = scene.say_clause(text.say(b":")?, way, purpose_of(blamed.clause))?;
-    say_said(text.say(b" ")?, scene.texts_of(blamed, way)?)
+    scene.say_blamed(text.say(b" ")?, blamed, way)
 }
 
 /// The lines on the arrays that ended early. Those whose next element begins otherwise come after those that ended

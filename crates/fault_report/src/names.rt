@@ -1,18 +1,43 @@
-//! The names in an expression that have values, each with its value.
+//! Names with their values.
 
 ghost use Rattle.pickle_types.specs.Sound.{IsSoundTerm};
 ghost use Rattle.pickle_types.specs.Table.{term_of};
 
-use crate::flat::say_known;
 use crate::seen::Seen;
+use crate::value::{Base, StoredValue};
+use pickle_source::text::Text;
 use pickle_types::view::Resolved;
-use std::alloc::AllocError;
+use std::alloc::{AllocError, Global};
 
 /// The most names of an expression that are printed.
 const MOST_NAMES: usize = 16;
 
-/// The first names in an expression that have values, each with its value, such as `n=2UB`, and no name twice.
-pub fn named_values(seen: Seen<'_>, e: &Resolved) -> Result<Vec<Vec<u8>>, AllocError>
+/// A name, or a path from one, with its value.
+#[derive(Drop)]
+pub struct NamedValue {
+    pub name: Vec<u8>,
+    pub value: StoredValue,
+}
+
+impl NamedValue {
+    /// Whether another name and its value are printed alike.
+    pub fn is(&self, other: &NamedValue) -> bool {
+        self.has_name(other.name.as_slice()) && self.value.is(&other.value)
+    }
+
+    fn has_name(&self, name: &[u8]) -> bool {
+        self.name.as_slice() == name
+    }
+
+    /// Adds the name and its value to the text, such as `n=2UB`, with numbers in a base.
+    pub fn say(&self, alloc: Global, text: Text, base: Base) -> Result<Text, AllocError> {
+        let text = text.say(self.name.as_slice())?.say(b"=")?;
+        self.value.say(alloc, text, base)
+    }
+}
+
+/// The first names in an expression that have values, and no name twice.
+pub fn named_values(seen: Seen<'_>, e: &Resolved) -> Result<Vec<NamedValue>, AllocError>
     requires { IsSoundTerm (term_of e.now) }
 {
     let mut names = Vec::new(seen.alloc);
@@ -22,7 +47,11 @@ pub fn named_values(seen: Seen<'_>, e: &Resolved) -> Result<Vec<Vec<u8>>, AllocE
 
 /// Gathers the names of an expression. A path with a value is gathered instead of the name that it begins with.
 #[cycle(gather)]
-fn gather<'a>(seen: Seen<'a>, e: &'a Resolved, names: &mut Vec<Vec<u8>>) -> Result<(), AllocError>
+fn gather<'a>(
+    seen: Seen<'a>,
+    e: &'a Resolved,
+    names: &mut Vec<NamedValue>,
+) -> Result<(), AllocError>
     requires { IsSoundTerm (term_of e.now) }
 {
     match e {
@@ -42,18 +71,18 @@ fn gather<'a>(seen: Seen<'a>, e: &'a Resolved, names: &mut Vec<Vec<u8>>) -> Resu
             gather(seen, y, names)
         }
         Resolved::Name(_, _) => {
-            let _told = tell(seen, e, names)?;
+            let _has_value = add(seen, e, names)?;
             Ok(())
         }
         Resolved::Select(of, _) | Resolved::Attribute(_, of) => {
-            if tell(seen, e, names)? {
+            if add(seen, e, names)? {
                 gather_indices(seen, of, names)
             } else {
                 gather(seen, of, names)
             }
         }
         Resolved::Index(of, i) => {
-            if tell(seen, e, names)? {
+            if add(seen, e, names)? {
                 gather_indices(seen, of, names)?;
             } else {
                 gather(seen, of, names)?;
@@ -68,7 +97,7 @@ fn gather<'a>(seen: Seen<'a>, e: &'a Resolved, names: &mut Vec<Vec<u8>>) -> Resu
 fn gather_indices<'a>(
     seen: Seen<'a>,
     e: &'a Resolved,
-    names: &mut Vec<Vec<u8>>,
+    names: &mut Vec<NamedValue>,
 ) -> Result<(), AllocError>
     requires { IsSoundTerm (term_of e.now) }
 {
@@ -83,7 +112,7 @@ fn gather_indices<'a>(
 }
 
 /// Adds a path and its value to the names, if it has a value. Returns whether it has one.
-fn tell<'a>(seen: Seen<'a>, e: &'a Resolved, names: &mut Vec<Vec<u8>>) -> Result<bool, AllocError>
+fn add<'a>(seen: Seen<'a>, e: &'a Resolved, names: &mut Vec<NamedValue>) -> Result<bool, AllocError>
     requires { IsSoundTerm (term_of e.now) }
 {
     let Some(known) = seen.known(e) else {
@@ -92,14 +121,35 @@ fn tell<'a>(seen: Seen<'a>, e: &'a Resolved, names: &mut Vec<Vec<u8>>) -> Result
     let Some(called) = seen.expression_path(e)? else {
         return Ok(false);
     };
-    let text = say_known(seen.alloc, called.text.say(b"=")?, known, seen.base)?.into_bytes();
-    let is_new = names.len() < MOST_NAMES && !has(names, &text);
-    if is_new {
-        names.push(text)?;
+    let name = called.text.into_bytes();
+    if names.len() < MOST_NAMES && !has_name(names, name.as_slice()) {
+        let value = StoredValue::of_expression(seen.alloc, known)?;
+        names.push(NamedValue { name, value })?;
     }
     Ok(true)
 }
 
-fn has(names: &Vec<Vec<u8>>, text: &Vec<u8>) -> bool {
-    names.iter().any(|name| name.as_slice() == text.as_slice())
+fn has_name(names: &[NamedValue], name: &[u8]) -> bool {
+    names.iter().any(|named| named.has_name(name))
+}
+
+/// Adds names with their values to the text.
+pub fn say_names(
+    alloc: Global,
+    text: Text,
+    names: &[NamedValue],
+    base: Base,
+) -> Result<Text, AllocError> {
+    let mut text = text;
+    for (place, name) in names.iter().enumerate() {
+        let link: &[u8] = if place == 0 {
+            b", with "
+        } else if place.saturating_add(1) == names.len() {
+            b" and "
+        } else {
+            b", "
+        };
+        text = name.say(alloc, text.say(link)?, base)?;
+    }
+    Ok(text)
 }

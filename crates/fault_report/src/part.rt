@@ -12,6 +12,7 @@ use crate::approach::{Approach, Approached};
 use crate::cause::{Around, Cause, Fault};
 use crate::front::front;
 use crate::mapping::TypeMapping;
+use crate::names::NamedValue;
 use crate::way::Way;
 use bit_space::{Meter, Order, Space};
 use fault_location::arises::find_there;
@@ -196,7 +197,7 @@ fn front_of(
     table: &Table,
     store: &Store,
     part: &Fault,
-) -> Result<Vec<Vec<u8>>, AllocError> {
+) -> Result<Vec<NamedValue>, AllocError> {
     let inner = match &part.cause {
         Cause::Outgrown(_, _) => 1,
         _ => 0,
@@ -208,7 +209,7 @@ fn front_of(
 fn with_surroundings(
     part: Fault,
     approached: Approached,
-    front: Vec<Vec<u8>>,
+    front: Vec<NamedValue>,
     fits: Option<Order>,
     met: Vec<u8>,
 ) -> Fault

@@ -5,8 +5,10 @@ ghost use Rattle.pickle_types.specs.Table.{IsTable};
 ghost use Rattle.fault_report.specs.Found.{IsPartOf, scene_type, way_places};
 ghost use Rattle.fault_report.specs.Ways.{LacksPart};
 
-use crate::cause::{Blamed, Said};
+use crate::cause::Blamed;
+use crate::names::say_names;
 use crate::place::say_bit;
+use crate::value::Base;
 use crate::way::{FoundPart, Way};
 use pickle_map::mapper::stop::Stop;
 use pickle_map::mapper::watch::Clause;
@@ -101,16 +103,15 @@ impl<'p, 't> Scene<'p, 't> {
         say_bit(self.alloc, text.say(b" at ")?, bit)
     }
 
-    /// What is printed of an expression of a part: in base sixteen if a number in it is written so.
-    pub fn texts_of<'b>(&self, blamed: &'b Blamed, way: &Way) -> Result<&'b Said, AllocError> {
-        let Some(part) = self.clause(way, purpose_of(blamed.clause))? else {
-            return Ok(&blamed.decimal);
+    /// Adds to the text what is wrong with an expression of a part, and the values of its names: in base sixteen if a
+    /// number in the expression is written so.
+    pub fn say_blamed(&self, text: Text, blamed: &Blamed, way: &Way) -> Result<Text, AllocError> {
+        let base = match self.clause(way, purpose_of(blamed.clause))? {
+            Some(part) if is_hexadecimal(&self.script, part) => Base::Sixteen,
+            _ => Base::Ten,
         };
-        if is_hexadecimal(&self.script, part) {
-            Ok(&blamed.hexadecimal)
-        } else {
-            Ok(&blamed.decimal)
-        }
+        let text = blamed.defect.say(self.alloc, text, base)?;
+        say_names(self.alloc, text, blamed.names.as_slice(), base)
     }
 
     /// An expression of a part in the pickle. `None` if the part has no such expression.

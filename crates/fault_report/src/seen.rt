@@ -3,7 +3,6 @@
 ghost use Rattle.pickle_types.specs.Sound.{IsSoundTerm};
 ghost use Rattle.pickle_types.specs.Table.{term_of};
 
-use crate::flat::Base;
 use crate::trail::Trail;
 use crate::way::{Joint, Portion, WayStep, part_of, say_element};
 use pickle_map::Store;
@@ -18,8 +17,6 @@ use std::alloc::{AllocError, Global};
 #[derive(Clone, Copy)]
 pub struct Seen<'a> {
     pub alloc: Global,
-    /// The base in which numbers are printed.
-    pub base: Base,
     table: &'a [Node],
     store: &'a Store,
     trail: &'a Trail,
@@ -50,17 +47,11 @@ impl<'a> Seen<'a> {
         };
         Seen {
             alloc,
-            base: Base::Ten,
             table,
             store,
             trail,
             hidden,
         }
-    }
-
-    /// The same, with numbers in a base.
-    pub fn in_base(self, base: Base) -> Seen<'a> {
-        Seen { base, ..self }
     }
 
     /// The value of an expression. `None` if it has a fault.

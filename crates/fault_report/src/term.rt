@@ -4,7 +4,8 @@ ghost use Rattle.std.specs.Prelude.{◌≡◌, false, IfOk, IfSome, IfNone};
 ghost use Rattle.fault_report.specs.Why.{is_of_value, TellsTerm, TellsRoom, TellsSize, TellsOutput};
 
 use crate::absent::absent_text;
-use crate::lines::{concatenate, say_room};
+use crate::lengths::say_room;
+use crate::lines::concatenate;
 use crate::missing::missing_text;
 use pickle_map::ValueRef;
 use pickle_source::text::Text;
