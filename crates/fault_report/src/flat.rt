@@ -15,6 +15,29 @@ const MOST_SHOWN: usize = 60;
 /// How many bytes of a printed value are stored: one more than are printed, and the line feed.
 const ROOM: usize = MOST_SHOWN + 2;
 
+/// Where a byte is in a printed value.
+#[derive(Clone, Copy, PartialEq, Eq)]
+enum Scan {
+    /// Outside of the texts in quotes.
+    Outside,
+    InText,
+    /// In a text, after a backslash.
+    Escaped,
+}
+
+impl Scan {
+    /// Where the byte after this one is.
+    fn after(self, byte: u8) -> Scan {
+        match (self, byte) {
+            (Scan::Outside, b'"') => Scan::InText,
+            (Scan::InText, b'"') => Scan::Outside,
+            (Scan::InText, b'\\') => Scan::Escaped,
+            (Scan::Escaped, _) => Scan::InText,
+            _ => self,
+        }
+    }
+}
+
 /// The first bytes of a text.
 #[derive(Drop)]
 struct Front {
@@ -49,9 +72,24 @@ pub fn flat_line(alloc: Global, value: ValueRef<'_>) -> Result<Vec<u8>, AllocErr
     };
     let text = Text::new(alloc);
     let text = if MOST_SHOWN < line.len() {
-        text.say(bytes_between(line, 0, MOST_SHOWN))?.say(b"..")?
+        text.say(bytes_between(line, 0, cut_place(line)))?
+            .say(b"..")?
     } else {
         text.say(line)?
     };
     Ok(text.into_bytes())
+}
+
+/// How many bytes are printed of a line that is too long: up to the last field or element that is printed whole. A text
+/// with which the line begins is cut.
+fn cut_place(line: &[u8]) -> usize {
+    let mut place = None;
+    let mut scan = Scan::Outside;
+    for (at, byte) in line.iter().enumerate().take(MOST_SHOWN + 1) {
+        if scan == Scan::Outside && matches!(*byte, b',' | b'}' | b']') {
+            place = Some(at);
+        }
+        scan = scan.after(*byte);
+    }
+    place.unwrap_or(MOST_SHOWN)
 }
