@@ -156,7 +156,7 @@ pub fn reasons_in<S: Space>(
         return Err(AllocError);
     };
     let Again { end, kept } = mapping.again(terms.look, space, &mut store)?;
-    let scene = scene_of(mapping, pickle, 8 * space.len())?;
+    let scene = scene_of(mapping, pickle, terms, 8 * space.len())?;
     let text = match end {
         Ok(()) => {
             let types = Types::new(table);
@@ -195,6 +195,7 @@ fn root_of<'a>(store: &'a Store, table: &'a Table, types: &'a Types<'a>, id: Typ
 fn scene_of<'p, 't>(
     mapping: TypeMapping<'t>,
     pickle: Pickle<'p>,
+    terms: &Terms,
     bits: u64,
 ) -> Result<Scene<'p, 't>, AllocError>
     ensures nodes { IfOk result (λ scene. scene.nodes.now ≡ nodes_of mapping.entry.table.now) }
@@ -212,6 +213,8 @@ fn scene_of<'p, 't>(
         nodes: mapping.table.nodes(),
         root: mapping.id.node,
         bits,
+        most_steps: mapping.ask.limit,
+        most_slots: terms.most_slots,
     })
 }
 

@@ -70,6 +70,7 @@ fn about(scene: &Scene<'_, '_>, fault: &Fault, found: &FoundPart) -> Result<Text
         Stop::Limit | Stop::Device | Stop::Memory => text,
     };
     let text = say_cause(scene, text.say(b"\n")?, fault, found)?;
+    let text = say_limit(scene, text, fault.stop)?;
     let text = say_untried(scene, text, fault)?;
     let text = say_leads(scene, text, fault.around.leads.as_slice())?;
     let text = say_front(scene, text, fault)?;
@@ -109,6 +110,25 @@ fn say_untried(scene: &Scene<'_, '_>, text: Text, fault: &Fault) -> Result<Text,
         }
         Stop::Limit | Stop::Device | Stop::Memory => Ok(text),
     }
+}
+
+/// Adds a line on the limit that the mapping exceeds to the text, with the option that sets it.
+fn say_limit(scene: &Scene<'_, '_>, text: Text, stop: Stop) -> Result<Text, AllocError> {
+    match (stop, scene.most_slots) {
+        (Stop::Limit, _) => {
+            let text = text.say(b"  the steps are used up: --limit ")?;
+            say_option(text, scene.most_steps)
+        }
+        (Stop::Memory, Some(slots)) => {
+            say_option(text.say(b"  the slots are used up: --slots ")?, slots)
+        }
+        _ => Ok(text),
+    }
+}
+
+/// Adds the number of an option and the end of its line to the text.
+fn say_option(text: Text, number: u64) -> Result<Text, AllocError> {
+    text.say_number(number as usize)?.say(b"\n")
 }
 
 /// Adds a line on an expression to the text.

@@ -33,6 +33,10 @@ pub struct Scene<'p, 't> {
     pub root: usize,
     /// How many bits the file has.
     pub bits: u64,
+    /// The most steps of the mapping.
+    pub most_steps: u64,
+    /// The most slots of each kind that the mapping may fill. `None` is no limit.
+    pub most_slots: Option<u64>,
 }
 
 impl<'p, 't> Scene<'p, 't> {
