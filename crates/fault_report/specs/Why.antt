@@ -37,9 +37,11 @@ pub data ShowsPart (type : PokeType) (places : List ℕ) : List ℕ → Type 0 w
   shows_part : {text : List ℕ} → TellsPart type places text → ShowsPart type places text
   shows_none : LacksPart type places → ShowsPart type places []
 
--- a line on an array, which begins with its path; or none
+-- a line on an array, which begins with its path, or on the value itself; or none
 pub data TellsArray (type : PokeType) : List ℕ → Type 0 where
   no_array : TellsArray type []
+  tells_value : {text : List ℕ} (rest : List ℕ) → text ≡ codes "  the value" ++ (codes " ended after " ++ rest) →
+      TellsArray type text
   tells_array : {places path text : List ℕ} {part : PokeType} (rest : List ℕ) → IsWayTo type places path part
       → text ≡ codes "  " ++ (path ++ (codes " ended after " ++ rest)) → TellsArray type text
 

@@ -433,6 +433,11 @@ fn array_line(scene: &Scene<'_, '_>, ended: &EndedArray) -> Result<Text, AllocEr
         return Ok(Text::new(scene.alloc));
     };
     let about = ending(scene, ended, &found)?.into_bytes();
+    let is_value = ended.array.steps().is_empty();
+    if is_value {
+        let line = value_line(scene, about.as_slice())?;
+        return Ok(line);
+    }
     let text = concatenate(
         scene.alloc,
         b"  ",
@@ -441,6 +446,13 @@ fn array_line(scene: &Scene<'_, '_>, ended: &EndedArray) -> Result<Text, AllocEr
         about.as_slice(),
     )?;
     Ok(text)
+}
+
+/// The line on the value itself, if it is an array.
+fn value_line(scene: &Scene<'_, '_>, about: &[u8]) -> Result<Text, AllocError>
+    ensures { IfOk result (λ text. text.bytes.items ≡ codes "  the value" ++ (codes " ended after " ++ about.now)) }
+{
+    concatenate(scene.alloc, b"  the value", b"", b" ended after ", about)
 }
 
 /// What is printed of an array, after its path: how many elements it has, and the fault that ended it.
