@@ -19,8 +19,8 @@ use std::alloc::{AllocError, Global};
 /// The most bounds and labels that are printed.
 const MOST_LEADS: usize = 2;
 
-/// A watcher of the search for the part with a fault. For the fault `End` it stores the bounds and labels on the path;
-/// of a union that no alternative fits it stores the expressions that aren't met.
+/// A watcher of the search for the part with a fault. For the fault `End` it stores the bounds and labels on the path,
+/// for `Constraint` the bounds; of a union that no alternative fits it stores the expressions that aren't met.
 #[derive(Drop)]
 pub struct Approach<'t> {
     alloc: Global,
@@ -121,6 +121,15 @@ impl<'t> Approach<'t> {
     }
 }
 
+/// Whether a clause on the path to a part is printed for a fault of that part.
+fn leads_to(clause: Clause, kind: MapFaultKind) -> bool {
+    match kind {
+        MapFaultKind::End => true,
+        MapFaultKind::Constraint => matches!(clause, Clause::Count | Clause::Size),
+        _ => false,
+    }
+}
+
 impl Watch for Approach<'_> {
     fn open(&mut self, at: usize) {
         match self.steps.get(self.gone).copied() {
@@ -162,10 +171,13 @@ impl Watch for Approach<'_> {
             self.told.blame(clause, e, table, store, stop);
             return;
         }
-        let Stop::Fault(MapFaultKind::End, start) = stop else {
+        let Stop::Fault(kind, start) = stop else {
             return;
         };
-        if self.inside == 0 && self.keep_lead(clause, e, table, store, start).is_err() {
+        if self.inside == 0
+            && leads_to(clause, kind)
+            && self.keep_lead(clause, e, table, store, start).is_err()
+        {
             self.starved = true;
         }
     }

@@ -72,7 +72,7 @@ fn about(scene: &Scene<'_, '_>, fault: &Fault, found: &FoundPart) -> Result<Text
     let text = say_cause(scene, text.say(b"\n")?, fault, found)?;
     let text = say_limit(scene, text, fault.stop)?;
     let text = say_untried(scene, text, fault)?;
-    let text = say_leads(scene, text, fault.around.leads.as_slice())?;
+    let text = say_leads(scene, text, fault)?;
     let text = say_front(scene, text, fault)?;
     say_order(text, fault.around.fits)
 }
@@ -154,20 +154,21 @@ fn word_of(clause: Clause) -> &'static [u8] {
     }
 }
 
-/// Adds to the text the lines on the bounds and labels on the path to a part, the innermost first.
-fn say_leads(scene: &Scene<'_, '_>, text: Text, leads: &[Lead]) -> Result<Text, AllocError>
+/// Adds to the text the lines on the bounds and labels on the path to a part, the innermost first. If the file ends in
+/// the part, they say how much of it was left there.
+fn say_leads(scene: &Scene<'_, '_>, text: Text, fault: &Fault) -> Result<Text, AllocError>
     requires table { IsTable scene.now.nodes.now }
     requires root { scene.now.root < length scene.now.nodes.now }
 {
     let mut text = text;
-    for lead in leads.iter().rev() {
-        text = say_lead(scene, text, lead)?;
+    for lead in fault.around.leads.as_slice().iter().rev() {
+        text = say_lead(scene, text, lead, fault.stop)?;
     }
     Ok(text)
 }
 
 /// Adds the line on a bound or a label to the text.
-fn say_lead(scene: &Scene<'_, '_>, text: Text, lead: &Lead) -> Result<Text, AllocError>
+fn say_lead(scene: &Scene<'_, '_>, text: Text, lead: &Lead, stop: Stop) -> Result<Text, AllocError>
     requires table { IsTable scene.now.nodes.now }
     requires root { scene.now.root < length scene.now.nodes.now }
 {
@@ -183,8 +184,14 @@ fn say_lead(scene: &Scene<'_, '_>, text: Text, lead: &Lead) -> Result<Text, Allo
         Clause::Label => say_bit(scene.alloc, text.say(b", counted from ")?, lead.start)?,
         Clause::Constraint | Clause::Condition | Clause::Count | Clause::Size => text,
     };
-    let left = u128::from(scene.bits).saturating_sub(lead.start);
-    say_room(text.say(b", and ")?, left)?.say(b"\n")
+    let text = match stop {
+        Stop::Fault(MapFaultKind::End, _) => {
+            let left = u128::from(scene.bits).saturating_sub(lead.start);
+            say_room(text.say(b", and ")?, left)?
+        }
+        _ => text,
+    };
+    text.say(b"\n")
 }
 
 /// Adds to the text a line on the fields before a part, except those that are in it already.
