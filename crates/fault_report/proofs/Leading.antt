@@ -1,13 +1,15 @@
 -- Ways with one more step.
 use Rattle.std.proofs.Common.{◌≡◌, ℕ, ◌+◌, ◌<◌, List, [], ◌∷◌, ◌++◌, Some, length, None, get_or, take, drop, sym, ap, ◌∙◌, subst}
-use Rattle.std.proofs.lemmas.List.{append-nil, append_assoc, map_more, drop_more}
+use Rattle.std.proofs.lemmas.Grind.{flat_map-append}
+use Rattle.std.proofs.lemmas.List.{append-nil, append_assoc, map_more, drop_more, take_more}
 use Rattle.std.proofs.lemmas.Option.{none-some}
 use Rattle.pickle_types.specs.declared.node.Node.{Node}
 use Rattle.pickle_types.specs.Types.{PokeType}
 use Rattle.pickle_types.specs.Table.{type_of}
 use Rattle.fault_report.specs.declared.way.Portion.{Portion}
+use Rattle.fault_report.specs.declared.trail.Level.{Level}
 use Rattle.fault_report.specs.declared.way.WayStep.{WayStep}
-use Rattle.fault_report.specs.Found.{places_of}
+use Rattle.fault_report.specs.Found.{places_of, place_under_way, places_under_way}
 use Rattle.fault_report.specs.Ways.{TypePart, LeadsTo, here, further, part_at, step_text, HasPart, LacksPart}
 use Rattle.fault_report.specs.Portions.{IsPortion, joint_text, typed}
 
@@ -63,3 +65,13 @@ goes_nowhere type place places e h = stops e h.leads
 pub steps_left : (steps : List WayStep) (i : ℕ) (d : WayStep) → i < length steps →
     places_of (drop i steps) ≡ (get_or steps i d).place ∷ places_of (drop (i + 1) steps)
 steps_left steps i d within = ap places_of (drop_more steps i d within)
+
+-- the place of one more level that is under way
+pub begun_more : (levels : List Level) (i : ℕ) (d : Level) → i < length levels →
+    places_under_way (take (i + 1) levels)
+    ≡ places_under_way (take i levels) ++ place_under_way (get_or levels i d).begun
+begun_more levels i d within =
+    ap places_under_way (take_more levels i d within)
+    ∙ flat_map-append (λ (level : Level). place_under_way level.begun) (take i levels) (get_or levels i d ∷ [])
+    ∙ ap (λ places. places_under_way (take i levels) ++ places)
+    (append-nil (place_under_way (get_or levels i d).begun))

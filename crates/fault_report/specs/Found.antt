@@ -1,5 +1,6 @@
 -- What is found along the steps from a type to its parts, in the table that has these types.
-use Rattle.std.specs.Prelude.{ℕ, List, map, Option, Some, None, IfErr}
+use Rattle.std.specs.Prelude.{ℕ, zero, suc, List, [], ◌∷◌, map, Option, Some, None, IfErr}
+use Rattle.std.specs.List.{flat_map}
 use Rattle.bit_space.specs.SpaceView.{SpaceView}
 use Rattle.pickle_types.specs.declared.node.Node.{Node}
 use Rattle.pickle_types.specs.Types.{PokeType}
@@ -9,6 +10,7 @@ use Rattle.command_line.specs.declared.ask.Ask.{Ask}
 use Rattle.fault_report.specs.declared.again.Again.{Again}
 use Rattle.fault_report.specs.declared.cause.Fault.{Fault}
 use Rattle.fault_report.specs.declared.scene.Scene.{Scene}
+use Rattle.fault_report.specs.declared.trail.Level.{Level}
 use Rattle.fault_report.specs.declared.way.FoundPart.{FoundPart}
 use Rattle.fault_report.specs.declared.way.WayStep.{WayStep}
 use Rattle.fault_report.specs.declared.way.Walked.{Walked}
@@ -26,6 +28,15 @@ places_of steps = map (λ step. step.place) steps
 
 abbrev pub way_places : Way → List ℕ
 way_places way = places_of way.steps.items
+
+-- the place of the part of a level that is under way, if one has begun
+abbrev pub place_under_way : (begun : ℕ) → List ℕ
+place_under_way zero = []
+place_under_way (suc place) = place ∷ []
+
+-- the places of the parts of levels that are under way, the outermost first
+abbrev pub places_under_way : List Level → List ℕ
+places_under_way levels = flat_map (λ level. place_under_way level.begun) levels
 
 -- what was found at the end of a path is a part of the type at a place of the table, with the path to it
 abbrev pub IsPartOf : List Node → (root : ℕ) → Way → FoundPart → Type 0

@@ -1,5 +1,8 @@
 //! The arrays, structs and unions that a walk is in, the outermost first.
 
+ghost use Rattle.std.specs.Prelude.{◌≡◌, ◌++◌, ◌-◌, IfOk, length, take};
+ghost use Rattle.fault_report.specs.Found.{place_under_way, places_under_way, way_places};
+
 use crate::endings::Counts;
 use crate::way::{Way, WayStep, is_array};
 use pickle_map::extent::Extent;
@@ -91,31 +94,46 @@ impl Trail {
     }
 
     /// The path to the part that is under way or, if no part of the innermost level has begun, to that level itself.
-    pub fn way(&self, alloc: Global) -> Result<Way, AllocError> {
+    pub fn way(&self, alloc: Global) -> Result<Way, AllocError>
+        ensures { IfOk result (λ way. way_places way ≡ places_under_way self.now.levels.items) }
+    {
         way_along(alloc, self.levels.as_slice())
     }
 
     /// The path to the innermost level itself.
-    pub fn way_to_innermost(&self, alloc: Global) -> Result<Way, AllocError> {
-        match self.levels.as_slice() {
-            [outer @ .., _] => way_along(alloc, outer),
-            [] => Ok(Way::new(alloc)),
-        }
+    pub fn way_to_innermost(&self, alloc: Global) -> Result<Way, AllocError>
+        ensures { let outer = take (length self.now.levels.items - 1) self.now.levels.items in
+            IfOk result (λ way. way_places way ≡ places_under_way outer) }
+    {
+        let count = self.levels.len().saturating_sub(1);
+        way_along(alloc, &self.levels.as_slice()[..count])
     }
 }
 
 /// The path through levels, to the part of the last that is under way.
-fn way_along(alloc: Global, levels: &[Level]) -> Result<Way, AllocError> {
+fn way_along(alloc: Global, levels: &[Level]) -> Result<Way, AllocError>
+    ensures { IfOk result (λ way. way_places way ≡ places_under_way levels.now) }
+{
     let mut way = Way::new(alloc);
     for level in levels {
-        if let Some(place) = level.begun.checked_sub(1) {
-            way.go(WayStep {
-                node: level.node,
-                place,
-            })?;
-        }
+        level.go_into(&mut way)?;
     }
     Ok(way)
+}
+
+impl Level {
+    /// Adds the step to the part that is under way to the path to the level, if a part has begun.
+    fn go_into(self, way: &mut Way) -> Result<(), AllocError>
+        ensures { IfOk result (λ _. way_places way.new ≡ way_places way.old ++ place_under_way self.begun) }
+    {
+        match self.begun.checked_sub(1) {
+            Some(place) => way.go(WayStep {
+                node: self.node,
+                place,
+            }),
+            None => Ok(()),
+        }
+    }
 }
 
 /// Whether the node at a place of the table goes on after one of its parts that stops in this way.
