@@ -2,7 +2,7 @@
 
 use crate::located::Located;
 use crate::offsets::Mixed;
-use crate::sorts::say_type;
+use crate::sentence::{Part, sentence};
 use crate::types::{name_of, rule_finding, unknown_type};
 use pickle_source::expressions::{PlacedExpression, is_path, token_count};
 use pickle_source::script::{Script, TokenRange, bytes_between};
@@ -20,6 +20,21 @@ pub struct Finding {
     pub part: TokenRange,
     pub sentence: Vec<u8>,
     pub help: Option<Vec<u8>>,
+}
+
+impl Finding {
+    /// A sentence about some tokens, and what to write instead of them.
+    pub fn of(part: TokenRange, text: Text, help: Option<Text>) -> Finding {
+        let help = match help {
+            Some(help) => Some(help.into_bytes()),
+            None => None,
+        };
+        Finding {
+            part,
+            sentence: text.into_bytes(),
+            help,
+        }
+    }
 }
 
 /// A declaration that the type checker refuses.
@@ -89,41 +104,40 @@ fn whole(
     found: OperandType,
 ) -> Result<Finding, AllocError> {
     let (alloc, script) = (declared.alloc, declared.script);
-    let text = Text::new(alloc).say(match purpose {
-        Purpose::Constraint => b"a constraint is an integer, this is ".as_slice(),
-        Purpose::Condition => b"a condition is an integer, this is ".as_slice(),
-        Purpose::Label => b"a label is an offset, this is ".as_slice(),
-        Purpose::Bound => b"a bound is an integer or an offset, this is ".as_slice(),
-    })?;
-    let text = say_type(text, Some(found))?;
-    let help = match purpose {
-        Purpose::Label => Some(label_help(alloc, script, part)?.into_bytes()),
-        Purpose::Constraint | Purpose::Condition => Some(
-            Text::new(alloc)
-                .say(b"compare it with a value of its type, as in `x == 0` or `x > 0#B`")?
-                .into_bytes(),
-        ),
-        Purpose::Bound => None,
+    let words: &[u8] = match purpose {
+        Purpose::Constraint => b"a constraint is an integer, this is $0",
+        Purpose::Condition => b"a condition is an integer, this is $0",
+        Purpose::Label => b"a label is an offset, this is $0",
+        Purpose::Bound => b"a bound is an integer or an offset, this is $0",
     };
-    Ok(Finding {
-        part,
-        sentence: text.into_bytes(),
-        help,
-    })
+    let text = sentence(alloc, words, &[Part::Type(Some(found))])?;
+    let help = match purpose {
+        Purpose::Label => label_help(alloc, script, part)?,
+        Purpose::Constraint | Purpose::Condition => {
+            Text::new(alloc).say(
+                b"compare it with a value of its type, as in `x == 0` or `x > 0#B`",
+            )?
+        }
+        Purpose::Bound => return Ok(Finding::of(part, text, None)),
+    };
+    Ok(Finding::of(part, text, Some(help)))
 }
 
 /// What to write for an integer as a label. A `B` at the end of a hexadecimal number is a digit, where a unit may be meant.
 fn label_help(alloc: Global, script: &Script<'_>, part: TokenRange) -> Result<Text, AllocError> {
     let written = script.slice(part);
-    let text = Text::new(alloc).say(b"write it with a unit, as ")?;
     match written {
         [b'0', b'x' | b'X', _, .., b'B' | b'b'] if part.end == part.first.saturating_add(1) => {
             let front = bytes_between(written, 0, written.len().saturating_sub(1));
             let meant = Text::new(alloc).say(front)?.say(b"#B")?.into_bytes();
-            text.quote(meant.as_slice())?
-                .say(b": here the `B` is a digit")
+            let words = b"write it with a unit, as `$0`: here the `B` is a digit";
+            sentence(alloc, words, &[Part::Word(meant.as_slice())])
         }
-        _ => text.quote(with_unit(alloc, script, part)?.as_slice()),
+        _ => {
+            let meant = with_unit(alloc, script, part)?;
+            let meant = Part::Word(meant.as_slice());
+            sentence(alloc, b"write it with a unit, as `$0`", &[meant])
+        }
     }
 }
 
@@ -236,14 +250,22 @@ impl<'a, 't> IllTypedExpression<'a, 't> {
         text: Text,
         help: Option<Text>,
     ) -> Result<Finding, AllocError> {
-        Ok(Finding {
-            part,
-            sentence: text.into_bytes(),
-            help: match help {
-                Some(help) => Some(help.into_bytes()),
-                None => None,
-            },
-        })
+        Ok(Finding::of(part, text, help))
+    }
+
+    /// A sentence of these words. In them `$0` to `$9` represent the parts.
+    pub fn sentence(self, words: &[u8], parts: &[Part<'_>]) -> Result<Text, AllocError> {
+        sentence(self.declared.alloc, words, parts)
+    }
+
+    /// Some tokens as the pickle has them, in a sentence.
+    pub fn word(self, part: TokenRange) -> Part<'t> {
+        Part::Word(self.script().slice(part))
+    }
+
+    /// All of some tokens as the pickle has them, in a sentence.
+    pub fn whole(self, part: TokenRange) -> Part<'t> {
+        Part::Whole(self.script().slice(part))
     }
 
     /// `count` tokens, the first of them `behind` tokens after this expression's first.
@@ -268,12 +290,10 @@ impl<'a, 't> IllTypedExpression<'a, 't> {
         let count = token_count(&operation.left);
         let sign = self.tokens(count, 1);
         let OperandTypes { first, second, .. } = self.types;
-        let text = self
-            .text()
-            .quote(self.script().slice(sign))?
-            .say(b" between ")?;
-        let text = say_type(text, first)?.say(b" and ")?;
-        let text = say_type(text, second)?;
+        let text = self.sentence(
+            b"`$0` between $1 and $2",
+            &[self.word(sign), Part::Type(first), Part::Type(second)],
+        )?;
         let operands = Operands {
             left: self.tokens(0, count),
             sign,
@@ -334,25 +354,26 @@ impl<'a, 't> IllTypedExpression<'a, 't> {
 
     /// The help for a struct where its size is meant.
     fn size_help(self, operands: Operands) -> Result<Text, AllocError> {
-        let text = self.text().say(b"for its size write `")?;
-        let text = if let Some(OperandType::Integer(_)) = self.operand_type() {
-            text.show(with_unit(self.declared.alloc, self.script(), operands.left)?.as_slice())?
-        } else {
-            text.show(self.script().slice(operands.left))?
+        let left = match self.operand_type() {
+            Some(OperandType::Integer(_)) => {
+                with_unit(self.declared.alloc, self.script(), operands.left)?
+            }
+            _ => Vec::from_slice(self.declared.alloc, self.script().slice(operands.left))?,
         };
-        let sign = self.script().slice(operands.sign);
-        let text = text.say(b" ")?.show(sign)?.say(b" ")?;
-        text.show(self.script().slice(operands.right))?
-            .say(b"'size`")
+        self.sentence(
+            b"for its size write `$0 $1 $2'size`",
+            &[
+                Part::Whole(left.as_slice()),
+                self.whole(operands.sign),
+                self.whole(operands.right),
+            ],
+        )
     }
 
     fn prefix(self) -> Result<Finding, AllocError> {
         let sign = self.tokens(0, 1);
-        let text = self
-            .text()
-            .quote(self.script().slice(sign))?
-            .say(b" before ")?;
-        let text = say_type(text, self.operand_type())?;
+        let found = Part::Type(self.operand_type());
+        let text = self.sentence(b"`$0` before $1", &[self.word(sign), found])?;
         let help = self.text().say(
             b"`+` and `-` come before integers and offsets, `~` and `!` before integers",
         )?;
@@ -372,15 +393,14 @@ impl<'a, 't> IllTypedExpression<'a, 't> {
                 first: inner.first,
                 end: inner.end.saturating_sub(1),
             };
-            let text = self.text().say(b"an index is an integer, this is ")?;
-            return self.finding(part, say_type(text, index)?, None);
+            let text = self.sentence(b"an index is an integer, this is $0", &[Part::Type(index)])?;
+            return self.finding(part, text, None);
         }
-        let text = self.text().say(b"only arrays are indexed, ")?;
-        let text = text
-            .quote(self.script().slice(self.tokens(0, count)))?
-            .say(b" is ")?;
-        let help = self.element_help()?;
-        self.finding(self.rest(count), say_type(text, array)?, help)
+        let text = self.sentence(
+            b"only arrays are indexed, `$0` is $1",
+            &[self.word(self.tokens(0, count)), Part::Type(array)],
+        )?;
+        self.finding(self.rest(count), text, self.element_help()?)
     }
 
     fn choice(self, condition: &Expression<'_>) -> Result<Finding, AllocError> {
@@ -390,12 +410,15 @@ impl<'a, 't> IllTypedExpression<'a, 't> {
             third: no,
         } = self.types;
         if !matches!(found, Some(OperandType::Integer(_))) {
-            let text = self.text().say(b"a condition is an integer, this is ")?;
+            let text = self.sentence(
+                b"a condition is an integer, this is $0",
+                &[Part::Type(found)],
+            )?;
             let condition = self.tokens(0, token_count(condition));
-            return self.finding(condition, say_type(text, found)?, None);
+            return self.finding(condition, text, None);
         }
-        let text = self.text().say(b"a choice between ")?;
-        let text = say_type(say_type(text, yes)?.say(b" and ")?, no)?;
+        let types = [Part::Type(yes), Part::Type(no)];
+        let text = self.sentence(b"a choice between $0 and $1", types.as_slice())?;
         let help = self
             .text()
             .say(b"both are integers, or both offsets of one type and unit")?;
@@ -408,34 +431,32 @@ impl<'a, 't> IllTypedExpression<'a, 't> {
         match suffix {
             Suffix::Select(word) => self.unknown_field(operand, is_path(inner), word),
             Suffix::Attribute(Attribute::Length) => {
-                let text = self.text().say(b"`'length` is that of an array, ")?;
-                self.operand_is(text, operand, self.length_help(operand)?)
+                let words = b"`'length` is that of an array, `$0` is $1";
+                self.operand_is(words, operand, self.length_help(operand)?)
             }
             Suffix::Attribute(Attribute::Size) => {
-                let text = self.text().say(b"`'size` is that of a field, ")?;
-                self.operand_is(text, operand, None)
+                self.operand_is(b"`'size` is that of a field, `$0` is $1", operand, None)
             }
             Suffix::Unit(_) if self.kind() == FaultKind::Width => {
                 let text = self.text().say(b"a unit has 1 to 4294967295 bits")?;
                 self.finding(self.rest(count.saturating_add(1)), text, None)
             }
             Suffix::Unit(_) => {
-                let text = self.text().say(b"a unit comes after an integer, ")?;
-                self.operand_is(text, operand, None)
+                self.operand_is(b"a unit comes after an integer, `$0` is $1", operand, None)
             }
             Suffix::Convert(_) => self.conversion(operand),
         }
     }
 
-    /// Adds what an operand is to the text.
+    /// The finding for a suffix of an operand. `words` have the operand, and what it is.
     fn operand_is(
         self,
-        text: Text,
+        words: &[u8],
         operand: TokenRange,
         help: Option<Text>,
     ) -> Result<Finding, AllocError> {
-        let text = text.quote(self.script().slice(operand))?.say(b" is ")?;
-        let text = say_type(text, self.operand_type())?;
+        let found = Part::Type(self.operand_type());
+        let text = self.sentence(words, &[self.word(operand), found])?;
         let suffix = TokenRange {
             first: operand.end,
             end: self.part.end,
@@ -448,8 +469,6 @@ impl<'a, 't> IllTypedExpression<'a, 't> {
             first: operand.end.saturating_add(1),
             end: self.part.end,
         };
-        let written = self.script().slice(target);
-        let text = self.text();
         if self.kind() == FaultKind::UnknownType {
             return unknown_type(
                 self.declared.alloc,
@@ -458,11 +477,13 @@ impl<'a, 't> IllTypedExpression<'a, 't> {
             );
         }
         if self.kind() == FaultKind::Width {
-            let text = text.say(b"a width is 1 to 64 bits, a unit 1 to 4294967295 bits")?;
+            let text = self
+                .text()
+                .say(b"a width is 1 to 64 bits, a unit 1 to 4294967295 bits")?;
             return self.finding(target, text, None);
         }
-        let text = text.say(b"`as ")?.show(written)?.say(b"` of ")?;
-        let text = say_type(text, self.operand_type())?;
+        let found = Part::Type(self.operand_type());
+        let text = self.sentence(b"`as $0` of $1", &[self.whole(target), found])?;
         let help = self.text().say(
             b"an integer is converted to an integer type, an offset to an offset type; an integer gets a unit by `#B`, an offset loses it by `/ 1#B`",
         )?;

@@ -2,6 +2,7 @@
 
 use crate::clause::{IllTypedExpression, Operands};
 use crate::lexical::say_hexadecimal;
+use crate::sentence::{Part, say_sentence};
 use pickle_source::script::{Script, TokenRange, bytes_between};
 use pickle_source::text::Text;
 use pickle_types::refused::{OperandType, OperandTypes};
@@ -46,15 +47,20 @@ impl<'a, 't> IllTypedExpression<'a, 't> {
         letters: &[u8],
         joint: &[u8],
     ) -> Result<Text, AllocError> {
-        let array = self.script().slice(operands.left);
-        let sign = self.script().slice(operands.sign);
+        let (array, sign) = (self.whole(operands.left), self.whole(operands.sign));
         let mut text = self.text().say(b"compare its elements: `")?;
         for (place, letter) in letters.iter().enumerate() {
             if 0 < place {
                 text = text.say(joint)?;
             }
-            text = text.show(array)?.say(b"[")?.say_number(place)?.say(b"] ")?;
-            text = text.show(sign)?.say(b" '")?.say(&[*letter])?.say(b"'")?;
+            let letter = [*letter];
+            let parts = [
+                array,
+                Part::Number(place),
+                sign,
+                Part::Whole(letter.as_slice()),
+            ];
+            text = say_sentence(text, b"$0[$1] $2 '$3'", parts.as_slice())?;
         }
         text.say(b"`")
     }
@@ -70,27 +76,29 @@ impl<'a, 't> IllTypedExpression<'a, 't> {
 
     /// The help for an array of strings: the comparison of its first element.
     fn strings_help(self, operands: Operands) -> Result<Text, AllocError> {
-        let array = self.script().slice(operands.left);
-        let text = self.text().say(b"its elements are strings: write `")?;
-        let text = text.show(array)?.say(b"[0] ")?;
-        let text = text.show(self.script().slice(operands.sign))?.say(b" ")?;
-        let text = text.show(self.script().slice(operands.right))?;
-        let text = text.say(b"`, or for one string `string ")?;
-        text.show(array)?.say(b"`")
+        self.sentence(
+            b"its elements are strings: write `$0[0] $1 $2`, or for one string `string $0`",
+            &[
+                self.whole(operands.left),
+                self.whole(operands.sign),
+                self.whole(operands.right),
+            ],
+        )
     }
 
     /// The help for an integer: a character, or the number of so many bytes.
     fn number_help(self, letters: &[u8]) -> Result<Text, AllocError> {
         match letters {
-            [letter] => self
-                .text()
-                .say(b"one byte is a character: write `'")?
-                .say(&[*letter])?
-                .say(b"'`"),
+            [_] => {
+                let words = b"one byte is a character: write `'$0'`";
+                self.sentence(words, &[Part::Whole(letters)])
+            }
             _ => {
-                let text = self.text().say(b"write these ")?.say_number(letters.len())?;
-                let text = text.say(b" bytes as the number `0x")?;
-                say_hexadecimal(text, letters)?.say(b"`, for a field in big-endian order")
+                let digits = say_hexadecimal(self.text(), letters)?.into_bytes();
+                let parts = [Part::Number(letters.len()), Part::Whole(digits.as_slice())];
+                let words =
+                    b"write these $0 bytes as the number `0x$1`, for a field in big-endian order";
+                self.sentence(words, parts.as_slice())
             }
         }
     }

@@ -1,6 +1,7 @@
 //! Sentences about bytes that aren't tokens.
 
 use crate::digits::digits_help;
+use crate::sentence::{Part, sentence};
 use pickle_source::note::Note;
 use pickle_source::script::bytes_between;
 use pickle_source::text::{Text, is_shown};
@@ -25,9 +26,9 @@ pub fn lexical_note(
     let rest = bytes_between(pickle, at, pickle.len());
     let text = Text::new(alloc);
     let text = match kind {
-        LexFaultKind::BadByte => say_byte(text, rest)?,
+        LexFaultKind::BadByte => byte_sentence(alloc, rest)?,
         LexFaultKind::Unclosed => text.say(unclosed_sentence(rest).as_bytes())?,
-        LexFaultKind::BadNumber => say_number(text, rest)?,
+        LexFaultKind::BadNumber => number_sentence(alloc, rest)?,
         LexFaultKind::TooLong => text.say(b"a pickle has at most 1048576 bytes")?,
         LexFaultKind::Memory => text.say(b"there was no memory")?,
     };
@@ -75,7 +76,8 @@ fn is_word_byte(byte: u8) -> bool {
     byte.is_ascii_alphanumeric() || byte == b'_'
 }
 
-fn say_byte(text: Text, rest: &[u8]) -> Result<Text, AllocError> {
+fn byte_sentence(alloc: Global, rest: &[u8]) -> Result<Text, AllocError> {
+    let text = Text::new(alloc);
     match rest {
         [b'\'', b'\\', ..] | [b'\\', ..] => text.say(
             b"no escape begins here: the escapes are `\\\\`, `\\'`, `\\\"`, `\\n`, `\\t` and `\\x` with two hexadecimal digits",
@@ -83,10 +85,14 @@ fn say_byte(text: Text, rest: &[u8]) -> Result<Text, AllocError> {
         [b'\'', ..] => text.say(
             b"this is neither a character, as `'a'`, nor one of the attributes `'length` and `'size`",
         ),
-        [byte, ..] => text
-            .say(b"the byte ")?
-            .quote(&[*byte])?
-            .say(b" begins no token"),
+        [byte, ..] => {
+            let byte = [*byte];
+            sentence(
+                alloc,
+                b"the byte `$0` begins no token",
+                &[Part::Word(byte.as_slice())],
+            )
+        }
         [] => text.say(b"the pickle ends here"),
     }
 }
@@ -155,9 +161,9 @@ fn help_escape(alloc: Global, escape: &[u8]) -> Result<Option<Vec<u8>>, AllocErr
     let Some(byte) = escape_value(escape) else {
         return Ok(None);
     };
-    let text = Text::new(alloc).say(b"write `")?;
-    let text = say_hexadecimal(text.say(b"\\x")?, &[byte])?;
-    Ok(Some(text.say(b"`")?.into_bytes()))
+    let digits = say_hexadecimal(Text::new(alloc), &[byte])?.into_bytes();
+    let text = sentence(alloc, b"write `\\x$0`", &[Part::Whole(digits.as_slice())])?;
+    Ok(Some(text.into_bytes()))
 }
 
 /// The byte that an escape of C represents.
@@ -210,10 +216,13 @@ fn help_quoted(alloc: Global, quoted: &[u8]) -> Result<Option<Vec<u8>>, AllocErr
     let word = bytes_between(quoted, 0, end.unwrap_or(0));
     let is_number = quoted.get(word.len()) == Some(&b'\'');
     if is_number && 1 < word.len() && word.len() <= 8 {
-        let text = Text::new(alloc).say(b"a character is one byte: write these ")?;
-        let text = text.say_number(word.len())?.say(b" as the number `0x")?;
-        let text = say_hexadecimal(text, word)?;
-        return Ok(Some(text.say(b"`")?.into_bytes()));
+        let digits = say_hexadecimal(Text::new(alloc), word)?.into_bytes();
+        let text = sentence(
+            alloc,
+            b"a character is one byte: write these $0 as the number `0x$1`",
+            &[Part::Number(word.len()), Part::Whole(digits.as_slice())],
+        )?;
+        return Ok(Some(text.into_bytes()));
     }
     fixed_help(
         alloc,
@@ -240,10 +249,12 @@ fn help_unclosed(rest: &[u8]) -> &'static str {
     }
 }
 
-fn say_number(text: Text, rest: &[u8]) -> Result<Text, AllocError> {
+fn number_sentence(alloc: Global, rest: &[u8]) -> Result<Text, AllocError> {
     let word = bytes_between(rest, 0, word_length(rest));
-    text.say(b"no number is written ")?.quote(word)?.say(
-        b": no type holds it, or letters follow it that are no part of it",
+    sentence(
+        alloc,
+        b"no number is written `$0`: no type holds it, or letters follow it that are no part of it",
+        &[Part::Word(word)],
     )
 }
 
@@ -275,12 +286,8 @@ fn is_unit(pickle: &[u8], at: usize) -> bool {
 fn help_unit(alloc: Global, digits: &[u8]) -> Result<Option<Vec<u8>>, AllocError> {
     match str::from_utf8(digits).ok().and_then(bits_in) {
         Some(bits) => {
-            let text = Text::new(alloc).say(b"a unit is a number of bits: write `")?;
-            let text = text
-                .say_number(bits)?
-                .say(b"` for ")?
-                .say(digits)?
-                .say(b" bytes")?;
+            let words = b"a unit is a number of bits: write `$0` for $1 bytes";
+            let text = sentence(alloc, words, &[Part::Number(bits), Part::Whole(digits)])?;
             Ok(Some(text.into_bytes()))
         }
         None => fixed_help(alloc, "a unit is a number of bits, `b` or `B`"),
@@ -316,7 +323,7 @@ fn help_suffix(alloc: Global, word: &[u8], negated: bool) -> Result<Option<Vec<u
     };
     for other in [first, unsigned.as_slice(), shorter, shortest] {
         if (has_suffix || word.len() < other.len()) && is_number(alloc, other)? {
-            let text = Text::new(alloc).say(b"write ")?.quote(other)?;
+            let text = sentence(alloc, b"write `$0`", &[Part::Word(other)])?;
             return Ok(Some(text.into_bytes()));
         }
     }

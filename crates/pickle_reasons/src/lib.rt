@@ -20,6 +20,7 @@ mod members;
 mod names;
 mod offsets;
 mod pattern;
+mod sentence;
 mod sorts;
 mod strings;
 mod syntax;

@@ -2,6 +2,7 @@
 
 use crate::clause::IllTypedExpression;
 use crate::names::is_field;
+use crate::sentence::Part;
 use crate::types::is_predeclared;
 use pickle_source::anatomy::{opening_brace, statement};
 use pickle_source::script::{Script, TokenRange};
@@ -30,8 +31,8 @@ impl<'a, 't> IllTypedExpression<'a, 't> {
             looked.push(declared)?;
             let outer = script.text(token);
             if visible.contains(&outer) && has_field(script, declared, word) {
-                let text = self.text().say(b"write `")?.show(outer)?;
-                return Ok(Some(text.say(b".")?.show(word)?.say(b"`")?));
+                let path = [Part::Whole(outer), Part::Whole(word)];
+                return Ok(Some(self.sentence(b"write `$0.$1`", path.as_slice())?));
             }
         }
         Ok(None)

@@ -2,7 +2,7 @@
 
 use crate::clause::{Finding, IllTypedExpression};
 use crate::expected::say_list;
-use crate::sorts::say_type;
+use crate::sentence::{Part, say_sentence};
 use crate::syntax::opening;
 use crate::types::is_declared_as;
 use pickle_source::near::nearest;
@@ -52,8 +52,7 @@ impl<'a, 't> IllTypedExpression<'a, 't> {
     pub fn unknown_name(self, word: &[u8]) -> Result<Finding, AllocError> {
         let alloc = self.declared.alloc;
         let visible = self.declared.refused.visible_names(alloc)?;
-        let text = self.text().say(b"no field ")?.quote(word)?;
-        let text = text.say(b" is seen here")?;
+        let text = self.sentence(b"no field `$0` is seen here", &[Part::Word(word)])?;
         let text = self.say_names(text, word, visible.as_slice(), b"; there is ")?;
         let help = match self.truth_help(word)? {
             Some(help) => Some(help),
@@ -73,28 +72,28 @@ impl<'a, 't> IllTypedExpression<'a, 't> {
             first: operand.end.saturating_add(1),
             end: self.part.end,
         };
-        let written = self.script().slice(operand);
-        let help = self.attribute_help(written, path, word)?;
+        let help = self.attribute_help(operand, path, word)?;
         let Some(OperandType::Struct(node)) = self.operand_type() else {
-            let text = self.text().say(b"only structs and unions have fields, ")?;
-            let text = text.quote(written)?.say(b" is ")?;
-            return self.finding(name, say_type(text, self.operand_type())?, help);
+            let text = self.sentence(
+                b"only structs and unions have fields, `$0` is $1",
+                &[self.word(operand), Part::Type(self.operand_type())],
+            )?;
+            return self.finding(name, text, help);
         };
         let names = self
             .declared
             .refused
             .field_names(self.declared.alloc, node)?;
-        let text = self
-            .say_type_name(self.text(), operand)?
-            .say(b" has no field ")?;
-        let text = self.say_names(text.quote(word)?, word, names.as_slice(), b"; it has ")?;
+        let text = self.say_type_name(self.text(), operand)?;
+        let text = say_sentence(text, b" has no field `$0`", &[Part::Word(word)])?;
+        let text = self.say_names(text, word, names.as_slice(), b"; it has ")?;
         self.finding(name, text, help)
     }
 
     /// The help for `.length` of an array and `.size` of a path.
     fn attribute_help(
         self,
-        written: &[u8],
+        operand: TokenRange,
         path: bool,
         word: &[u8],
     ) -> Result<Option<Text>, AllocError> {
@@ -104,8 +103,9 @@ impl<'a, 't> IllTypedExpression<'a, 't> {
                 b"'length",
             _ => return Ok(None),
         };
+        let written = self.script().slice(operand);
         let text = self.text().say(written)?.say(attribute)?.into_bytes();
-        Ok(Some(self.text().say(b"write ")?.quote(text.as_slice())?))
+        Ok(Some(self.sentence(b"write `$0`", &[Part::Word(text.as_slice())])?))
     }
 
     /// The tokens of the declaration before the expression.
@@ -139,20 +139,19 @@ impl<'a, 't> IllTypedExpression<'a, 't> {
 
     /// The help for a name that is later in the declaration, or that is the field's own.
     fn later_help(self, word: &[u8], visible: &[&[u8]]) -> Result<Option<Text>, AllocError> {
-        let text = self.text();
         if self.is_own(word) {
-            return Ok(Some(text.say(
-                b"a label, a condition and a bound see only the fields before their own",
-            )?));
+            return Ok(Some(
+                self.text().say(
+                    b"a label, a condition and a bound see only the fields before their own",
+                )?,
+            ));
         }
         let end = next_type(self.script(), self.part.end);
         if (self.part.end..end).any(|token| self.script().text(token) == word
             && is_field(self.script(), token))
         {
-            let text = text
-                .quote(word)?
-                .say(b" comes later: only the fields before are seen")?;
-            return Ok(Some(text));
+            let words = b"`$0` comes later: only the fields before are seen";
+            return Ok(Some(self.sentence(words, &[Part::Word(word)])?));
         }
         if let Some(help) = self.closed_help(word, visible)? {
             return Ok(Some(help));
@@ -171,19 +170,18 @@ impl<'a, 't> IllTypedExpression<'a, 't> {
             return Ok(None);
         };
         let behind = close_behind(self.script(), token, before.end).saturating_add(1);
-        let text = self.text();
         if self.script().text(behind) == b";".as_slice() && behind < before.end {
-            let text = text.say(
-                b"the struct with this field has no name: write `} inner;` at its end, and `inner.",
-            )?;
-            return Ok(Some(text.show(word)?.say(b"` here")?));
+            return Ok(Some(self.sentence(
+                b"the struct with this field has no name: write `} inner;` at its end, and `inner.$0` here",
+                &[Part::Whole(word)],
+            )?));
         }
         let outer = self.script().text(behind);
         if before.end <= behind || !visible.contains(&outer) {
             return Ok(None);
         }
         let path = self.text().say(outer)?.say(b".")?.say(word)?.into_bytes();
-        Ok(Some(text.say(b"write ")?.quote(path.as_slice())?))
+        Ok(Some(self.sentence(b"write `$0`", &[Part::Word(path.as_slice())])?))
     }
 
     /// The help for a field of a type that uses this one. `end` is the end of this declaration.

@@ -1,6 +1,7 @@
 //! An operator between an offset and an integer, where it wants two offsets or two integers.
 
 use crate::clause::{IllTypedExpression, group_operand, with_unit};
+use crate::sentence::Part;
 use pickle_source::script::{Script, TokenRange};
 use pickle_source::text::Text;
 use pickle_syntax::tree::{Expression, Infix};
@@ -98,13 +99,6 @@ impl<'a, 't> IllTypedExpression<'a, 't> {
         ))
     }
 
-    /// The help for an operator that has integers alone.
-    fn integers_only(self, mixed: Mixed<'_, '_>) -> Result<Text, AllocError> {
-        self.text()
-            .quote(self.script().slice(mixed.sign))?
-            .say(b" works on integers: ")
-    }
-
     /// The help for an offset whose lowest bits are wanted.
     fn multiple_help(
         self,
@@ -112,45 +106,43 @@ impl<'a, 't> IllTypedExpression<'a, 't> {
         offset: TokenRange,
         mask: Mask,
     ) -> Result<Text, AllocError> {
-        let lead: &[u8] = if mask.differs {
-            b"for all but multiples of `"
+        let words: &[u8] = if mask.differs {
+            b"`&` works on integers: for all but multiples of `$0$1` write `$2 % $0$1 != 0$1`"
         } else {
-            b"for a multiple of `"
+            b"`&` works on integers: for a multiple of `$0$1` write `$2 % $0$1 == 0$1`"
         };
-        let sign: &[u8] = if mask.differs { b" != 0" } else { b" == 0" };
+        let unit = say_unit(self.text(), mixed.unit)?.into_bytes();
         let offset = group_operand(self.declared.alloc, self.script(), offset)?;
-        let text = self.text().say(b"`&` works on integers: ")?.say(lead)?;
-        let text = say_unit(text.say_number(mask.multiple)?, mixed.unit)?;
-        let text = text.say(b"` write `")?.show(offset.as_slice())?;
-        let text = text.say(b" % ")?.say_number(mask.multiple)?;
-        let text = say_unit(text, mixed.unit)?.say(sign)?;
-        say_unit(text, mixed.unit)?.say(b"`")
+        self.sentence(
+            words,
+            &[
+                Part::Number(mask.multiple),
+                Part::Whole(unit.as_slice()),
+                Part::Whole(offset.as_slice()),
+            ],
+        )
     }
 
     /// The help for an offset whose number of bytes is wanted.
     fn number_of_bytes(self, mixed: Mixed<'_, '_>) -> Result<Text, AllocError> {
         let offset = group_operand(self.declared.alloc, self.script(), mixed.offset)?;
-        self.integers_only(mixed)?
-            .say(b"write `")?
-            .show(offset.as_slice())?
-            .say(b" / 1#B` for the number of bytes")
+        self.sentence(
+            b"`$0` works on integers: write `$1 / 1#B` for the number of bytes",
+            &[self.word(mixed.sign), Part::Whole(offset.as_slice())],
+        )
     }
 
     /// The help for an offset as a condition.
     fn truth_of_offset(self, mixed: Mixed<'_, '_>) -> Result<Text, AllocError> {
-        self.integers_only(mixed)?
-            .say(b"write `")?
-            .show(self.script().slice(mixed.offset))?
-            .say(b" != 0#B`")
+        let words = b"`$0` works on integers: write `$1 != 0#B`";
+        self.sentence(words, &[self.word(mixed.sign), self.whole(mixed.offset)])
     }
 
     /// The help for an integer that should be an offset.
     fn unit_help(self, integer: TokenRange) -> Result<Text, AllocError> {
         let written = with_unit(self.declared.alloc, self.script(), integer)?;
-        self.text()
-            .say(b"an integer has no unit: write ")?
-            .quote(written.as_slice())?
-            .say(b" for bytes")
+        let words = b"an integer has no unit: write `$0` for bytes";
+        self.sentence(words, &[Part::Word(written.as_slice())])
     }
 }
 

@@ -1,12 +1,10 @@
 //! Tokens in a row at which no pickle can go on, and sentences that have these tokens in them.
 
+use crate::sentence::{Part, say_sentence};
 use crate::types::is_predeclared;
-use pickle_source::script::{Script, TokenRange, bytes_between};
+use pickle_source::script::{Script, TokenRange};
 use pickle_source::text::Text;
 use std::alloc::AllocError;
-
-/// The most bytes of a part of a pickle that a sentence has.
-const MOST_SHOWN: usize = 64;
 
 /// Tokens in a row, and what to write instead of them.
 #[derive(Clone, Copy)]
@@ -83,38 +81,37 @@ impl<'a, 't> Around<'a, 't> {
 
     /// Adds the sentence of a pattern to the text.
     pub fn say(self, text: Text, help: &[u8]) -> Result<Text, AllocError> {
-        let mut text = text;
-        let mut is_part = false;
-        for byte in help {
-            text = match *byte {
-                digit if is_part => say_part(text, self.part(digit))?,
-                b'$' => text,
-                byte => text.say(&[byte])?,
-            };
-            is_part = *byte == b'$' && !is_part;
-        }
-        Ok(text)
+        let front = TokenRange {
+            first: self.first,
+            end: self.token,
+        };
+        let rest = TokenRange {
+            first: self.token,
+            end: field_end(self.script, self.token),
+        };
+        let parts = [
+            self.part(TokenRange::single(self.first.saturating_add(1))),
+            self.nearby(1),
+            self.nearby(2),
+            self.nearby(3),
+            self.nearby(4),
+            self.nearby(5),
+            self.nearby(6),
+            self.nearby(7),
+            self.part(front),
+            self.part(rest),
+        ];
+        say_sentence(text, help, parts.as_slice())
     }
 
-    /// The part of the pickle that a digit represents in a sentence.
-    fn part(self, digit: u8) -> &'t [u8] {
-        let part = match digit {
-            b'0' => TokenRange::single(self.first.saturating_add(1)),
-            b'8' => TokenRange {
-                first: self.first,
-                end: self.token,
-            },
-            b'9' => TokenRange {
-                first: self.token,
-                end: field_end(self.script, self.token),
-            },
-            digit => TokenRange::single(
-                self.token
-                    .saturating_add(usize::from(digit.saturating_sub(b'0')))
-                    .saturating_sub(3),
-            ),
-        };
-        self.script.slice(part)
+    /// The token that a digit from 1 to 7 represents in a sentence. The refused one is the third.
+    fn nearby(self, digit: usize) -> Part<'t> {
+        let token = self.token.saturating_add(digit).saturating_sub(3);
+        self.part(TokenRange::single(token))
+    }
+
+    fn part(self, part: TokenRange) -> Part<'t> {
+        Part::Word(self.script.slice(part))
     }
 }
 
@@ -123,14 +120,6 @@ fn field_end(script: &Script<'_>, token: usize) -> usize {
     (token..script.len())
         .find(|next| script.text(*next) == b";".as_slice())
         .unwrap_or(script.len())
-}
-
-/// Adds a part of a pickle to the text, at most 64 bytes of it.
-fn say_part(text: Text, part: &[u8]) -> Result<Text, AllocError> {
-    if part.len() <= MOST_SHOWN {
-        return text.show(part);
-    }
-    text.show(bytes_between(part, 0, MOST_SHOWN))?.say(b"..")
 }
 
 /// Whether a token is a reserved word other than `type`.

@@ -12,9 +12,10 @@ impl<'a, 't> IllTypedExpression<'a, 't> {
         if self.operand_type() != Some(OperandType::String) {
             return Ok(None);
         }
-        let text = self.text().say(b"write `(")?;
-        let text = text.show(self.script().slice(operand))?;
-        Ok(Some(text.say(b"'size / 1#B - 1)` for its bytes before the 0")?))
+        Ok(Some(self.sentence(
+            b"write `($0'size / 1#B - 1)` for its bytes before the 0",
+            &[self.whole(operand)],
+        )?))
     }
 
     /// The help for an element of a string.
@@ -22,7 +23,10 @@ impl<'a, 't> IllTypedExpression<'a, 't> {
         if self.operand_type() != Some(OperandType::String) {
             return Ok(None);
         }
-        let text = self.text().say(b"compare it whole, as `s == \"abc\"`, ")?;
-        Ok(Some(text.say(b"or write an array for it, as `char[3]`")?))
+        Ok(Some(
+            self.text().say(
+                b"compare it whole, as `s == \"abc\"`, or write an array for it, as `char[3]`",
+            )?,
+        ))
     }
 }

@@ -4,6 +4,7 @@ use crate::advice::advice;
 use crate::expected::{Expected, say_expected};
 use crate::front::Front;
 use crate::pattern::Around;
+use crate::sentence::{Part, sentence};
 use pickle_source::budget::Budget;
 use pickle_source::near::nearest;
 use pickle_source::note::Note;
@@ -26,7 +27,7 @@ pub fn syntax_note(alloc: Global, script: &Script<'_>, at: usize) -> Result<Note
     let budget = Budget::new(script);
     let front = Front::new(alloc, script, token, &budget)?;
     let expected = Expected::behind(&front)?;
-    let sentence = sentence(found, &front, expected)?;
+    let sentence = expected_sentence(found, &front, expected)?;
     let help = help(script, token, &front, expected, &budget)?;
     let note = Note {
         at: if found.is_empty() {
@@ -45,27 +46,29 @@ pub fn syntax_note(alloc: Global, script: &Script<'_>, at: usize) -> Result<Note
 }
 
 /// The sentence with what may be instead of a token.
-fn sentence(found: &[u8], front: &Front<'_>, expected: Expected) -> Result<Vec<u8>, AllocError> {
-    let text = Text::new(front.alloc);
-    let text = if found.is_empty() {
-        text.say(b"found the end of the pickle, expected ")?
+fn expected_sentence(
+    found: &[u8],
+    front: &Front<'_>,
+    expected: Expected,
+) -> Result<Vec<u8>, AllocError> {
+    let words: &[u8] = if found.is_empty() {
+        b"found the end of the pickle, expected "
     } else {
-        text.say(b"found ")?.quote(found)?.say(b", expected ")?
+        b"found `$0`, expected "
     };
+    let text = sentence(front.alloc, words, &[Part::Word(found)])?;
     let text = say_expected(text, front, expected)?;
     Ok(text.into_bytes())
 }
 
 /// A note at the same place, without what may be there.
 fn brief_note(alloc: Global, found: &[u8], note: Note) -> Result<Note, AllocError> {
-    let text = Text::new(alloc);
-    let text = if found.is_empty() {
-        text.say(b"the pickle ends here, inside a declaration")?
+    let words: &[u8] = if found.is_empty() {
+        b"the pickle ends here, inside a declaration"
     } else {
-        text.say(b"found ")?
-            .quote(found)?
-            .say(b", which is unexpected here")?
+        b"found `$0`, which is unexpected here"
     };
+    let text = sentence(alloc, words, &[Part::Word(found)])?;
     Ok(Note {
         at: note.at,
         length: note.length,
@@ -101,14 +104,18 @@ fn help(
         return Ok(Some(around.say(text, help.as_bytes())?.into_bytes()));
     }
     if let Some(near) = near_word(script, token, front, budget)? {
-        let text = text.say(b"is ")?.quote(near)?.say(b" meant?")?;
-        return Ok(Some(text.into_bytes()));
+        return help_of(front.alloc, b"is `$0` meant?", &[Part::Word(near)]);
     }
     match missing(script, token, front)? {
         Some(help) => Ok(Some(help)),
         None if expected.value => missing_value(script, token, front),
         None => left_over(script, token, front),
     }
+}
+
+/// A help of these words. In them `$0` to `$9` represent the parts.
+fn help_of(alloc: Global, words: &[u8], parts: &[Part<'_>]) -> Result<Option<Vec<u8>>, AllocError> {
+    Ok(Some(sentence(alloc, words, parts)?.into_bytes()))
 }
 
 /// The help for an expression that ends before a value.
@@ -120,9 +127,8 @@ fn missing_value(
     if !matches!(script.text(token), b"]" | b")" | b"}" | b";") {
         return Ok(None);
     }
-    let text = Text::new(front.alloc).say(b"is a value missing after ")?;
-    let text = text.quote(script.text_before(token))?.say(b"?")?;
-    Ok(Some(text.into_bytes()))
+    let before = Part::Word(script.text_before(token));
+    help_of(front.alloc, b"is a value missing after `$0`?", &[before])
 }
 
 /// Whether a token comes after a comment that has the start of another in it.
@@ -153,9 +159,9 @@ fn closing_help(
         _ => return Ok(None),
     };
     if front.goes_on(unit)? {
-        let text = Text::new(front.alloc).say(b"an offset has a unit: write `")?;
-        let text = text.show(script.slice(offset_before(script, token)))?;
-        return Ok(Some(text.say(first)?.say(b",B>`")?));
+        let offset = Part::Whole(script.slice(offset_before(script, token)));
+        let words = b"an offset has a unit: write `$0$1,B>`";
+        return Ok(Some(sentence(front.alloc, words, &[offset, Part::Whole(first)])?));
     }
     let parted = Text::new(front.alloc).say(b"> > ")?;
     let parted = parted
@@ -197,13 +203,12 @@ fn left_over(
     if !front.goes_on(text.as_slice())? {
         return Ok(None);
     }
-    let text = Text::new(front.alloc).say(b"leave out ")?;
-    let text = if less.is_empty() {
-        text.say(b"this ")?.quote(found)?
+    let words: &[u8] = if less.is_empty() {
+        b"leave out this `$0`"
     } else {
-        text.say(b"one `>`")?
+        b"leave out one `>`"
     };
-    Ok(Some(text.into_bytes()))
+    help_of(front.alloc, words, &[Part::Word(found)])
 }
 
 /// The first token of the declaration or field that a token is in.
@@ -288,12 +293,9 @@ fn missing(
     }
     match missing_sign(front, found)? {
         Some(sign) => {
-            let text = Text::new(front.alloc)
-                .say(b"is a ")?
-                .quote(sign)?
-                .say(b" missing after ")?;
-            let text = text.quote(script.text(before))?.say(b"?")?;
-            Ok(Some(text.into_bytes()))
+            let before = Part::Word(script.text(before));
+            let words = b"is a `$0` missing after `$1`?";
+            help_of(front.alloc, words, &[Part::Word(sign), before])
         }
         None => Ok(None),
     }

@@ -1,6 +1,7 @@
 //! The types of a pickle that has no type of the requested name.
 
 use crate::expected::say_list;
+use crate::sentence::{Part, sentence};
 use crate::types::declared_before;
 use pickle_source::near::nearest;
 use pickle_source::script::{Script, TokenRange};
@@ -21,19 +22,19 @@ pub fn no_such_type(alloc: Global, pickle: &[u8], name: &[u8]) -> Result<Vec<u8>
         end: script.len(),
     };
     let types = declared_before(alloc, &script, behind)?;
-    let text = Text::new(alloc)
-        .say(b"  no type ")?
-        .quote(name)?
-        .say(b" is declared; ")?;
+    let text = sentence(alloc, b"  no type `$0` is declared; ", &[Part::Word(name)])?;
     let text = say_types(alloc, text, types.as_slice())?.say(b"\n")?;
     let text = match name_help(alloc, pickle, name, types.as_slice())? {
-        Some(help) => text
-            .say(b"  help: ")?
-            .say(help.into_bytes().as_slice())?
-            .say(b"\n")?,
+        Some(help) => say_help(text, help)?,
         None => text,
     };
     Ok(text.into_bytes())
+}
+
+/// Adds the line with what to give instead to the text.
+fn say_help(text: Text, help: Text) -> Result<Text, AllocError> {
+    let help = help.into_bytes();
+    text.say(b"  help: ")?.say(help.as_slice())?.say(b"\n")
 }
 
 /// What to give instead of a name that no declared type has.
@@ -44,12 +45,11 @@ fn name_help(
     types: &[&[u8]],
 ) -> Result<Option<Text>, AllocError> {
     if is_type(alloc, pickle, name)? {
-        let text = Text::new(alloc).say(b"TYPE is a name: write `type Value = ")?;
-        let text = text.show(name)?.say(b";` in the pickle, and give `Value`")?;
-        return Ok(Some(text));
+        let words = b"TYPE is a name: write `type Value = $0;` in the pickle, and give `Value`";
+        return Ok(Some(sentence(alloc, words, &[Part::Whole(name)])?));
     }
     match nearest(alloc, name, types)? {
-        Some(near) => Ok(Some(Text::new(alloc).say(b"is ")?.quote(near)?.say(b" meant?")?)),
+        Some(near) => Ok(Some(sentence(alloc, b"is `$0` meant?", &[Part::Word(near)])?)),
         None => Ok(None),
     }
 }

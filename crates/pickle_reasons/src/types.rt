@@ -5,6 +5,7 @@ use crate::clause::{Declared, Finding, clause_finding};
 use crate::foreign::of_foreign;
 use crate::located::{Located, LocatedField};
 use crate::names::last_type;
+use crate::sentence::{Part, sentence};
 use pickle_source::anatomy::{FieldParts, base, declaration, opening_brace};
 use pickle_source::line_column::place_behind;
 use pickle_source::near::nearest;
@@ -122,11 +123,8 @@ pub fn rule_finding(declared: Declared<'_, '_>, part: TokenRange) -> Result<Find
 
 /// The rule that some tokens break.
 fn broken_rule(alloc: Global, kind: FaultKind, part: TokenRange) -> Result<Finding, AllocError> {
-    Ok(Finding {
-        part,
-        sentence: Text::new(alloc).say(rule_of(kind).as_bytes())?.into_bytes(),
-        help: None,
-    })
+    let rule = Text::new(alloc).say(rule_of(kind).as_bytes())?;
+    Ok(Finding::of(part, rule, None))
 }
 
 /// The finding for a declared name that is declared before.
@@ -135,23 +133,16 @@ fn declared_twice(
     script: &Script<'_>,
     name: TokenRange,
 ) -> Result<Finding, AllocError> {
-    let word = script.slice(name);
-    let text = Text::new(alloc).quote(word)?;
+    let word = Part::Word(script.slice(name));
     let text = match earlier_declaration(script, name) {
         Some(token) => {
-            let line = line_of(script, token);
-            text.say(b" is declared in line ")?
-                .say_number(line)?
-                .say(b" already")?
+            let line = Part::Number(line_of(script, token));
+            sentence(alloc, b"`$0` is declared in line $1 already", &[word, line])?
         }
-        None => text.say(b" is predeclared")?,
+        None => sentence(alloc, b"`$0` is predeclared", &[word])?,
     };
     let help = Text::new(alloc).say(b"choose another name for this type")?;
-    Ok(Finding {
-        part: name,
-        sentence: text.into_bytes(),
-        help: Some(help.into_bytes()),
-    })
+    Ok(Finding::of(name, text, Some(help)))
 }
 
 fn line_of(script: &Script<'_>, token: usize) -> usize {
@@ -175,11 +166,7 @@ fn of_type(declared: Declared<'_, '_>) -> Result<Finding, AllocError> {
         FaultKind::NotHere => {
             let head = TokenRange::single(declared.located.tokens.first);
             let text = Text::new(declared.alloc).say(b"a union has at least one alternative")?;
-            Ok(Finding {
-                part: head,
-                sentence: text.into_bytes(),
-                help: None,
-            })
+            Ok(Finding::of(head, text, None))
         }
         _ => of_base(declared, base_of(declared)),
     }
@@ -205,26 +192,19 @@ fn base_of(declared: Declared<'_, '_>) -> TokenRange {
 /// What is wrong with the widths of an integral struct's fields, which have `width` bits together.
 fn of_widths(declared: Declared<'_, '_>, width: u128) -> Result<Finding, AllocError> {
     let reference = integral_reference(declared.script, declared.located.tokens);
-    let text = Text::new(declared.alloc).say(
-        b"the widths of this struct's fields don't add up to ",
+    let text = sentence(
+        declared.alloc,
+        b"the widths of this struct's fields don't add up to `$0`",
+        &[Part::Word(declared.script.slice(reference))],
     )?;
-    let text = text.quote(declared.script.slice(reference))?;
-    let help = Text::new(declared.alloc).say(b"the width of the fields together is ")?;
-    let help = help.say_number(usize::try_from(width).unwrap_or(usize::MAX))?;
-    let help = if width <= 64 {
-        help
-    } else {
-        help.say(b", and an integral struct has at most 64 bits")?
+    let words: &[u8] = match width {
+        0 => return Ok(Finding::of(reference, text, None)),
+        1..=64 => b"the width of the fields together is $0",
+        _ => b"the width of the fields together is $0, and an integral struct has at most 64 bits",
     };
-    Ok(Finding {
-        part: reference,
-        sentence: text.into_bytes(),
-        help: if width == 0 {
-            None
-        } else {
-            Some(help.into_bytes())
-        },
-    })
+    let width = Part::Number(usize::try_from(width).unwrap_or(usize::MAX));
+    let help = sentence(declared.alloc, words, &[width])?;
+    Ok(Finding::of(reference, text, Some(help)))
 }
 
 /// The integer type of an integral struct.
@@ -239,35 +219,29 @@ fn integral_reference(script: &Script<'_>, form: TokenRange) -> TokenRange {
 
 /// What is wrong with a type other than a struct or union, or with the integer type of an integral struct.
 fn of_base(declared: Declared<'_, '_>, base: TokenRange) -> Result<Finding, AllocError> {
-    let script = declared.script;
-    let text = Text::new(declared.alloc);
+    let (alloc, script) = (declared.alloc, declared.script);
     match declared.kind() {
-        FaultKind::UnknownType => unknown_type(declared.alloc, script, name_of(script, base)),
+        FaultKind::UnknownType => unknown_type(alloc, script, name_of(script, base)),
         FaultKind::Width => {
             let part = number_of(script, base, declared.located.form);
-            let text = if script.text_before(part.first) == b",".as_slice() {
-                text.say(b"a unit has 1 to 4294967295 bits, not ")?
+            let words: &[u8] = if script.text_before(part.first) == b",".as_slice() {
+                b"a unit has 1 to 4294967295 bits, not $0"
             } else {
-                text.say(b"an integer has 1 to 64 bits, not ")?
+                b"an integer has 1 to 64 bits, not $0"
             };
-            let text = text.say(script.slice(part))?;
-            Ok(Finding {
-                part,
-                sentence: text.into_bytes(),
-                help: None,
-            })
+            let text = sentence(alloc, words, &[Part::Whole(script.slice(part))])?;
+            Ok(Finding::of(part, text, None))
         }
         FaultKind::Mismatch => {
             let part = name_of(script, base);
-            let text = text.say(b"an integer type must come here, and ")?;
-            let text = text.quote(script.slice(part))?.say(b" isn't one")?;
-            Ok(Finding {
-                part,
-                sentence: text.into_bytes(),
-                help: None,
-            })
+            let text = sentence(
+                alloc,
+                b"an integer type must come here, and `$0` isn't one",
+                &[Part::Word(script.slice(part))],
+            )?;
+            Ok(Finding::of(part, text, None))
         }
-        kind => broken_rule(declared.alloc, kind, base),
+        kind => broken_rule(alloc, kind, base),
     }
 }
 
@@ -308,35 +282,36 @@ pub fn unknown_type(
     script: &Script<'_>,
     name: TokenRange,
 ) -> Result<Finding, AllocError> {
+    let word = Part::Word(script.slice(name));
+    let text = sentence(alloc, b"no type `$0` is declared before this", &[word])?;
+    let help = unknown_type_help(alloc, script, name)?;
+    Ok(Finding::of(name, text, help))
+}
+
+/// What to write instead of a name that no declared type has.
+fn unknown_type_help(
+    alloc: Global,
+    script: &Script<'_>,
+    name: TokenRange,
+) -> Result<Option<Text>, AllocError> {
     let word = script.slice(name);
-    let text = Text::new(alloc).say(b"no type ")?.quote(word)?;
-    let text = text.say(b" is declared before this")?;
     let mut known = declared_before(alloc, script, name)?;
     known.extend_from_slice(PREDECLARED.as_slice())?;
     let later = (name.end..script.len()).find(|token| is_declared_as(script, *token, word));
     let help = match (of_foreign(word), later) {
         _ if script.text_before(name.first) == b"struct".as_slice() => {
-            Some(Text::new(alloc).say(NAMELESS.as_bytes())?)
+            Text::new(alloc).say(NAMELESS.as_bytes())?
         }
-        _ if is_type_behind(script, name, known.as_slice()) => {
-            Some(turned_round(alloc, script, name)?)
-        }
-        (Some(help), _) => Some(Text::new(alloc).say(help.as_bytes())?),
-        (None, Some(token)) => {
-            let text = Text::new(alloc).say(b"it is declared in line ")?;
-            let text = text.say_number(line_of(script, token))?;
-            Some(text.say(b": move that declaration before this one")?)
-        }
-        (None, None) => near_type(alloc, script, name, known.as_slice())?,
+        _ if is_type_behind(script, name, known.as_slice()) => turned_round(alloc, script, name)?,
+        (Some(help), _) => Text::new(alloc).say(help.as_bytes())?,
+        (None, Some(token)) => sentence(
+            alloc,
+            b"it is declared in line $0: move that declaration before this one",
+            &[Part::Number(line_of(script, token))],
+        )?,
+        (None, None) => return near_type(alloc, script, name, known.as_slice()),
     };
-    Ok(Finding {
-        part: name,
-        sentence: text.into_bytes(),
-        help: match help {
-            Some(help) => Some(help.into_bytes()),
-            None => None,
-        },
-    })
+    Ok(Some(help))
 }
 
 /// What to write for a struct with a name before its brace.
@@ -361,10 +336,13 @@ fn is_type_behind(script: &Script<'_>, name: TokenRange, known: &[&[u8]]) -> boo
 
 /// The help for a field with its name before its type.
 fn turned_round(alloc: Global, script: &Script<'_>, name: TokenRange) -> Result<Text, AllocError> {
-    let form = script.text(token_behind(script, name));
-    let text = Text::new(alloc).say(b"the type comes before the name: write `")?;
-    let text = text.show(form)?.say(b" ")?.show(script.slice(name))?;
-    text.say(b";`")
+    let form = Part::Whole(script.text(token_behind(script, name)));
+    let name = Part::Whole(script.slice(name));
+    sentence(
+        alloc,
+        b"the type comes before the name: write `$0 $1;`",
+        &[form, name],
+    )
 }
 
 fn near_type(
@@ -380,7 +358,7 @@ fn near_type(
         return Ok(Some(width.help(alloc)?));
     }
     match nearest(alloc, script.slice(name), known)? {
-        Some(near) => Ok(Some(Text::new(alloc).say(b"is ")?.quote(near)?.say(b" meant?")?)),
+        Some(near) => Ok(Some(sentence(alloc, b"is `$0` meant?", &[Part::Word(near)])?)),
         None if is_alone(script, name) => Ok(Some(typeless_help(alloc, script, name)?)),
         None => Ok(None),
     }
@@ -394,10 +372,11 @@ fn is_alone(script: &Script<'_>, name: TokenRange) -> bool {
 
 /// The help for a field without a type.
 fn typeless_help(alloc: Global, script: &Script<'_>, name: TokenRange) -> Result<Text, AllocError> {
-    let text = Text::new(alloc).say(
-        b"if this is a field's name, write its type before it, as `byte ",
-    )?;
-    text.show(script.slice(name))?.say(b";`")
+    sentence(
+        alloc,
+        b"if this is a field's name, write its type before it, as `byte $0;`",
+        &[Part::Whole(script.slice(name))],
+    )
 }
 
 /// An integer type that is named as in other languages: `uint12`, `INT24`, `u48`.
@@ -425,25 +404,18 @@ impl Width {
 
     /// What to write for it. An integer of more than 64 bits is bytes.
     fn help(self, alloc: Global) -> Result<Text, AllocError> {
-        let text = Text::new(alloc);
-        match self.bits {
-            1..=64 => {
-                let front = if self.signed {
-                    b"int<".as_slice()
-                } else {
-                    b"uint<".as_slice()
-                };
-                text.say(b"write `")?
-                    .say(front)?
-                    .say_number(self.bits as usize)?
-                    .say(b">`")
+        let (words, number): (&[u8], u64) = match self.bits {
+            bits @ 1..=64 if self.signed => (b"write `int<$0>`", bits),
+            bits @ 1..=64 => (b"write `uint<$0>`", bits),
+            bits if bits % 8 == 0 && bits != 0 => {
+                (
+                    b"an integer has at most 64 bits: write `byte[$0]`",
+                    bits / 8,
+                )
             }
-            bits if bits % 8 == 0 && bits != 0 => text
-                .say(b"an integer has at most 64 bits: write `byte[")?
-                .say_number((bits / 8) as usize)?
-                .say(b"]`"),
-            _ => text.say(b"an integer has 1 to 64 bits, as `uint<12>`"),
-        }
+            _ => (b"an integer has 1 to 64 bits, as `uint<12>`", 0),
+        };
+        sentence(alloc, words, &[Part::Number(number as usize)])
     }
 }
 
@@ -483,14 +455,14 @@ fn of_name(declared: Declared<'_, '_>) -> Result<Finding, AllocError> {
     let Some(field) = declared.located.field else {
         return rule_finding(declared, declared.located.tokens);
     };
-    let text = Text::new(declared.alloc).say(b"this struct or union has a field ")?;
-    let text = text.quote(declared.script.slice(field.parts.name))?;
+    let name = field.parts.name;
+    let text = sentence(
+        declared.alloc,
+        b"this struct or union has a field `$0` already",
+        &[Part::Word(declared.script.slice(name))],
+    )?;
     let help = Text::new(declared.alloc).say(b"choose another name for this one")?;
-    Ok(Finding {
-        part: field.parts.name,
-        sentence: text.say(b" already")?.into_bytes(),
-        help: Some(help.into_bytes()),
-    })
+    Ok(Finding::of(name, text, Some(help)))
 }
 
 /// The finding for the part of a field that may not be where it is. `wide` says whether its type has a width in bits.
@@ -499,16 +471,10 @@ fn of_place(declared: Declared<'_, '_>, wide: bool) -> Result<Finding, AllocErro
     let Some(field) = declared.located.field else {
         return rule_finding(declared, declared.located.tokens);
     };
-    let (part, sentence) = misplaced_part(field, wide);
+    let (part, words) = misplaced_part(field, wide);
     let help = misplaced_help(alloc, script, &field.parts, part)?;
-    Ok(Finding {
-        part,
-        sentence: Text::new(alloc).say(sentence.as_bytes())?.into_bytes(),
-        help: match help {
-            Some(help) => Some(help.into_bytes()),
-            None => None,
-        },
-    })
+    let text = Text::new(alloc).say(words.as_bytes())?;
+    Ok(Finding::of(part, text, help))
 }
 
 /// What to write instead of a part of a field that may not be there.
@@ -518,15 +484,14 @@ fn misplaced_help(
     parts: &FieldParts,
     part: TokenRange,
 ) -> Result<Option<Text>, AllocError> {
-    let text = Text::new(alloc);
     let help = if part == parts.order {
-        order_help(text, script, parts)?
+        order_help(alloc, script, parts)?
     } else if part == parts.condition && is_in_union(script, parts.whole.first) {
-        condition_help(text, script, parts)?
+        condition_help(alloc, script, parts)?
     } else if part == parts.condition {
-        text.say(b"leave it out: an integral struct has all of its fields")?
+        Text::new(alloc).say(b"leave it out: an integral struct has all of its fields")?
     } else if part == parts.label {
-        text.say(b"leave it out, or write a `struct`, whose fields have labels")?
+        Text::new(alloc).say(b"leave it out, or write a `struct`, whose fields have labels")?
     } else {
         return Ok(None);
     };
@@ -534,43 +499,50 @@ fn misplaced_help(
 }
 
 /// The help for a byte order where none may be.
-fn order_help(text: Text, script: &Script<'_>, parts: &FieldParts) -> Result<Text, AllocError> {
-    let order = script.slice(parts.order);
+fn order_help(alloc: Global, script: &Script<'_>, parts: &FieldParts) -> Result<Text, AllocError> {
+    let order = Part::Whole(script.slice(parts.order));
     let base = base(script, parts.form);
     if let Some(brace) = integral_brace(script, parts.whole.first) {
-        return integral_order_help(text, script, order, brace);
+        return integral_order_help(alloc, script, order, brace);
     }
     if script.text(parts.form.first) == b"string".as_slice() {
-        return text.say(b"leave it out: the bytes of a string have no order");
+        return Text::new(alloc).say(b"leave it out: the bytes of a string have no order");
     }
     if base.end < parts.form.end && opening_brace(script, base).is_none() {
-        let text = text.say(b"write `struct { ")?.show(order)?.say(b" ")?;
-        let text = text.show(script.slice(base))?.say(b" x; }")?;
         let suffix = TokenRange {
             first: base.end,
             end: parts.name.end,
         };
-        return text.show(script.slice(suffix))?.say(b";`");
+        let base = Part::Whole(script.slice(base));
+        let suffix = Part::Whole(script.slice(suffix));
+        return sentence(
+            alloc,
+            b"write `struct { $0 $1 x; }$2;`",
+            &[order, base, suffix],
+        );
     }
-    text.say(b"write it before the fields inside")
+    Text::new(alloc).say(b"write it before the fields inside")
 }
 
 /// The help for an alternative with a condition.
-fn condition_help(text: Text, script: &Script<'_>, parts: &FieldParts) -> Result<Text, AllocError> {
+fn condition_help(
+    alloc: Global,
+    script: &Script<'_>,
+    parts: &FieldParts,
+) -> Result<Text, AllocError> {
     let named = TokenRange {
         first: parts.whole.first,
         end: parts.name.end,
     };
-    let text = text.say(b"write it as a constraint: `")?;
-    let text = text.show(script.slice(named))?.say(b" : ")?;
-    let text = if parts.constraint.first < parts.constraint.end {
-        let text = text.say(b"(")?.show(script.slice(parts.constraint))?;
-        let text = text.say(b") && (")?.show(script.slice(parts.condition))?;
-        text.say(b")")?
+    let named = Part::Whole(script.slice(named));
+    let condition = Part::Whole(script.slice(parts.condition));
+    let constraint = Part::Whole(script.slice(parts.constraint));
+    let words: &[u8] = if parts.constraint.first < parts.constraint.end {
+        b"write it as a constraint: `$0 : ($2) && ($1);`"
     } else {
-        text.show(script.slice(parts.condition))?
+        b"write it as a constraint: `$0 : $1;`"
     };
-    text.say(b";`")
+    sentence(alloc, words, &[named, condition, constraint])
 }
 
 /// Whether the innermost braces around a token are those of a union.
@@ -583,17 +555,22 @@ fn is_in_union(script: &Script<'_>, token: usize) -> bool {
 
 /// The help for a byte order inside an integral struct with its `{` at `brace`.
 fn integral_order_help(
-    text: Text,
+    alloc: Global,
     script: &Script<'_>,
-    order: &[u8],
+    order: Part<'_>,
     brace: usize,
 ) -> Result<Text, AllocError> {
     if brace_around(script, brace).is_some() {
-        return text.say(b"leave it out here, and write it before the `struct` around it");
+        return Text::new(alloc).say(
+            b"leave it out here, and write it before the `struct` around it",
+        );
     }
     let name = script.text(last_type(script, brace).saturating_add(1));
-    let text = text.say(b"leave it out here, and write it where the type is used, as `")?;
-    text.show(order)?.say(b" ")?.show(name)?.say(b" x;`")
+    sentence(
+        alloc,
+        b"leave it out here, and write it where the type is used, as `$0 $1 x;`",
+        &[order, Part::Whole(name)],
+    )
 }
 
 /// What may not be in a field. `wide` says whether its type has a width in bits.
