@@ -1,9 +1,11 @@
 //! The pickles that are installed with the program. `+NAME` instead of a pickle's path names one.
+use crate::reason_text::{add, add_word};
 use jobs::FileFault;
 use pickle_source::near::nearest;
 use poke_batch::pickle::PickleFault;
 use std::alloc::{AllocError, Global};
 use std::env::VarError;
+use std::io::{self, ErrorKind};
 use std::rt::{Env, Files};
 use std::{env, fs};
 
@@ -62,17 +64,33 @@ pub fn pickles_in<R: Files + AllocGlobal + Clone + Drop>(
     folder: &str,
 ) -> Result<Vec<String>, FileFault> {
     let mut names = Vec::new(rt.alloc());
-    let Ok(entries) = fs::read_dir(rt, folder) else {
-        return Err(PickleFault::Read.into());
-    };
+    let entries = fs::read_dir(rt, folder).map_err(unread)?;
     for entry in entries {
-        // a name that isn't UTF-8 is no pickle's
-        if let Ok(entry) = entry {
-            push_pickle(rt.alloc(), &mut names, entry.file_name())?;
+        match entry {
+            Ok(entry) => push_pickle(rt.alloc(), &mut names, entry.file_name())?,
+            // a name that isn't UTF-8 is no pickle's
+            Err(error) if error.kind() == ErrorKind::InvalidFilename => {}
+            Err(error) => return Err(unread(error)),
         }
     }
     names.sort()?;
     Ok(names)
+}
+
+// The fault of a folder that isn't read.
+fn unread(error: io::Error) -> FileFault {
+    match error.kind() {
+        ErrorKind::OutOfMemory => FileFault::Memory,
+        _ => PickleFault::Read.into(),
+    }
+}
+
+/// Whether a path names a regular file, so that reading it waits for nobody.
+pub fn is_regular<R: Files>(rt: &R, path: &str) -> bool {
+    match fs::metadata(rt, path) {
+        Ok(file) => file.file_type().is_file(),
+        Err(_) => false,
+    }
 }
 
 // Adds the name of a pickle, if the file's name is that of a pickle.
@@ -122,24 +140,41 @@ pub fn tell_unlisted<R: Files + Env + AllocGlobal + Clone + Drop>(
     rt: &R,
     text: &mut Vec<u8>,
 ) -> Result<(), AllocError> {
-    match pickles_folder(rt)? {
-        Some(folder) if pickles_in(rt, folder.as_str()).is_err() => {
-            tell_folder(folder.as_str(), text)
-        }
-        Some(_) => Ok(()),
-        None => text.extend_from_slice(NO_FOLDER),
+    let Some(folder) = pickles_folder(rt)? else {
+        return text.extend_from_slice(NO_FOLDER);
+    };
+    match pickles_in(rt, folder.as_str()) {
+        Ok(names) => tell_irregular(rt, folder.as_str(), &names, text),
+        Err(FileFault::Memory) => Err(AllocError),
+        Err(_) => tell_folder(folder.as_str(), text),
     }
 }
 
-fn tell_folder(folder: &str, text: &mut Vec<u8>) -> Result<(), AllocError> {
-    for part in [
-        "  the folder ",
-        folder,
-        " can't be read: set POKE_BATCH_PICKLES to that of the pickles\n",
-    ] {
-        text.extend_from_slice(part.as_bytes())?;
+// Adds the pickles in a folder that aren't regular files.
+fn tell_irregular<R: Files + AllocGlobal>(
+    rt: &R,
+    folder: &str,
+    names: &[String],
+    text: &mut Vec<u8>,
+) -> Result<(), AllocError> {
+    for name in names {
+        let path = path_in(rt.alloc(), folder, name.as_str())?;
+        if !is_regular(rt, path.as_str()) {
+            add(text, &["  "])?;
+            add_word(text, path.as_str())?;
+            add(text, &[" isn't a regular file\n"])?;
+        }
     }
     Ok(())
+}
+
+fn tell_folder(folder: &str, text: &mut Vec<u8>) -> Result<(), AllocError> {
+    add(text, &["  the folder "])?;
+    add_word(text, folder)?;
+    add(
+        text,
+        &[" can't be read: set POKE_BATCH_PICKLES to that of the pickles\n"],
+    )
 }
 
 /// If a path names no file, but with a `+` before it an installed pickle, adds that. The path may end as a pickle's does.
@@ -163,10 +198,9 @@ pub fn tell_installed<R: Files + Env + AllocGlobal>(
 }
 
 fn tell_place(folder: &str, name: &str, text: &mut Vec<u8>) -> Result<(), AllocError> {
-    for part in ["  there is no file ", folder, "/", name, ENDING, "\n"] {
-        text.extend_from_slice(part.as_bytes())?;
-    }
-    Ok(())
+    add(text, &["  there is no file "])?;
+    add_word(text, folder)?;
+    add(text, &["/", name, ENDING, "\n"])
 }
 
 fn tell_near(
