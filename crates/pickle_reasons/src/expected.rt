@@ -22,7 +22,7 @@ pub struct Expected {
 }
 
 /// Tokens that are printed one by one, because no group of tokens has them.
-const SIGNS: [&[u8]; 15] = [
+static SIGNS: [&[u8]; 15] = [
     b"=", b"struct", b"{", b"}", b"[", b"]", b")", b",", b">", b":", b"@", b"if", b";", b"b", b"B",
 ];
 
@@ -93,9 +93,9 @@ fn push_signs(
     front: &Front<'_>,
     expected: Expected,
 ) -> Result<(), AllocError> {
-    for sign in SIGNS {
-        if !is_grouped(sign, expected) && front.goes_on(sign)? {
-            words.push(Text::new(front.alloc).quote(sign)?.into_bytes())?;
+    for sign in SIGNS.as_slice() {
+        if !is_grouped(*sign, expected) && front.goes_on(*sign)? {
+            words.push(Text::new(front.alloc).quote(*sign)?.into_bytes())?;
         }
     }
     Ok(())

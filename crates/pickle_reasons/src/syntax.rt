@@ -13,12 +13,12 @@ use pickle_source::text::Text;
 use std::alloc::{AllocError, Global};
 
 /// Reserved words that may be meant where a near word is written.
-const RESERVED: [&[u8]; 9] = [
+static RESERVED: [&[u8]; 9] = [
     b"type", b"struct", b"union", b"pinned", b"big", b"little", b"if", b"as", b"string",
 ];
 
 /// The signs that end a part of a pickle. One of them may be missing.
-const CLOSING: [&[u8]; 6] = [b")", b"]", b"}", b";", b"=", b">"];
+static CLOSING: [&[u8]; 6] = [b")", b"]", b"}", b";", b"=", b">"];
 
 /// What is wrong at a byte at which no pickle can go on.
 pub fn syntax_note(alloc: Global, script: &Script<'_>, at: usize) -> Result<Note, AllocError> {
@@ -303,10 +303,10 @@ fn missing(
 
 /// The closing sign that may be after the start of a pickle, and before a token.
 fn missing_sign(front: &Front<'_>, found: &[u8]) -> Result<Option<&'static [u8]>, AllocError> {
-    for sign in CLOSING {
-        let text = Text::new(front.alloc).say(sign)?.say(b" ")?.say(found)?;
+    for sign in CLOSING.as_slice() {
+        let text = Text::new(front.alloc).say(*sign)?.say(b" ")?.say(found)?;
         if front.goes_on(text.into_bytes().as_slice())? {
-            return Ok(Some(sign));
+            return Ok(Some(*sign));
         }
     }
     Ok(None)

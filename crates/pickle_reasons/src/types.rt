@@ -440,7 +440,7 @@ pub fn declared_before<'t>(
 }
 
 /// The predeclared types.
-const PREDECLARED: [&[u8]; 18] = [
+static PREDECLARED: [&[u8]; 18] = [
     b"bit", b"nibble", b"byte", b"char", b"short", b"ushort", b"int", b"uint", b"long", b"ulong",
     b"int8", b"int16", b"int32", b"int64", b"uint8", b"uint16", b"uint32", b"uint64",
 ];
