@@ -1,5 +1,5 @@
 -- What the parser finds for a program that is simple.
-use Rattle.std.proofs.Common.{◌≡◌, ◌∙◌, true, ℕ, List, [], Result, Ok, Err, IfOk, IfErr, refl, sym, ap, subst}
+use Rattle.std.proofs.Common.{◌≡◌, ◌∙◌, true, ℕ, List, [], Result, Ok, Err, IfOk, IfErr, sym, ap, subst}
 use Rattle.clap.specs.Simple.{App, HasMatchesOf, app_of, is_simple, subcommand_of, subcommand_rows_of}
 use Rattle.clap.specs.Faults.{fault_of, is_simple_and_free}
 use Rattle.clap.specs.Kinds.{FailsBy, HasKind}
