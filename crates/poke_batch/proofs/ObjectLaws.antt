@@ -36,7 +36,7 @@ use Rattle.value_text.specs.Styled.{with_chars}
 use Rattle.value_text.specs.StyledJson.{styled_json}
 use Rattle.value_text.proofs.JsonWords.{natural_is, string_is}
 use Rattle.value_text.proofs.JsonValues.{bare, MoreElements, no_element, more_elements, MoreEntries, no_entry, more_entries, InList, without_elements, with_elements, element_then, entry_then, list_is, entry_is}
-use Rattle.value_text.proofs.StyledJsonValues.{styled_text_reads}
+use Rattle.value_text.proofs.StyledJsonValues.{json_text_reads, if_cut}
 use Rattle.poke_batch.specs.FileLine.{name_byte, shown_name, in_memory}
 use Rattle.poke_batch.specs.FileObject.{HoldsRun, file_object, name_json, before_lines, text_lines, without_end, without_indent, lines_json, why_member}
 use Rattle.poke_batch.specs.declared.each.Kept.{Kept}
@@ -250,8 +250,9 @@ module _ (pickle : List ℕ) (ask : Ask) (terms : Terms) (before : SpaceView) (k
         (sym (h ∙ json_part table id ask terms mapped part json_mode none all))
         (subst (λ o. Reads (file_object name o (text ++ codes "\n") reasons) object_is) (sym done)
         (object_reads name text reasons (part_json table id terms mapped part) n r
-        (styled_text_reads (nodes_of table) (char_node_of table) (part_node table id terms mapped) terms.style part
-        (part_small terms.part mapped part small found) (part_few terms.part mapped part few found))));
+        (json_text_reads (nodes_of table) (char_node_of table) (part_node table id terms mapped) terms.style part
+        (part_small terms.part mapped part small found)
+        (if_cut terms.style.elements (part_few terms.part mapped part few found)))));
   }
     where
       object_is : value.Json

@@ -1,5 +1,5 @@
 -- The laws of what runs write.
-use Rattle.std.proofs.Common.{◌≡◌, ◌*◌, ◌^◌, ◌<◌, ℕ, Bool, true, false, List, Option, Some, None, Ok, length, codes, inl, inr, refl, sym, ap, ◌∙◌, subst, arith}
+use Rattle.std.proofs.Common.{◌≡◌, ◌*◌, ◌^◌, ◌<◌, ℕ, Bool, true, false, List, [], Option, Some, None, Ok, length, codes, inl, inr, refl, sym, ap, ◌∙◌, subst, arith}
 use Rattle.std.specs.Prelude.{nat_le, if◌then◌else◌}
 use Rattle.std.specs.Io.KnownBytes.{Appends}
 use Rattle.bit_space.specs.SpaceView.{SpaceView}
@@ -19,7 +19,7 @@ use Rattle.run_parts.specs.declared.status.Status.{Status}
 use Rattle.run_parts.specs.declared.status.Status.TheVariants.{Done, Fault, Refused, Outside}
 use Rattle.command_line.specs.declared.terms.Terms.{Terms}
 use Rattle.value_text.specs.Json.{Reads}
-use Rattle.value_text.specs.JsonValue.{json_of}
+use Rattle.value_text.specs.StyledJsonValue.{json_of}
 use Rattle.run_parts.specs.Lines.{fault_line, fault_at_line}
 use Rattle.poke_batch.specs.PathParts.{part_at}
 use Rattle.value_text.specs.Printed.{printed}
@@ -28,8 +28,7 @@ use Rattle.poke_batch.specs.Runs.{IsAsked, HasAnswer, MapsAs, value, stops, devi
 use Rattle.poke_batch.specs.RunsUnder.{text_saying, is_left, part_saying, part_text, part_has, kept_saying, value_saying, MapsUnder, mapped_under, ended_under, slots_under}
 use Rattle.value_text.specs.SmallParts.{HasSmallParts, HasFewMembers}
 use Rattle.run_parts.specs.Told.{Saying, Text, Line, IsSaid, IsTold, IsWritten}
-use Rattle.value_text.proofs.JsonValues.{json_reads_back}
-use Rattle.value_text.proofs.StyledJsonValues.{styled_json_reads_back}
+use Rattle.value_text.proofs.StyledJsonValues.{json_reads_back, if_cut}
 use Rattle.text_output.specs.Styles.{plain}
 use Rattle.pickle_types.specs.declared.table.Table.{Table}
 use Rattle.pickle_types.specs.declared.table.TypeId.{TypeId}
@@ -177,7 +176,7 @@ module _ (pickle : List ℕ) (ask : Ask) (before : SpaceView) (status : Status) 
       text = printed ask.mode part;
       written = h;
       reads = subst (λ m. Reads (printed m part) (json_of part)) (sym mode)
-          (json_reads_back part (part_small path mapped part small found));
+          (json_reads_back [] None None plain part (part_small path mapped part small found) tt);
     }
       where
         small : HasSmallParts mapped
@@ -226,8 +225,9 @@ module _ (pickle : List ℕ) (ask : Ask) (before : SpaceView) (status : Status) 
       written = h;
       reads = subst (λ text. Reads text (part_json table id terms mapped part))
           (sym (json_part table id ask terms mapped part mode none all))
-          (styled_json_reads_back (nodes_of table) (char_node_of table) (part_node table id terms mapped) terms.style
-          part (part_small terms.part mapped part small found) (part_few terms.part mapped part few found));
+          (json_reads_back (nodes_of table) (char_node_of table) (part_node table id terms mapped) terms.style
+          part (part_small terms.part mapped part small found)
+          (if_cut terms.style.elements (part_few terms.part mapped part few found)));
     }
       where
         small : HasSmallParts mapped

@@ -19,9 +19,9 @@ use Rattle.run_parts.specs.declared.status.Status.{Status}
 use Rattle.run_parts.specs.declared.status.Status.TheVariants.{Done}
 use Rattle.command_line.specs.declared.terms.Terms.{Terms}
 use Rattle.value_text.specs.Json.{Reads}
-use Rattle.value_text.specs.JsonValue.{Json, json_of}
+use Rattle.value_text.specs.JsonValue.{Json}
 use Rattle.value_text.specs.Styled.{with_chars}
-use Rattle.value_text.specs.StyledJsonValue.{styled_json_of}
+use Rattle.value_text.specs.StyledJsonValue.{styled_json_of, json_of}
 use Rattle.poke_batch.specs.PathParts.{part_at, node_at}
 use Rattle.poke_batch.specs.Runs.{IsAsked, HasAnswer, MapsAs}
 use Rattle.poke_batch.specs.RunsUnder.{MapsUnder, part_text}

@@ -11,7 +11,8 @@ use Rattle.text_output.specs.declared.style.Style.{Style}
 use Rattle.text_output.specs.Brackets.{in_brackets}
 use Rattle.value_text.specs.ValueText.{string_text, title_text, name_text, comma}
 use Rattle.value_text.specs.TreeText.{indent_text, prefix_text, line_text, has_parts}
-use Rattle.value_text.specs.JsonText.{json_string, key_text, key_before, no_key}
+use Rattle.value_text.specs.JsonText.{json_string, key_text}
+use Rattle.value_text.specs.Notation.{json, keys, no_key}
 use Rattle.value_text.specs.PathText.{field_step, step_text, path_text}
 use Rattle.value_text.specs.LinesText.{bits_cell, place_cells, any_present, is_parted}
 use Rattle.value_text.specs.CutArrays.{limit_of, is_past, more_text, more_member, more_line, more_item}
@@ -332,12 +333,12 @@ no_key_short : IsShortBefore no_key ArrayLabel
 no_key_short place = omega arith
 
 struct_key_short : (name : Naming) (fields : List Naming) →
-    IsShortBefore (key_before (StructLabel name fields)) (StructLabel name fields)
+    IsShortBefore (keys json (StructLabel name fields)) (StructLabel name fields)
 struct_key_short name fields place =
     omega (arith, length-append (key_text (member_name (StructLabel name fields) place) place) (codes ":"))
 
 union_key_short : (name : Naming) (index : ℕ) (alternative : Naming) →
-    IsShortBefore (key_before (UnionLabel name index alternative)) (UnionLabel name index alternative)
+    IsShortBefore (keys json (UnionLabel name index alternative)) (UnionLabel name index alternative)
 union_key_short name index alternative place =
     omega (arith, length-append (key_text (member_name (UnionLabel name index alternative) place) place) (codes ":"))
 
@@ -359,13 +360,13 @@ module _ (style : Style) where
       → length (styled_json style value) ≤ (size_in (form_of style Json) value).text
       → length (styled_json_members style limit before (suc place) false rest)
       ≤ (members_in (form_of style Json) limit label start end (suc place) rest).text
-      → length (((comma first ++ before place) ++ styled_json style value)
+      → length ((comma first ++ (before place ++ styled_json style value))
       ++ styled_json_members style limit before (suc place) false rest)
       ≤ (both
       (moved (member_before Json label place) (member_moves Json label place) (size_in (form_of style Json) value))
       (members_in (form_of style Json) limit label start end (suc place) rest)).text
   json_member_short limit before label h start end place first value rest one more =
-      let front = comma first ++ before place in
+      let text = before place ++ styled_json style value in
       omega (
         arith,
         one,
@@ -373,10 +374,9 @@ module _ (style : Style) where
         comma_short first,
         h place,
         json_moves label place (size_in (form_of style Json) value).lines,
-        length-append (front ++ styled_json style value)
-            (styled_json_members style limit before (suc place) false rest),
-        length-append front (styled_json style value),
-        length-append (comma first) (before place),
+        length-append (comma first ++ text) (styled_json_members style limit before (suc place) false rest),
+        length-append (comma first) text,
+        length-append (before place) (styled_json style value),
       )
 
   mutual
@@ -396,7 +396,7 @@ module _ (style : Style) where
           length-append text (codes "]"),
         )
     json_short (Mapped (StructLabel name fields) start end members) =
-        let before = key_before (StructLabel name fields) in
+        let before = keys json (StructLabel name fields) in
         omega (
           arith,
           json_members_short None before (StructLabel name fields) (struct_key_short name fields)
@@ -404,7 +404,7 @@ module _ (style : Style) where
           length-append (styled_json_members style None before 0 true members) (codes "}"),
         )
     json_short (Mapped (UnionLabel name index alternative) start end members) =
-        let before = key_before (UnionLabel name index alternative) in
+        let before = keys json (UnionLabel name index alternative) in
         omega (
           arith,
           json_members_short None before (UnionLabel name index alternative) (union_key_short name index alternative)

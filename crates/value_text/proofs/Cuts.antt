@@ -3,6 +3,7 @@ use Rattle.std.proofs.Common.{◌≡◌, ◌≢◌, ℕ, zero, suc, ◌+◌, ◌
 use Rattle.std.specs.Prelude.{nat_lt, ◌==◌}
 use Rattle.std.proofs.lemmas.Bool.{cases_Bool}
 use Rattle.text_output.specs.declared.style.Style.{Style}
+use Rattle.text_output.specs.Styles.{plain}
 use Rattle.value_store.specs.declared.value.Kind.TheVariants as kind
 use Rattle.pickle_meaning.specs.Values.{Value, Label, IntegerLabel, OffsetLabel, TextLabel, ArrayLabel, StructLabel, UnionLabel, Members, NoMembers, MemberThen, AbsentThen, member_at, member_count}
 use Rattle.value_store.specs.Labels.{kind_of}
@@ -28,6 +29,15 @@ limit_of_other style (StructLabel name fields) e = refl
 limit_of_other style (UnionLabel name index alternative) e = refl
 
 pub ruleset by_kind = (limit_of_array, limit_of_other)
+
+-- the plain style leaves nothing out
+pub plain_limit : (label : Label) → limit_of plain label ≡ None
+plain_limit (IntegerLabel number type) = refl
+plain_limit (OffsetLabel magnitude type unit) = refl
+plain_limit (TextLabel bytes) = refl
+plain_limit ArrayLabel = refl
+plain_limit (StructLabel name fields) = refl
+plain_limit (UnionLabel name index alternative) = refl
 
 -- the members that are printed aren't past the limit, and the next one is
 pub kept_before : (limit : Option ℕ) (count i : ℕ) → i < kept_count limit count → is_past limit i ≡ false

@@ -1,12 +1,15 @@
 -- The lines of a value: one for each part that has no parts itself, in order, each under a path that leads to its part.
-use Rattle.std.proofs.Common.{◌≡◌, ◌∙◌, ℕ, zero, suc, ◌+◌, ◌<◌, ◌≤◌, true, false, List, [], ◌∷◌, ◌++◌, Some, length, get_or, refl, inl, inr, sym, ap, subst, arith}
+use Rattle.std.proofs.Common.{◌≡◌, ◌∙◌, ℕ, zero, suc, ◌+◌, ◌<◌, ◌≤◌, true, false, List, [], ◌∷◌, ◌++◌, Some, None, length, get_or, refl, inl, inr, sym, ap, subst, arith}
 use Rattle.std.specs.Prelude.{Contains, if◌then◌else◌}
 use Rattle.std.proofs.lemmas.Bool.{cases_Bool}
 use Rattle.std.proofs.lemmas.List.{append-nil, append_assoc}
 use Rattle.std.proofs.lemmas.List.Elements.{Contains-append_left, Contains-append_right}
 use Rattle.pickle_meaning.specs.Values.{Label, Value, Mapped, Members, NoMembers, MemberThen, AbsentThen, label_of, members_of, member_at}
 use Rattle.value_text.specs.PathText.{step_text}
-use Rattle.value_text.specs.LinesText.{is_parted, leaf_line, leaves_text, branches_text}
+use Rattle.text_output.specs.Styles.{plain}
+use Rattle.value_text.specs.LinesText.{is_parted}
+use Rattle.value_text.specs.StyledLeaves.{styled_leaf, styled_leaves, styled_branches}
+use Rattle.value_text.proofs.Cuts.{plain_limit}
 use Rattle.value_text.specs.LineParts.{LeadsBy, here, further, Line, IsLineOf, IsBefore, lower, deeper, IsBeforeAll, AreInOrder, AreLinesOf, lines_text, NamesParts}
 use Rattle.value_text.specs.Laws.{LinesNameParts}
 
@@ -40,47 +43,48 @@ abbrev mutual
 -- the text of lines of a part to which steps lead
 abbrev text_behind : (steps : List ℕ) → List Line → List ℕ
 text_behind steps [] = []
-text_behind steps (line ∷ lines) = leaf_line (steps ++ line.steps) line.part ++ text_behind steps lines
+text_behind steps (line ∷ lines) = styled_leaf plain (steps ++ line.steps) line.part ++ text_behind steps lines
 
 behind_append : (steps : List ℕ) (a b : List Line) →
     text_behind steps (a ++ b) ≡ text_behind steps a ++ text_behind steps b
 behind_append steps [] b = refl
 behind_append steps (line ∷ a) b =
-    ap (λ t. leaf_line (steps ++ line.steps) line.part ++ t) (behind_append steps a b)
-    ∙ sym (append_assoc (leaf_line (steps ++ line.steps) line.part) (text_behind steps a) (text_behind steps b))
+    ap (λ t. styled_leaf plain (steps ++ line.steps) line.part ++ t) (behind_append steps a b)
+    ∙ sym (append_assoc (styled_leaf plain (steps ++ line.steps) line.part) (text_behind steps a) (text_behind steps b))
 
 behind_over : (steps : List ℕ) (place : ℕ) (step : List ℕ) (lines : List Line) →
     text_behind steps (all_over place step lines) ≡ text_behind (steps ++ step) lines
 behind_over steps place step [] = refl
 behind_over steps place step (line ∷ lines) =
-    ap (λ s. leaf_line s line.part ++ text_behind steps (all_over place step lines))
+    ap (λ s. styled_leaf plain s line.part ++ text_behind steps (all_over place step lines))
     (sym (append_assoc steps step line.steps))
-    ∙ ap (λ t. leaf_line ((steps ++ step) ++ line.steps) line.part ++ t) (behind_over steps place step lines)
+    ∙ ap (λ t. styled_leaf plain ((steps ++ step) ++ line.steps) line.part ++ t) (behind_over steps place step lines)
 
 behind_none : (lines : List Line) → text_behind [] lines ≡ lines_text lines
 behind_none [] = refl
-behind_none (line ∷ lines) = ap (λ t. leaf_line line.steps line.part ++ t) (behind_none lines)
+behind_none (line ∷ lines) = ap (λ t. styled_leaf plain line.steps line.part ++ t) (behind_none lines)
 
 mutual
-  leaves_are : (steps : List ℕ) (value : Value) → leaves_text steps value ≡ text_behind steps (lines_in value)
+  leaves_are : (steps : List ℕ) (value : Value) → styled_leaves plain steps value ≡ text_behind steps (lines_in value)
   leaves_are steps (Mapped label start end all) = elim (cases_Bool (is_parted label all)) [
-    | inl hit ↦ rw hit (branches_are steps label 0 all)
-    | inr miss ↦ rw miss (ap (λ s. leaf_line s (Mapped label start end all)) (sym (append-nil steps))
-        ∙ sym (append-nil (leaf_line (steps ++ []) (Mapped label start end all))))
+    | inl hit ↦ rw (hit, plain_limit label) (branches_are steps (Mapped label start end all) 0 all)
+    | inr miss ↦ rw miss (ap (λ s. styled_leaf plain s (Mapped label start end all)) (sym (append-nil steps))
+        ∙ sym (append-nil (styled_leaf plain (steps ++ []) (Mapped label start end all))))
   ]
 
-  branches_are : (steps : List ℕ) (label : Label) (place : ℕ) (rest : Members) →
-      branches_text steps label place rest ≡ text_behind steps (lines_among label place rest)
-  branches_are steps label place NoMembers = refl
-  branches_are steps label place (AbsentThen rest) = branches_are steps label (suc place) rest
-  branches_are steps label place (MemberThen value rest) =
-      let step = step_text label place in
-      let front : leaves_text (steps ++ step) value ≡ text_behind steps (all_over place step (lines_in value)) =
+  branches_are : (steps : List ℕ) (owner : Value) (place : ℕ) (rest : Members) →
+      styled_branches plain None steps owner place rest ≡ text_behind steps (lines_among (label_of owner) place rest)
+  branches_are steps owner place NoMembers = refl
+  branches_are steps owner place (AbsentThen rest) = branches_are steps owner (suc place) rest
+  branches_are steps owner place (MemberThen value rest) =
+      let step = step_text (label_of owner) place in
+      let front : styled_leaves plain (steps ++ step) value ≡ text_behind steps (all_over place step (lines_in value)) =
       leaves_are (steps ++ step) value ∙ sym (behind_over steps place step (lines_in value)) in
-      ap (λ t. t ++ branches_text steps label (suc place) rest) front
+      ap (λ t. t ++ styled_branches plain None steps owner (suc place) rest) front
       ∙ ap (λ t. text_behind steps (all_over place step (lines_in value)) ++ t)
-      (branches_are steps label (suc place) rest)
-      ∙ sym (behind_append steps (all_over place step (lines_in value)) (lines_among label (suc place) rest))
+      (branches_are steps owner (suc place) rest)
+      ∙ sym (behind_append steps (all_over place step (lines_in value))
+      (lines_among (label_of owner) (suc place) rest))
 
 -- ---- each is that of a part without parts
 

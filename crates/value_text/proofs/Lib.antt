@@ -5,12 +5,12 @@ pub mod MemberTexts
 pub mod CharTexts
 pub mod WholeParts
 pub mod Cuts
-pub mod StyledTexts
+pub mod WrittenTexts
 pub mod HexTexts
 pub mod PlainTexts
 pub mod RowTexts
 pub mod LineTexts
-pub mod JsonTexts
+pub mod JsonKeys
 pub mod JsonWords
 pub mod JsonValues
 pub mod StyledJsonValues

@@ -1,7 +1,7 @@
 -- The texts of rows of integers.
-use Rattle.std.proofs.Common.{◌≡◌, ℕ, suc, ℤ, ◌+◌, ◌<◌, List, [], ◌∷◌, ◌++◌, length, drop, get_or, codes, decimal, Option, Bool, true, false, None, refl, sym, ap, ◌∙◌, arith}
+use Rattle.std.proofs.Common.{◌≡◌, ℕ, suc, ℤ, ◌+◌, ◌<◌, List, [], ◌∷◌, ◌++◌, length, drop, get_or, decimal, Option, Bool, true, false, refl, sym, ap, ◌∙◌, arith}
 use Rattle.std.specs.Fmt.{signed_decimal}
-use Rattle.std.proofs.lemmas.List.{append-nil, drop_more}
+use Rattle.std.proofs.lemmas.List.{drop_more}
 use Rattle.pickle_types.specs.declared.integer.IntegerType.{IntegerType}
 use Rattle.text_output.specs.declared.style.Numbers.{Numbers}
 use Rattle.text_output.specs.declared.style.Numbers.TheVariants.{Decimal}
@@ -12,113 +12,75 @@ use Rattle.value_store.specs.Labels.{number_of}
 use Rattle.value_store.specs.Integers.{IsIntegerOf, AreBytesOf, byte_members}
 use Rattle.value_text.specs.ValueText.{comma, integer_text}
 use Rattle.value_text.specs.StyledNumbers.{integer_in, json_number}
-use Rattle.value_text.specs.StyledValue.{styled_members}
-use Rattle.value_text.specs.JsonText.{no_key}
-use Rattle.value_text.specs.StyledJson.{styled_json_members}
-use Rattle.value_text.specs.JsonParts.{elements_json, bytes_json}
+use Rattle.value_text.specs.Notation.{Notation, no_key}
+use Rattle.value_text.specs.StyledValue.{written_members}
 use Rattle.value_text.specs.CutArrays.{is_past, is_cut}
-use Rattle.value_text.specs.PartText.{type_of, member_text, elements_text, byte_type, byte_row_text}
+use Rattle.value_text.specs.PartText.{type_of, element_text, integer_element, elements_text, byte_type, flat_byte, byte_text, row_text}
 use Rattle.value_text.proofs.Cuts.{whole_before}
 
--- an integer as a member without a name
-pub row_text : (style : Style) (first : Bool) (v : Value) (type : IntegerType) → IsIntegerOf type v
-    → member_text style first None v ≡ comma first ++ integer_in style.numbers type (number_of (label_of v))
-row_text style first (Mapped (IntegerLabel n t) s e m) type is =
-    ap (λ text. text ++ integer_in style.numbers t n) (append-nil (comma first))
-    ∙ ap (λ label. comma first ++ integer_in style.numbers (type_of label) n) is
-row_text style first (Mapped (OffsetLabel n t u) s e m) type is = cc
-row_text style first (Mapped (TextLabel bytes) s e m) type is = cc
-row_text style first (Mapped ArrayLabel s e m) type is = cc
-row_text style first (Mapped (StructLabel name fields) s e m) type is = cc
-row_text style first (Mapped (UnionLabel name index alternative) s e m) type is = cc
+-- an integer as an element
+pub integer_is : (notation : Notation) (style : Style) (first : Bool) (v : Value) (type : IntegerType)
+    → IsIntegerOf type v
+    → element_text notation style first v
+    ≡ integer_element notation style.numbers first type (number_of (label_of v))
+integer_is notation style first (Mapped (IntegerLabel n t) s e m) type is =
+    ap (λ label. comma first ++ notation.integer style.numbers (type_of label) n) is
+integer_is notation style first (Mapped (OffsetLabel n t u) s e m) type is = cc
+integer_is notation style first (Mapped (TextLabel bytes) s e m) type is = cc
+integer_is notation style first (Mapped ArrayLabel s e m) type is = cc
+integer_is notation style first (Mapped (StructLabel name fields) s e m) type is = cc
+integer_is notation style first (Mapped (UnionLabel name index alternative) s e m) type is = cc
 
 bytes_count : (type : IntegerType) (start : ℕ) (bytes : List ℕ) →
     member_count (byte_members type start bytes) ≡ length bytes
 bytes_count type start [] = refl
 bytes_count type start (byte ∷ bytes) = omega (arith, bytes_count type (start + type.width) bytes)
 
--- integers of a byte each as members without names, of which none is left out
-bytes_text : (style : Style) (limit : Option ℕ) (type : IntegerType) (first : Bool) (place start : ℕ) (bytes : List ℕ)
-    → is_cut limit (place + length bytes) ≡ false
-    → styled_members style limit ArrayLabel place first (byte_members type start bytes)
-    ≡ byte_row_text style.numbers type first bytes
-bytes_text style limit type first place start [] whole = refl
-bytes_text style limit type first place start (byte ∷ bytes) whole =
+-- integers of a byte each as elements, of which none is left out
+bytes_text : (notation : Notation) (style : Style) (limit : Option ℕ) (type : IntegerType) (first : Bool)
+    (place start : ℕ) (bytes : List ℕ) → is_cut limit (place + length bytes) ≡ false
+    → written_members notation style limit no_key place first (byte_members type start bytes)
+    ≡ row_text (byte_text notation style.numbers type) first bytes
+bytes_text notation style limit type first place start [] whole = refl
+bytes_text notation style limit type first place start (byte ∷ bytes) whole =
     let before : is_past limit place ≡ false =
     whole_before limit (place + suc (length bytes)) place whole (omega arith) in
     let on : place + suc (length bytes) ≡ suc place + length bytes = omega arith in
-    rw before (ap (λ text. (comma first ++ integer_in style.numbers type (with_sign type byte)) ++ text)
-    (bytes_text style limit type false (suc place) (start + type.width) bytes (rw on at whole)))
+    rw before (ap (λ text. (comma first ++ notation.integer style.numbers type (with_sign type byte)) ++ text)
+    (bytes_text notation style limit type false (suc place) (start + type.width) bytes (rw on at whole)))
 
-pub byte_row : (style : Style) (type : IntegerType) (bytes : List ℕ) (value : Value) → AreBytesOf type bytes value
-    → is_cut style.elements (member_count (members_of value)) ≡ false
-    → byte_row_text style.numbers type true bytes ≡ elements_text style value
-byte_row style type bytes value are whole =
+pub byte_row : (notation : Notation) (style : Style) (type : IntegerType) (bytes : List ℕ) (value : Value)
+    → AreBytesOf type bytes value → is_cut style.elements (member_count (members_of value)) ≡ false
+    → row_text (byte_text notation style.numbers type) true bytes ≡ elements_text notation style value
+byte_row notation style type bytes value are whole =
     let here : length bytes ≡ 0 + length bytes = omega arith in
     let count : member_count (members_of value) ≡ 0 + length bytes =
     ap member_count are.members ∙ bytes_count type (start_of value) bytes ∙ here in
-    sym (ap (λ all. styled_members style style.elements ArrayLabel 0 true all) are.members
-    ∙ bytes_text style style.elements type true 0 (start_of value) bytes (rw count at whole))
+    sym (ap (λ all. written_members notation style style.elements no_key 0 true all) are.members
+    ∙ bytes_text notation style style.elements type true 0 (start_of value) bytes (rw count at whole))
 
--- their text from one on
-pub byte_first : (numbers : Numbers) (type : IntegerType) (bytes : List ℕ) (first : Bool) (i : ℕ) (number : ℤ)
-    → i < length bytes → number ≡ with_sign type (get_or bytes i 0)
-    → byte_row_text numbers type first (drop i bytes)
-    ≡ (comma first ++ integer_in numbers type number) ++ byte_row_text numbers type false (drop (i + 1) bytes)
-byte_first numbers type bytes first i number lt is =
-    ap (λ bytes. byte_row_text numbers type first bytes) (drop_more bytes i 0 lt)
-    ∙ ap (λ n. (comma first ++ integer_in numbers type n) ++ byte_row_text numbers type false (drop (i + 1) bytes))
-    (sym is)
+-- a row from one on
+pub row_first : (item : ℕ → List ℕ) (bytes : List ℕ) (first : Bool) (i : ℕ) → i < length bytes
+    → row_text item first (drop i bytes)
+    ≡ (comma first ++ item (get_or bytes i 0)) ++ row_text item false (drop (i + 1) bytes)
+row_first item bytes first i lt = ap (λ bytes. row_text item first bytes) (drop_more bytes i 0 lt)
+
+-- rows of the same items
+pub row_same : (item other : ℕ → List ℕ) (first : Bool) (bytes : List ℕ) → ((byte : ℕ) → item byte ≡ other byte) →
+    row_text item first bytes ≡ row_text other first bytes
+row_same item other first [] same = refl
+row_same item other first (byte ∷ bytes) same =
+    ap (λ s. (comma first ++ s) ++ row_text item false bytes) (same byte)
+    ∙ ap (λ s. (comma first ++ other byte) ++ s) (row_same item other false bytes same)
 
 -- most bytes
-plain_byte : (byte : ℕ) → integer_in Decimal byte_type (with_sign byte_type byte) ≡ decimal byte ++ codes "UB"
+pub flat_plain : (byte : ℕ) → integer_in Decimal byte_type (with_sign byte_type byte) ≡ flat_byte byte
 unfolding with_sign integer_text
-plain_byte byte = refl
+flat_plain byte = refl
 
-pub plain_first : (bytes : List ℕ) (first : Bool) (i : ℕ) → i < length bytes
-    → byte_row_text Decimal byte_type first (drop i bytes)
-    ≡ (comma first ++ (decimal (get_or bytes i 0) ++ codes "UB"))
-    ++ byte_row_text Decimal byte_type false (drop (i + 1) bytes)
-plain_first bytes first i lt =
-    byte_first Decimal byte_type bytes first i (with_sign byte_type (get_or bytes i 0)) lt refl
-    ∙ ap (λ text. (comma first ++ text) ++ byte_row_text Decimal byte_type false (drop (i + 1) bytes))
-    (plain_byte (get_or bytes i 0))
-
--- the same in JSON, where unsigned integers are printed in decimal digits
-json_byte : (style : Style) (type : IntegerType) (byte : ℕ) → type.signed ≡ false
-    → ((n : ℤ) → json_number style.numbers n ≡ signed_decimal n)
-    → json_number style.numbers (with_sign type byte) ≡ decimal byte
+-- unsigned bytes in decimal digits
+pub json_plain : (numbers : Numbers) (type : IntegerType) (byte : ℕ) → type.signed ≡ false
+    → ((n : ℤ) → json_number numbers n ≡ signed_decimal n)
+    → json_number numbers (with_sign type byte) ≡ decimal byte
 unfolding with_sign
-json_byte style type byte unsigned digits = digits (with_sign type byte) ∙ rw unsigned refl
-
-json_bytes : (style : Style) (limit : Option ℕ) (type : IntegerType) (first : Bool) (place start : ℕ) (bytes : List ℕ)
-    → type.signed ≡ false → ((n : ℤ) → json_number style.numbers n ≡ signed_decimal n)
-    → is_cut limit (place + length bytes) ≡ false
-    → styled_json_members style limit no_key place first (byte_members type start bytes) ≡ bytes_json first bytes
-json_bytes style limit type first place start [] unsigned digits whole = refl
-json_bytes style limit type first place start (byte ∷ bytes) unsigned digits whole =
-    let before : is_past limit place ≡ false =
-    whole_before limit (place + suc (length bytes)) place whole (omega arith) in
-    let on : place + suc (length bytes) ≡ suc place + length bytes = omega arith in
-    let rest =
-    styled_json_members style limit no_key (suc place) false (byte_members type (start + type.width) bytes) in
-    rw before (ap (λ s. (s ++ json_number style.numbers (with_sign type byte)) ++ rest) (append-nil (comma first))
-    ∙ ap (λ s. (comma first ++ s) ++ rest) (json_byte style type byte unsigned digits)
-    ∙ ap (λ s. (comma first ++ decimal byte) ++ s)
-    (json_bytes style limit type false (suc place) (start + type.width) bytes unsigned digits (rw on at whole)))
-
-pub bytes_elements : (style : Style) (type : IntegerType) (bytes : List ℕ) (value : Value) → AreBytesOf type bytes value
-    → type.signed ≡ false → ((n : ℤ) → json_number style.numbers n ≡ signed_decimal n)
-    → is_cut style.elements (member_count (members_of value)) ≡ false
-    → bytes_json true bytes ≡ elements_json style value
-bytes_elements style type bytes value are unsigned digits whole =
-    let here : length bytes ≡ 0 + length bytes = omega arith in
-    let count : member_count (members_of value) ≡ 0 + length bytes =
-    ap member_count are.members ∙ bytes_count type (start_of value) bytes ∙ here in
-    sym (ap (λ all. styled_json_members style style.elements no_key 0 true all) are.members
-    ∙ json_bytes style style.elements type true 0 (start_of value) bytes unsigned digits (rw count at whole))
-
-pub json_first : (bytes : List ℕ) (first : Bool) (i : ℕ) → i < length bytes
-    → bytes_json first (drop i bytes)
-    ≡ (comma first ++ decimal (get_or bytes i 0)) ++ bytes_json false (drop (i + 1) bytes)
-json_first bytes first i lt = ap (bytes_json first) (drop_more bytes i 0 lt)
+json_plain numbers type byte unsigned digits = digits (with_sign type byte) ∙ rw unsigned refl

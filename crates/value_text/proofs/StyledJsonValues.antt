@@ -1,6 +1,6 @@
--- Values printed in JSON in a style read back as the values in that style.
-use Rattle.std.proofs.Common.{◌≡◌, ◌≢◌, ℕ, zero, suc, ℤ, pos, negsuc, ◌+◌, ◌/◌, ◌%◌, ◌^◌, ◌<◌, ◌≤◌, Bool, true, false, inl, inr, List, [], ◌∷◌, ◌++◌, Option, Some, None, codes, decimal, sym, ap, subst, arith}
-use Rattle.std.specs.Prelude.{unsigned_abs, nat_lt, ◌==◌}
+-- Values printed in JSON read back as the values.
+use Rattle.std.proofs.Common.{◌≡◌, ◌≢◌, ℕ, zero, suc, ℤ, pos, negsuc, ◌+◌, ◌/◌, ◌%◌, ◌^◌, ◌<◌, ◌≤◌, Bool, true, false, inl, inr, List, [], ◌∷◌, ◌++◌, Option, Some, None, codes, decimal, refl, sym, ap, subst, arith}
+use Rattle.std.specs.Prelude.{unsigned_abs, nat_lt, ◌==◌, IfSome}
 use Rattle.std.proofs.lemmas.Bool.{cases_Bool}
 use Rattle.std.proofs.lemmas.List.{append-nil, append_assoc}
 use Rattle.pickle_types.specs.declared.node.Node.{Node}
@@ -12,18 +12,19 @@ use Rattle.text_output.specs.declared.style.Chars.{Chars}
 use Rattle.text_output.specs.declared.style.Chars.TheVariants as form
 use Rattle.pickle_meaning.specs.Values.{Naming, Label, IntegerLabel, OffsetLabel, TextLabel, ArrayLabel, StructLabel, UnionLabel, Value, Mapped, Members, NoMembers, MemberThen, AbsentThen, member_count}
 use Rattle.value_store.specs.Labels.{member_name}
-use Rattle.value_text.specs.JsonText.{json_string, key_before, no_key}
-use Rattle.value_text.specs.Json.{no_blank, one_blank, line_feed, ReadsCharacters, plain_character, no_character, ReadsString, string, ReadsValue, number_value, string_value, object, Reads, json, ReadsElements, last_element, ReadsEntry, last_entry, one_entry}
+use Rattle.value_text.specs.JsonText.{json_string}
+use Rattle.value_text.specs.Notation.{json, keys, no_key}
+use Rattle.value_text.specs.Json.{no_blank, one_blank, line_feed, ReadsCharacters, plain_character, no_character, ReadsString, string, ReadsValue, number_value, string_value, object, Reads, json as read, ReadsElements, last_element, ReadsEntry, last_entry, one_entry}
 use Rattle.value_text.specs.JsonValue.{ElementThen, NoElements, whole_number}
 use Rattle.value_text.specs.SmallParts.{AreBytes, IsSmallLabel, HasSmallParts, AreSmallParts, HasFewMembers, HaveFewMembers}
-use Rattle.value_text.specs.CutArrays.{is_past}
+use Rattle.value_text.specs.CutArrays.{is_past, more_object}
 use Rattle.value_text.specs.CharTexts.{has_chars, chars_in, kept_before, trimmed, with_texts, parts_with_texts}
 use Rattle.value_text.specs.PartTypes.{part_node}
 use Rattle.value_text.specs.StyledNumbers.{hex_digits, hexadecimal, signed_hex, quoted_hex, json_number, json_offset_in}
-use Rattle.value_text.specs.StyledJson.{styled_json, styled_json_members}
+use Rattle.value_text.specs.StyledValue.{written, written_members}
 use Rattle.value_text.specs.StyledJsonValue.{integer_json, styled_offset_json, more_json, styled_json_of, styled_elements, styled_entries}
 use Rattle.value_text.specs.Styled.{with_chars}
-use Rattle.value_text.specs.Laws.{PrintsStyledJson, StyledJsonReadsBack}
+use Rattle.value_text.specs.Laws.{PrintsJson, JsonReadsBack}
 use Rattle.value_text.proofs.CharTexts.{parts_count}
 use Rattle.value_text.proofs.JsonWords.{number_is, natural_is, string_is}
 use Rattle.value_text.proofs.JsonValues.{bare, MoreElements, no_element, more_elements, MoreEntries, no_entry, more_entries, InList, without_elements, with_elements, InObject, without_entries, with_entries, element_then, entry_then, list_is, object_is, entry_is, key_is, HasKeys, struct_keys, union_keys}
@@ -106,85 +107,105 @@ offset_is numbers magnitude unit m u =
     )
 
 -- how many more there are
-more_is : (left : ℕ) → left < 2 ^ 64 → ReadsValue (codes "{\"..\":" ++ (decimal left ++ codes "}")) (more_json left)
+more_is : (left : ℕ) → left < 2 ^ 64 → ReadsValue (more_object left) (more_json left)
 unfolding json_string
 more_is left small =
     let only : ReadsEntry (codes "\"..\":" ++ decimal left) (codes "..") (whole_number (pos left)) =
     entry_is (string_is (codes "..") (omega arith, (omega arith, tt))) (number_value (natural_is left small)) in
     object (last_entry only)
 
+-- where a member is past a limit, there is one
+limit_some : (limit : Option ℕ) (place : ℕ) → is_past limit place ≡ true → (most : ℕ) × (limit ≡ Some most)
+limit_some None place past = cc
+limit_some (Some most) place past = (most, refl)
+
 module _ (style : Style) where
+  -- a fact that has to hold where a style may leave elements out
+  abbrev IfCut : Type 0 → Type 0
+  IfCut fact = (most : ℕ) → style.elements ≡ Some most → fact
+
+  -- the object for elements that are left out
+  past_is : (place left : ℕ) → is_past style.elements place ≡ true → IfCut (left < 2 ^ 64) →
+      Reads (more_object left) (more_json left)
+  past_is place left past few =
+      let cut = limit_some style.elements place past in bare (more_is left (few cut.0 cut.1))
+
   mutual
-    value_is : (value : Value) → HasSmallParts value → HasFewMembers value →
-        ReadsValue (styled_json style value) (styled_json_of style value)
+    value_is : (value : Value) → HasSmallParts value → IfCut (HasFewMembers value) →
+        ReadsValue (written json style value) (styled_json_of style value)
     value_is (Mapped (IntegerLabel number type) start end _) h few = integer_is style.numbers number h.0
     value_is (Mapped (OffsetLabel magnitude type unit) start end _) h few =
         offset_is style.numbers magnitude unit h.0.0 h.0.1
     value_is (Mapped (TextLabel bytes) start end _) h few = string_value (string_is bytes h.0)
-    value_is (Mapped ArrayLabel start end all) h few = list_is (elements_are style.elements 0 all few.0 h.1 few.1)
+    value_is (Mapped ArrayLabel start end all) h few =
+        list_is (elements_are 0 all (λ most cut. (few most cut).0) h.1 (λ most cut. (few most cut).1))
     value_is (Mapped (StructLabel name fields) start end all) h few =
         object_is
-        (entries_are (StructLabel name fields) 0 all (struct_keys name fields h.0.1) (omega (arith, h.0.0)) h.1 few.1)
+        (entries_are (StructLabel name fields) 0 all (struct_keys name fields h.0.1) (omega (arith, h.0.0)) h.1
+        (λ most cut. (few most cut).1))
     value_is (Mapped (UnionLabel name index alternative) start end all) h few =
         object_is (entries_are (UnionLabel name index alternative) 0 all (union_keys name index alternative h.0.1)
-        (omega (arith, h.0.0)) h.1 few.1)
+        (omega (arith, h.0.0)) h.1 (λ most cut. (few most cut).1))
 
-    elements_are : (limit : Option ℕ) (place : ℕ) (members : Members) → member_count members < 2 ^ 64
-        → AreSmallParts members → HaveFewMembers members
-        → InList (styled_json_members style limit no_key place true members) (styled_elements style limit place members)
-    elements_are limit place NoMembers count h few = without_elements
-    elements_are limit place (AbsentThen rest) count h few = elim (cases_Bool (is_past limit place)) [
-      | inl past ↦
-          rw past (with_elements (last_element (bare (more_is (suc (member_count rest)) (omega (arith, count))))))
-      | inr before ↦ rw before (elements_are limit (suc place) rest (omega (arith, count)) h few)
+    elements_are : (place : ℕ) (members : Members) → IfCut (member_count members < 2 ^ 64)
+        → AreSmallParts members → IfCut (HaveFewMembers members)
+        → InList (written_members json style style.elements no_key place true members)
+        (styled_elements style style.elements place members)
+    elements_are place NoMembers count h few = without_elements
+    elements_are place (AbsentThen rest) count h few = elim (cases_Bool (is_past style.elements place)) [
+      | inl past ↦ rw past (with_elements (last_element (past_is place (suc (member_count rest)) past
+          (λ most cut. omega (arith, count most cut)))))
+      | inr before ↦ rw before (elements_are (suc place) rest (λ most cut. omega (arith, count most cut)) h few)
     ]
-    elements_are limit place (MemberThen value rest) count h few = elim (cases_Bool (is_past limit place)) [
-      | inl past ↦
-          rw past (with_elements (last_element (bare (more_is (suc (member_count rest)) (omega (arith, count))))))
-      | inr before ↦ rw before (with_elements (element_then (bare (value_is value h.0 few.0))
-          (elements_follow limit (suc place) rest (omega (arith, count)) h.1 few.1)))
+    elements_are place (MemberThen value rest) count h few = elim (cases_Bool (is_past style.elements place)) [
+      | inl past ↦ rw past (with_elements (last_element (past_is place (suc (member_count rest)) past
+          (λ most cut. omega (arith, count most cut)))))
+      | inr before ↦ rw before (with_elements (element_then (bare (value_is value h.0 (λ most cut. (few most cut).0)))
+          (elements_follow (suc place) rest (λ most cut. omega (arith, count most cut)) h.1
+          (λ most cut. (few most cut).1))))
     ]
 
-    elements_follow : (limit : Option ℕ) (place : ℕ) (members : Members) → member_count members < 2 ^ 64
-        → AreSmallParts members → HaveFewMembers members
-        → MoreElements (styled_json_members style limit no_key place false members)
-        (styled_elements style limit place members)
-    elements_follow limit place NoMembers count h few = no_element
-    elements_follow limit place (AbsentThen rest) count h few = elim (cases_Bool (is_past limit place)) [
-      | inl past ↦
-          rw past (more_elements (last_element (bare (more_is (suc (member_count rest)) (omega (arith, count))))))
-      | inr before ↦ rw before (elements_follow limit (suc place) rest (omega (arith, count)) h few)
+    elements_follow : (place : ℕ) (members : Members) → IfCut (member_count members < 2 ^ 64)
+        → AreSmallParts members → IfCut (HaveFewMembers members)
+        → MoreElements (written_members json style style.elements no_key place false members)
+        (styled_elements style style.elements place members)
+    elements_follow place NoMembers count h few = no_element
+    elements_follow place (AbsentThen rest) count h few = elim (cases_Bool (is_past style.elements place)) [
+      | inl past ↦ rw past (more_elements (last_element (past_is place (suc (member_count rest)) past
+          (λ most cut. omega (arith, count most cut)))))
+      | inr before ↦ rw before (elements_follow (suc place) rest (λ most cut. omega (arith, count most cut)) h few)
     ]
-    elements_follow limit place (MemberThen value rest) count h few = elim (cases_Bool (is_past limit place)) [
-      | inl past ↦
-          rw past (more_elements (last_element (bare (more_is (suc (member_count rest)) (omega (arith, count))))))
-      | inr before ↦ rw before (more_elements (element_then (bare (value_is value h.0 few.0))
-          (elements_follow limit (suc place) rest (omega (arith, count)) h.1 few.1)))
+    elements_follow place (MemberThen value rest) count h few = elim (cases_Bool (is_past style.elements place)) [
+      | inl past ↦ rw past (more_elements (last_element (past_is place (suc (member_count rest)) past
+          (λ most cut. omega (arith, count most cut)))))
+      | inr before ↦ rw before (more_elements (element_then (bare (value_is value h.0 (λ most cut. (few most cut).0)))
+          (elements_follow (suc place) rest (λ most cut. omega (arith, count most cut)) h.1
+          (λ most cut. (few most cut).1))))
     ]
 
     entries_are : (label : Label) (place : ℕ) (members : Members) → HasKeys label
-        → place + member_count members ≤ 2 ^ 64 → AreSmallParts members → HaveFewMembers members
-        → InObject (styled_json_members style None (key_before label) place true members)
+        → place + member_count members ≤ 2 ^ 64 → AreSmallParts members → IfCut (HaveFewMembers members)
+        → InObject (written_members json style None (keys json label) place true members)
         (styled_entries style label place members)
-    entries_are label place NoMembers keys count h few = without_entries
-    entries_are label place (AbsentThen rest) keys count h few =
-        entries_are label (suc place) rest keys (omega (arith, count)) h few
-    entries_are label place (MemberThen value rest) keys count h few =
-        with_entries (entry_then (entry_is (key_is (member_name label place) place (keys place) (omega (arith, count)))
-        (value_is value h.0 few.0))
-        (entries_follow label (suc place) rest keys (omega (arith, count)) h.1 few.1))
+    entries_are label place NoMembers named count h few = without_entries
+    entries_are label place (AbsentThen rest) named count h few =
+        entries_are label (suc place) rest named (omega (arith, count)) h few
+    entries_are label place (MemberThen value rest) named count h few =
+        with_entries (entry_then (entry_is (key_is (member_name label place) place (named place) (omega (arith, count)))
+        (value_is value h.0 (λ most cut. (few most cut).0)))
+        (entries_follow label (suc place) rest named (omega (arith, count)) h.1 (λ most cut. (few most cut).1)))
 
     entries_follow : (label : Label) (place : ℕ) (members : Members) → HasKeys label
-        → place + member_count members ≤ 2 ^ 64 → AreSmallParts members → HaveFewMembers members
-        → MoreEntries (styled_json_members style None (key_before label) place false members)
+        → place + member_count members ≤ 2 ^ 64 → AreSmallParts members → IfCut (HaveFewMembers members)
+        → MoreEntries (written_members json style None (keys json label) place false members)
         (styled_entries style label place members)
-    entries_follow label place NoMembers keys count h few = no_entry
-    entries_follow label place (AbsentThen rest) keys count h few =
-        entries_follow label (suc place) rest keys (omega (arith, count)) h few
-    entries_follow label place (MemberThen value rest) keys count h few =
-        more_entries (entry_then (entry_is (key_is (member_name label place) place (keys place) (omega (arith, count)))
-        (value_is value h.0 few.0))
-        (entries_follow label (suc place) rest keys (omega (arith, count)) h.1 few.1))
+    entries_follow label place NoMembers named count h few = no_entry
+    entries_follow label place (AbsentThen rest) named count h few =
+        entries_follow label (suc place) rest named (omega (arith, count)) h few
+    entries_follow label place (MemberThen value rest) named count h few =
+        more_entries (entry_then (entry_is (key_is (member_name label place) place (named place) (omega (arith, count)))
+        (value_is value h.0 (λ most cut. (few most cut).0)))
+        (entries_follow label (suc place) rest named (omega (arith, count)) h.1 (λ most cut. (few most cut).1)))
 
 -- ---- arrays of chars
 
@@ -249,21 +270,29 @@ module _ (nodes : List Node) (chars : Option ℕ) where
   few_as form.Numbers of value h = h
   few_as form.Text of value h = few_seen of value h
 
+-- such a fact holds anyway if it holds without a limit
+pub if_cut : (limit : Option ℕ) {fact : Type 0} → fact → IfSome limit (λ most. fact)
+if_cut None h = tt
+if_cut (Some most) h = h
+
+few_if : {limit : Option ℕ} {fact : Type 0} → IfSome limit (λ most. fact) → (most : ℕ) → limit ≡ Some most → fact
+few_if {limit} {fact} few most cut = rw cut at few
+
 -- the text without the line feed at its end
-pub styled_text_reads : (nodes : List Node) (chars of : Option ℕ) (style : Style) (value : Value) → HasSmallParts value
-    → HasFewMembers value
-    → ReadsValue (styled_json style (with_chars style.chars nodes chars of value))
+pub json_text_reads : (nodes : List Node) (chars of : Option ℕ) (style : Style) (value : Value) → HasSmallParts value
+    → IfSome style.elements (λ most. HasFewMembers value)
+    → ReadsValue (written json style (with_chars style.chars nodes chars of value))
     (styled_json_of style (with_chars style.chars nodes chars of value))
-styled_text_reads nodes chars of style value small few =
+json_text_reads nodes chars of style value small few =
     value_is style (with_chars style.chars nodes chars of value) (small_as nodes chars style.chars of value small)
-    (few_as nodes chars style.chars of value few)
+    (λ most cut. few_as nodes chars style.chars of value (few_if few most cut))
 
-pub styled_json_reads_back : StyledJsonReadsBack
-styled_json_reads_back nodes chars of style value small few =
-    json no_blank (styled_text_reads nodes chars of style value small few) (one_blank line_feed no_blank)
+pub json_reads_back : JsonReadsBack
+json_reads_back nodes chars of style value small few =
+    read no_blank (json_text_reads nodes chars of style value small few) (one_blank line_feed no_blank)
 
-pub prints_styled_json : PrintsStyledJson
-prints_styled_json nodes chars of style value small few = (
+pub prints_json : PrintsJson
+prints_json nodes chars of style value small few = (
   styled_json_of style (with_chars style.chars nodes chars of value),
-  styled_json_reads_back nodes chars of style value small few,
+  json_reads_back nodes chars of style value small few,
 )

@@ -7,7 +7,7 @@ use Rattle.text_output.specs.declared.mode.Mode.TheVariants.{Flat, Tree, Json, L
 use Rattle.text_output.specs.declared.style.Style.{Style}
 use Rattle.text_output.specs.declared.style.Numbers.TheVariants.{Decimal, Hexadecimal, Digits}
 use Rattle.text_output.specs.declared.style.Chars.TheVariants as char_form
-use Rattle.value_text.specs.ValueText.{integer_text, offset_text, string_text}
+use Rattle.value_text.specs.ValueText.{integer_text, string_text}
 use Rattle.value_text.specs.JsonText.{json_string}
 use Rattle.value_text.specs.CharTexts.{trimmed, chars_in, has_chars}
 use Rattle.value_text.specs.StyledNumbers.{hex_integer, hexadecimal, integer_in, unit_in, offset_in, quoted_hex, json_offset_in}

@@ -4,7 +4,8 @@ use Rattle.std.specs.Fmt.{digits}
 use Rattle.pickle_meaning.specs.Values.{Value, Mapped, Label, IntegerLabel, OffsetLabel, TextLabel, ArrayLabel, StructLabel, UnionLabel, NoMembers, MemberThen, AbsentThen}
 use Rattle.text_output.specs.declared.mode.Mode.TheVariants.{Tree}
 use Rattle.value_text.specs.Printed.{printed}
-use Rattle.value_text.specs.ValueText.{integer_text, offset_text, string_text}
+use Rattle.value_text.specs.ValueText.{integer_text, string_text}
+use Rattle.value_text.specs.StyledNumbers.{unit_in, offset_in}
 
 -- a value without members
 abbrev leaf : Label → Value
@@ -71,5 +72,5 @@ arrays : printed Tree (Mapped ArrayLabel 0 32
     (MemberThen (leaf (IntegerLabel (negsuc 0) (record { width = 12; signed = true }))) NoMembers)))
     (MemberThen (leaf ArrayLabel) NoMembers)))
     ≡ codes "[2]\n  [0]=[2]\n    [0]=3UB#B\n    [1]=(int<12>) -1\n  [1]=[0]\n"
-unfolding integer_text offset_text digits
+unfolding integer_text offset_in unit_in digits
 arrays = refl

@@ -5,7 +5,9 @@ use Rattle.pickle_types.specs.declared.integer.IntegerType.{IntegerType}
 use Rattle.pickle_meaning.specs.Values.{Value, Mapped, Label, IntegerLabel, OffsetLabel, TextLabel, ArrayLabel, StructLabel, UnionLabel, NoMembers, MemberThen, AbsentThen}
 use Rattle.text_output.specs.declared.mode.Mode.TheVariants.{Flat}
 use Rattle.value_text.specs.Printed.{printed}
-use Rattle.value_text.specs.ValueText.{integer_text, offset_text, string_text}
+use Rattle.text_output.specs.declared.style.Numbers.TheVariants.{Decimal}
+use Rattle.value_text.specs.ValueText.{integer_text, string_text}
+use Rattle.value_text.specs.StyledNumbers.{unit_in, offset_in}
 
 abbrev unsigned_type : ℕ → IntegerType
 unsigned_type width = record { width = width; signed = false }
@@ -75,20 +77,20 @@ signed_cast : integer_text (signed_type 12) (negsuc 4) ≡ codes "(int<12>) -5"
 unfolding integer_text digits
 signed_cast = refl
 
-bytes_offset : offset_text (signed_type 32) 8 (pos 3) ≡ codes "3#B"
-unfolding offset_text integer_text digits
+bytes_offset : offset_in Decimal (signed_type 32) 8 (pos 3) ≡ codes "3#B"
+unfolding offset_in unit_in integer_text digits
 bytes_offset = refl
 
-bits_offset : offset_text (unsigned_type 64) 1 (pos 20) ≡ codes "20UL#b"
-unfolding offset_text integer_text digits
+bits_offset : offset_in Decimal (unsigned_type 64) 1 (pos 20) ≡ codes "20UL#b"
+unfolding offset_in unit_in integer_text digits
 bits_offset = refl
 
-other_offset : offset_text (unsigned_type 8) 16 (pos 2) ≡ codes "2UB#16"
-unfolding offset_text integer_text digits
+other_offset : offset_in Decimal (unsigned_type 8) 16 (pos 2) ≡ codes "2UB#16"
+unfolding offset_in unit_in integer_text digits
 other_offset = refl
 
-cast_offset : offset_text (signed_type 7) 4 (negsuc 1) ≡ codes "(int<7>) -2#4"
-unfolding offset_text integer_text digits
+cast_offset : offset_in Decimal (signed_type 7) 4 (negsuc 1) ≡ codes "(int<7>) -2#4"
+unfolding offset_in unit_in integer_text digits
 cast_offset = refl
 
 escapes : string_text (97 ∷ 34 ∷ 92 ∷ 10 ∷ 9 ∷ 7 ∷ 255 ∷ []) ≡ codes "\"a\\\"\\\\\\n\\t\\x07\\xff\""
@@ -152,7 +154,7 @@ string_and_offset : printed Flat
     (Mapped (StructLabel (Some (codes "T")) (Some (codes "s") ∷ Some (codes "o") ∷ [])) 0 32
     (MemberThen (leaf (TextLabel (codes "hi"))) (MemberThen (leaf (OffsetLabel (pos 3) (signed_type 32) 8)) NoMembers)))
     ≡ codes "T {s=\"hi\",o=3#B}\n"
-unfolding integer_text offset_text string_text digits
+unfolding integer_text offset_in unit_in string_text digits
 string_and_offset = refl
 
 -- a size in bytes, so many bytes, and a negative offset in units of 4 bits
@@ -162,7 +164,7 @@ sizes : printed Flat
     (MemberThen (Mapped ArrayLabel 8 24 (MemberThen (byte 170) (MemberThen (byte 187) NoMembers)))
     (MemberThen (leaf (OffsetLabel (negsuc 1) (signed_type 16) 4)) NoMembers))))
     ≡ codes "T {len=2UB#B,data=[170UB,187UB],o=-2H#4}\n"
-unfolding integer_text offset_text digits
+unfolding integer_text offset_in unit_in digits
 sizes = refl
 
 -- an array of structs

@@ -5,16 +5,16 @@ use Rattle.text_output.specs.declared.mode.Mode.{Mode}
 use Rattle.text_output.specs.declared.mode.Mode.TheVariants.{Flat, Tree, Json, Lines}
 use Rattle.text_output.specs.declared.style.Style.{Style}
 use Rattle.value_text.specs.declared.typed.Typed.{Typed}
-use Rattle.value_text.specs.StyledValue.{styled_value}
-use Rattle.value_text.specs.StyledJson.{styled_json}
+use Rattle.value_text.specs.Notation.{flat, json}
+use Rattle.value_text.specs.StyledValue.{written}
 use Rattle.value_text.specs.Styled.{with_chars_in}
 
 -- a value in JSON or, in any other mode, on one line; its arrays of chars are texts already
 abbrev pub cell : Style → Mode → Value → List ℕ
-cell style Flat value = styled_value style value
-cell style Tree value = styled_value style value
-cell style Json value = styled_json style value
-cell style Lines value = styled_value style value
+cell style Flat value = written flat style value
+cell style Tree value = written flat style value
+cell style Json value = written json style value
+cell style Lines value = written flat style value
 
 -- a value beside its type
 abbrev pub typed_cell : Style → Mode → Typed → List ℕ

@@ -32,6 +32,10 @@ kept_count (Some most) count = if nat_lt most count then most else count
 abbrev pub more_text : (left : ℕ) → List ℕ
 more_text left = codes "..+" ++ decimal left
 
+-- the same in JSON
+abbrev pub more_object : (left : ℕ) → List ℕ
+more_object left = codes "{\"..\":" ++ (decimal left ++ codes "}")
+
 -- the same after other members on one line, on a separate line, and in JSON
 abbrev pub more_member : (first : Bool) (left : ℕ) → List ℕ
 more_member first left = comma first ++ more_text left
@@ -40,7 +44,7 @@ abbrev pub more_line : (level left : ℕ) → List ℕ
 more_line level left = indent_text level ++ (more_text left ++ codes "\n")
 
 abbrev pub more_item : (first : Bool) (left : ℕ) → List ℕ
-more_item first left = comma first ++ (codes "{\"..\":" ++ (decimal left ++ codes "}"))
+more_item first left = comma first ++ more_object left
 
 -- what is printed of so many that are left, if there are any
 abbrev pub left_text : (more : ℕ → List ℕ) → (left : ℕ) → List ℕ

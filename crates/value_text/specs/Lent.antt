@@ -9,20 +9,12 @@ use Rattle.value_text.specs.TypedValue.{typed_shown}
 use Rattle.value_text.specs.LineText.{start_text, part_text}
 use Rattle.text_output.specs.declared.style.Numbers.{Numbers}
 use Rattle.value_store.specs.declared.scalar.Scalar.{Scalar}
-use Rattle.value_text.specs.PartText.{numbered_text, member_text}
+use Rattle.value_text.specs.Notation.{Notation}
+use Rattle.value_text.specs.PartText.{key_text_at, number_field, field_text}
 use Rattle.value_text.specs.TreeText.{prefix_text}
-use Rattle.value_text.specs.JsonParts.{start_json, field_json, part_json}
 
 abbrev pub lent_name : Option (Bor (List ℕ)) → Naming
 lent_name name = option_map (λ letters. letters.now) name
-
--- a member with what is before it
-abbrev pub lent_member : Style → (first : Bool) → Option (Bor (List ℕ)) → Typed → List ℕ
-lent_member style first name member = member_text style first (lent_name name) (typed_shown member)
-
--- a member that is an integer or an offset
-abbrev pub numbered_member : Numbers → (first : Bool) → Option (Bor (List ℕ)) → Scalar → List ℕ
-numbered_member numbers first name number = numbered_text numbers first (lent_name name) number
 
 -- what is before the part at a place of a value
 abbrev pub lent_prefix : Typed → (place : ℕ) → List ℕ
@@ -36,13 +28,15 @@ lent_start level value place = start_text level (label_of (typed_shown value)) p
 abbrev pub lent_part : Style → (level : ℕ) → Typed → (place : ℕ) → Typed → List ℕ
 lent_part style level value place part = part_text style level (label_of (typed_shown value)) place (typed_shown part)
 
--- what is before the part at a place of a struct or a union in JSON
-abbrev pub lent_key : (first : Bool) → Option (Bor (List ℕ)) → (place : ℕ) → List ℕ
-lent_key first name place = start_json first (lent_name name) place
+module _ (notation : Notation) where
+  -- what is before the field at a place, or before an alternative
+  abbrev pub lent_key : (first : Bool) → Option (Bor (List ℕ)) → (place : ℕ) → List ℕ
+  lent_key first name place = key_text_at notation first (lent_name name) place
 
--- a part that is an integer or an offset, and any other part
-abbrev pub numbered_field : Numbers → (first : Bool) → Option (Bor (List ℕ)) → (place : ℕ) → Scalar → List ℕ
-numbered_field numbers first name place number = field_json numbers first (lent_name name) place number
+  -- a field or an alternative that is an integer or an offset, and any other one
+  abbrev pub lent_number : Numbers → (first : Bool) → Option (Bor (List ℕ)) → (place : ℕ) → Scalar → List ℕ
+  lent_number numbers first name place number = number_field notation numbers first (lent_name name) place number
 
-abbrev pub lent_field : Style → (first : Bool) → Option (Bor (List ℕ)) → (place : ℕ) → Typed → List ℕ
-lent_field style first name place field = part_json style first (lent_name name) place (typed_shown field)
+  abbrev pub lent_field : Style → (first : Bool) → Option (Bor (List ℕ)) → (place : ℕ) → Typed → List ℕ
+  lent_field style first name place field =
+      field_text notation style first (lent_name name) place (typed_shown field)

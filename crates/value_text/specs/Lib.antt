@@ -29,6 +29,7 @@ pub mod ShowParts
 pub mod TypedParts
 pub mod StyledNumbers
 pub mod CutArrays
+pub mod Notation
 pub mod StyledValue
 pub mod StyledTree
 pub mod StyledJson

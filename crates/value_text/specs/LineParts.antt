@@ -1,7 +1,9 @@
 -- The parts of a value that have a line of their own in mode `lines`, and their order.
 use Rattle.std.specs.Prelude.{◌≡◌, ℕ, ◌<◌, true, false, List, [], ◌∷◌, ◌++◌, Some, Contains}
 use Rattle.pickle_meaning.specs.Values.{Value, label_of, members_of, member_at}
-use Rattle.value_text.specs.LinesText.{leaf_line, is_parted}
+use Rattle.text_output.specs.Styles.{plain}
+use Rattle.value_text.specs.LinesText.{is_parted}
+use Rattle.value_text.specs.StyledLeaves.{styled_leaf}
 use Rattle.value_text.specs.PathText.{step_text}
 
 -- Places, one for each step, lead from a value to a part of it, through values that have parts; and the text of the
@@ -44,7 +46,7 @@ AreLinesOf value (line ∷ lines) = IsLineOf value line × AreLinesOf value line
 
 abbrev pub lines_text : List Line → List ℕ
 lines_text [] = []
-lines_text (line ∷ lines) = leaf_line line.steps line.part ++ lines_text lines
+lines_text (line ∷ lines) = styled_leaf plain line.steps line.part ++ lines_text lines
 
 -- a text has one line for each part that has no parts itself, in the value's order, and nothing else
 pub record NamesParts (value : Value) (text : List ℕ) : Type 0 where

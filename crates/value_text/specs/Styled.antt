@@ -10,16 +10,16 @@ use Rattle.text_output.specs.declared.style.Chars.TheVariants.{Numbers, Text}
 use Rattle.value_text.specs.declared.typed.Typed.{Typed}
 use Rattle.value_text.specs.CharTexts.{with_texts}
 use Rattle.value_text.specs.TypedValue.{nodes_in, char_node_in, types_in, node_in, mapped_in}
-use Rattle.value_text.specs.StyledValue.{styled_flat}
+use Rattle.value_text.specs.Notation.{flat, json}
+use Rattle.value_text.specs.StyledValue.{written_line}
 use Rattle.value_text.specs.StyledTree.{styled_tree}
-use Rattle.value_text.specs.StyledJson.{styled_json_line}
 use Rattle.value_text.specs.StyledLeaves.{styled_part_lines}
 
 -- a value in which arrays of chars are texts already
 abbrev pub styled : Style → Mode → Value → List ℕ
-styled style Flat value = styled_flat style value
+styled style Flat value = written_line flat style value
 styled style Tree value = styled_tree style value
-styled style Json value = styled_json_line style value
+styled style Json value = written_line json style value
 styled style Lines value = styled_part_lines style value
 
 -- a value whose type has this node, with its arrays of chars as a style has them

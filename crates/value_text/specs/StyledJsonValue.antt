@@ -3,6 +3,7 @@ use Rattle.std.specs.Prelude.{ℕ, suc, ℤ, pos, Option, if◌then◌else◌, c
 use Rattle.text_output.specs.declared.style.Numbers.{Numbers}
 use Rattle.text_output.specs.declared.style.Numbers.TheVariants.{Decimal, Hexadecimal, Digits}
 use Rattle.text_output.specs.declared.style.Style.{Style}
+use Rattle.text_output.specs.Styles.{plain}
 use Rattle.pickle_meaning.specs.Values.{Label, IntegerLabel, OffsetLabel, TextLabel, ArrayLabel, StructLabel, UnionLabel, Value, Mapped, Members, NoMembers, MemberThen, AbsentThen, member_count}
 use Rattle.value_store.specs.Labels.{member_name}
 use Rattle.value_text.specs.JsonValue.{Json, JsonString, JsonList, JsonObject, Elements, NoElements, ElementThen, Entries, NoEntries, EntryThen, whole_number, key_of}
@@ -26,6 +27,8 @@ more_json left = JsonObject (EntryThen (codes "..") (whole_number (pos left)) No
 
 module _ (style : Style) where
   abbrev mutual
+    -- a number or a string for an integer, a list for an array, an object for the others but strings, of which each
+    -- byte is a character
     pub styled_json_of : Value → Json
     styled_json_of (Mapped (IntegerLabel number type) start end _) = integer_json style.numbers number
     styled_json_of (Mapped (OffsetLabel magnitude type unit) start end _) =
@@ -53,3 +56,7 @@ module _ (style : Style) where
     styled_entries label place (AbsentThen rest) = styled_entries label (suc place) rest
     styled_entries label place (MemberThen value rest) = EntryThen (key_of (member_name label place) place)
         (styled_json_of value) (styled_entries label (suc place) rest)
+
+-- in the plain style
+abbrev pub json_of : Value → Json
+json_of value = styled_json_of plain value

@@ -4,11 +4,12 @@ use Rattle.text_output.specs.declared.style.Style.{Style}
 use Rattle.pickle_meaning.specs.Values.{Value, Mapped, Members, NoMembers, MemberThen, AbsentThen, label_of, start_of, end_of, members_of, member_at, member_count}
 use Rattle.value_text.specs.PathText.{step_text, path_text}
 use Rattle.value_text.specs.LinesText.{bits_cell, place_cells, is_parted}
-use Rattle.value_text.specs.StyledValue.{styled_value}
+use Rattle.value_text.specs.Notation.{flat}
+use Rattle.value_text.specs.StyledValue.{written}
 use Rattle.value_text.specs.CutArrays.{limit_of, is_past, more_text}
 
 abbrev pub styled_text_cell : Style → Value → List ℕ
-styled_text_cell style value = codes "\t" ++ (styled_value style value ++ codes "\n")
+styled_text_cell style value = codes "\t" ++ (written flat style value ++ codes "\n")
 
 -- the line of a part: its path, start, size and text, with tabs between them
 abbrev pub styled_leaf : Style → (steps : List ℕ) → Value → List ℕ

@@ -1,9 +1,8 @@
--- The printed value, on one line.
-use Rattle.std.specs.Prelude.{ℕ, suc, ◌/◌, ◌%◌, ℤ, Bool, true, false, not, ◌&&◌, List, [], ◌∷◌, ◌++◌, Option, Some, None, ◌==◌, nat_le, if◌then◌else◌, codes, decimal}
+-- The words of a printed value: integers, strings and names.
+use Rattle.std.specs.Prelude.{ℕ, ◌/◌, ◌%◌, ℤ, Bool, true, false, not, ◌&&◌, List, [], ◌∷◌, ◌++◌, Option, Some, None, ◌==◌, nat_le, if◌then◌else◌, codes, decimal}
 use Rattle.std.specs.Fmt.{signed_decimal}
 use Rattle.pickle_types.specs.declared.integer.IntegerType.{IntegerType}
-use Rattle.pickle_meaning.specs.Values.{Naming, Label, IntegerLabel, OffsetLabel, TextLabel, ArrayLabel, StructLabel, UnionLabel, Value, Mapped, Members, NoMembers, MemberThen, AbsentThen}
-use Rattle.value_store.specs.Labels.{member_name}
+use Rattle.pickle_meaning.specs.Values.{Naming}
 use Rattle.text_output.specs.HexDigits.{hex_digit}
 
 -- the letter of a width, if it has one; 32 bits need none
@@ -47,9 +46,6 @@ unit_text unit =
     else if unit == 8 then codes "B"
     else decimal unit
 
-unfoldable pub offset_text : IntegerType → ℕ → ℤ → List ℕ
-offset_text type unit magnitude = integer_text type magnitude ++ (codes "#" ++ unit_text unit)
-
 -- whether a byte of a string is printed as itself: from the space (32) to `~` (126), but not `"` (34) and `\` (92)
 abbrev pub is_plain : ℕ → Bool
 is_plain byte = nat_le 32 byte && nat_le byte 126 && not (byte == 34) && not (byte == 92)
@@ -91,28 +87,3 @@ name_text (Some name) = name ++ codes "="
 abbrev pub comma : (first : Bool) → List ℕ
 comma true = []
 comma false = codes ","
-
-abbrev mutual
-  pub value_text : Value → List ℕ
-  value_text (Mapped (IntegerLabel number type) start end _) = integer_text type number
-  value_text (Mapped (OffsetLabel magnitude type unit) start end _) = offset_text type unit magnitude
-  value_text (Mapped (TextLabel bytes) start end _) = string_text bytes
-  value_text (Mapped ArrayLabel start end members) = codes "[" ++ (members_text ArrayLabel 0 true members ++ codes "]")
-  value_text (Mapped (StructLabel name fields) start end members) =
-      title_text (codes "struct") name
-      ++ (codes " {" ++ (members_text (StructLabel name fields) 0 true members ++ codes "}"))
-  value_text (Mapped (UnionLabel name index alternative) start end members) =
-      title_text (codes "union") name
-      ++ (codes " {" ++ (members_text (UnionLabel name index alternative) 0 true members ++ codes "}"))
-
-  -- the present members from a place on, each after its name if it has one, joined by commas
-  pub members_text : Label → (place : ℕ) (first : Bool) → Members → List ℕ
-  members_text label place first NoMembers = []
-  members_text label place first (AbsentThen rest) = members_text label (suc place) first rest
-  members_text label place first (MemberThen value rest) =
-      (comma first ++ (name_text (member_name label place) ++ value_text value))
-      ++ members_text label (suc place) false rest
-
--- the whole output
-abbrev pub flat_text : Value → List ℕ
-flat_text value = value_text value ++ codes "\n"

@@ -5,6 +5,7 @@ mod cut;
 mod digits;
 mod escape;
 mod flat;
+pub mod form;
 mod json;
 mod json_string;
 pub mod line;
@@ -17,6 +18,7 @@ mod steps;
 mod string;
 pub mod suffix;
 mod tree;
+mod value;
 
 ghost use Rattle.std.specs.Prelude.{◌≡◌, OnOk, OnErr};
 ghost use Rattle.std.specs.Io.KnownBytes.{Appends};
@@ -34,6 +36,8 @@ use crate::mode::Mode;
 use crate::style::{Chars, Look, Style};
 use crate::typed::{Typed, Types};
 use escape::Escapes;
+use flat::Flat;
+use json::Json;
 pub use json_string::print_json_string;
 use line::Line;
 use printer::Printer;
@@ -118,8 +122,8 @@ impl<W: Write> Printer<'_, W> {
         ensures { Puts W.contents self.old self.new (cell style mode (typed_shown value.entry)) }
     {
         match mode {
-            Mode::Json => self.put_json_value(&style, &value),
-            _ => self.put_value(&style, &value),
+            Mode::Json => self.put_value::<Json>(&style, &value),
+            _ => self.put_value::<Flat>(&style, &value),
         }
     }
 
@@ -134,9 +138,9 @@ impl<W: Write> Printer<'_, W> {
         ensures { Puts W.contents self.old self.new (styled style mode (typed_shown value.entry)) }
     {
         match mode {
-            Mode::Flat => self.put_flat(&style, &value),
+            Mode::Flat => self.put_value_line::<Flat>(&style, &value),
             Mode::Tree => self.put_tree(&style, value),
-            Mode::Json => self.put_json(&style, &value),
+            Mode::Json => self.put_value_line::<Json>(&style, &value),
             Mode::Lines => self.put_lines(&style, &value),
         }
     }

@@ -8,6 +8,7 @@ ghost use Rattle.value_text.specs.StyledLeaves.{styled_part_lines, styled_text_c
 ghost use Rattle.value_text.specs.LeafText.{leaf_at, leaves_at, branches_at, branch_at, more_leaf_at};
 
 use super::cut::{kept_count, limit_of};
+use super::flat::Flat;
 use super::printer::Printer;
 use super::steps::{Step, Steps, step_to};
 use super::tree::has_parts;
@@ -128,7 +129,7 @@ impl<W: Write> Printer<'_, W> {
         ensures { Puts W.contents self.old self.new (styled_text_cell style.now (typed_shown value.now)) }
     {
         self.put(b"\t");
-        self.put_value(style, value);
+        self.put_value::<Flat>(style, value);
         self.put(b"\n");
     }
 }

@@ -1,4 +1,4 @@
-use Rattle.value_text.proofs.JsonValues.{json_reads_back}
+use Rattle.value_text.proofs.StyledJsonValues.{json_reads_back}
 use Rattle.value_text.proofs.laws.json_reads_back.Goals as goal
 
 -- src/laws.rt

@@ -1,4 +1,4 @@
-use Rattle.value_text.proofs.JsonValues.{prints_json}
+use Rattle.value_text.proofs.StyledJsonValues.{prints_json}
 use Rattle.value_text.proofs.laws.prints_json.Goals as goal
 
 -- src/laws.rt

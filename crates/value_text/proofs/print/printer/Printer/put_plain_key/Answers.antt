@@ -1,4 +1,4 @@
-use Rattle.value_text.proofs.JsonTexts.{plain_key_is}
+use Rattle.value_text.proofs.JsonKeys.{plain_key_is}
 use Rattle.value_text.proofs.print.printer.Printer.put_plain_key.Goals as goal
 
 pub returns : goal.returns
