@@ -20,8 +20,8 @@ use crate::check::enclosing::Enclosing;
 use crate::check::expressions::{Context, integer, resolve_expression};
 use crate::check::field_list::{FieldList, FieldPlaces};
 use crate::check::fields::{
-    borrow_expression, condition_in, constraint_in, copy_name, form_in, fresh, label_in, name_in,
-    order_in, parts_from, place_in, stand, struct_place, total_width,
+    borrow_expression, check_allowed, check_new_name, condition_in, constraint_in, copy_name,
+    form_in, label_in, name_in, order_in, parts_from, place_in, struct_place, total_width,
 };
 use crate::check::nodes::Nodes;
 use crate::check::operators::Scalar;
@@ -409,12 +409,12 @@ impl<'n> Builder<'n> {
         ensures nodes { self.new.nodes ≡ self.old.nodes }
     {
         let bits = has_width(&self.nodes, found.node);
-        if let Err(kind) = stand(place, bits, written) {
+        if let Err(kind) = check_allowed(place, bits, written) {
             self.refuse(RefusedPart::Place(bits));
             return Err(kind);
         }
         let word = name_in(written);
-        if let Err(kind) = fresh(&self.names, word, before) {
+        if let Err(kind) = check_new_name(&self.names, word, before) {
             self.refuse(RefusedPart::Name);
             return Err(kind);
         }

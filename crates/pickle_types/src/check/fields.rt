@@ -83,7 +83,7 @@ pub fn constraint_in<'a, 't>(field: &'a tree::Field<'t>) -> Option<&'a Expressio
 }
 
 /// Whether a place allows a field. `bits` says whether the field's type has a width in bits.
-fn may_stand(place: Enclosing, bits: bool, field: &tree::Field<'_>) -> bool
+fn is_allowed(place: Enclosing, bits: bool, field: &tree::Field<'_>) -> bool
     ensures { result ≡ may_stand place bits (field_tree field.now).parts }
 {
     let ordered = field.order.is_none() || bits;
@@ -102,10 +102,10 @@ fn may_stand(place: Enclosing, bits: bool, field: &tree::Field<'_>) -> bool
 }
 
 /// Fails with `NotHere` where the place doesn't allow the field. `bits` says whether its type has a width in bits.
-pub fn stand(place: Enclosing, bits: bool, field: &tree::Field<'_>) -> Result<(), FaultKind>
+pub fn check_allowed(place: Enclosing, bits: bool, field: &tree::Field<'_>) -> Result<(), FaultKind>
     ensures { Gives (λ u. u) result (if_here (may_stand place bits (field_tree field.now).parts)) }
 {
-    if may_stand(place, bits, field) {
+    if is_allowed(place, bits, field) {
         Ok(())
     } else {
         Err(FaultKind::NotHere)
@@ -114,7 +114,7 @@ pub fn stand(place: Enclosing, bits: bool, field: &tree::Field<'_>) -> Result<()
 
 /// Fails with `DuplicateField` where an earlier field has this name.
 #[tactic(auto, unfolding(crate::specs::Meaning::fresh))]
-pub fn fresh(names: &Names, name: Option<&[u8]>, fields: &FieldList) -> Result<(), FaultKind>
+pub fn check_new_name(names: &Names, name: Option<&[u8]>, fields: &FieldList) -> Result<(), FaultKind>
     requires { IsFieldList (words_in names.now) fields.now }
     ensures { Gives (λ u. u) result (fresh (bytes_now name.entry) (names_in fields.now.fields.items)) }
 {

@@ -22,7 +22,7 @@ pub enum RefusedPart {
     Type,
     /// An integral struct, and the width of its fields together in bits.
     Widths(u128),
-    /// A field where it stands: its type, its prefix, its label, its condition, or that it has no name. Whether its
+    /// A field in its place: its type, its prefix, its label, its condition, or that it has no name. Whether its
     /// type has a width in bits.
     Place(bool),
     /// The name of a field.
@@ -57,7 +57,7 @@ pub enum OperandType {
     Struct(usize),
 }
 
-/// The types of an operator's operands, in order. `None` for an operand that has no type, and behind the last one.
+/// The types of an operator's operands, in order. `None` for an operand that has no type, and after the last one.
 #[derive(Clone, Copy, PartialEq, Eq, Debug)]
 pub struct OperandTypes {
     pub first: Option<OperandType>,
@@ -103,6 +103,7 @@ impl Site {
     pub fn begin_with(&mut self, step: TypeStep) {
         if let Some(slot) = self.steps.get_mut(self.count) {
             *slot = step;
+            // There was a slot at `count`, so this never saturates: the prover can't tell that here.
             self.count = self.count.saturating_add(1);
         }
     }
@@ -111,6 +112,7 @@ impl Site {
     pub fn steps(&self) -> &[TypeStep] {
         match self.steps.get(..self.count) {
             Some(steps) => steps,
+            // Never reached, since `count` is at most the number of levels: for the prover alone.
             None => &self.steps,
         }
     }

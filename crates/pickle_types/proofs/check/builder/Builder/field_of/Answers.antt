@@ -19,7 +19,7 @@ returns-in_err-constraint-clause-gives c =
     let stands : if_here (may_stand c.args.place (has_some (bit_width t)) parts) ≡ Ok tt =
     rw c.has_width-bits.ensures at c.in_default.ensures in
     let new : fresh parts.name (names_in c.args.before.now.fields.items) ≡ Ok tt =
-    rw c.name_in-word.ensures at c.in_default-fresh.ensures in
+    rw c.name_in-word.ensures at c.in_default-check_new_name.ensures in
     let label = rw c.label_in.ensures at c.in_ok-label.ensures.gives in
     let names = c.in_ok-condition.ensures.names ∙ c.in_ok-label.ensures.names in
     let nodes = c.in_ok-condition.ensures.nodes ∙ c.in_ok-label.ensures.nodes in
@@ -52,7 +52,7 @@ returns-clause-gives c =
     let stands : if_here (may_stand c.args.place (has_some (bit_width t)) parts) ≡ Ok tt =
     rw c.has_width-bits.ensures at c.in_default.ensures in
     let new : fresh parts.name (names_in c.args.before.now.fields.items) ≡ Ok tt =
-    rw c.name_in-word.ensures at c.in_default-fresh.ensures in
+    rw c.name_in-word.ensures at c.in_default-check_new_name.ensures in
     let label = rw c.label_in.ensures at c.in_ok-label.ensures.gives in
     let names = c.in_ok-condition.ensures.names ∙ c.in_ok-label.ensures.names in
     let nodes = c.in_ok-condition.ensures.nodes ∙ c.in_ok-label.ensures.nodes in
