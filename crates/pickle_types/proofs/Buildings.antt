@@ -1,6 +1,6 @@
 -- One step of the definitions for each step of the builder.
 use Rattle.std.proofs.Common.{◌≡◌, ℕ, zero, suc, ◌+◌, ◌-◌, ◌<◌, ◌≤◌, ◌^◌, max, List, [], ◌∷◌, ◌++◌, map, Option, None, Result, Ok, Err, Bool, length, take, drop, get_or, refl, sym, ap, ◌∙◌, arith}
-use Rattle.std.specs.Prelude.{All}
+use Rattle.std.specs.Prelude.{All, OnOk, OnErr}
 use Rattle.std.proofs.lemmas.Bool.{eq-eqb, ne_eqb}
 use Rattle.std.proofs.lemmas.List.{append-nil, length-append, length-map, length-take, drop_more, map_push, take_all, take-append-le}
 use Rattle.std.proofs.lemmas.List.Elements.{All-append}
@@ -11,6 +11,7 @@ use Rattle.pickle_tree.specs.Limits.{standard, field_count}
 use Rattle.pickle_types.specs.declared.integer.IntegerType.{IntegerType}
 use Rattle.pickle_types.specs.declared.fault.FaultKind.{FaultKind}
 use Rattle.pickle_types.specs.declared.fault.FaultKind.TheVariants.{Memory, IntegralWidths, NotHere}
+use Rattle.pickle_types.specs.declared.names.Named.{Named}
 use Rattle.pickle_types.specs.declared.node.Node.{Node}
 use Rattle.pickle_types.specs.declared.node.Field.{Field}
 use Rattle.pickle_types.specs.declared.check.enclosing.Enclosing.{Enclosing}
@@ -24,7 +25,7 @@ use Rattle.pickle_types.specs.Scopes.{Visible}
 use Rattle.pickle_types.specs.Names.{Names}
 use Rattle.pickle_types.specs.Expressions.{◌>>=◌, integer_referred}
 use Rattle.pickle_types.specs.Meaning.{plain, offset_type, integer_expression, offset_expression, bound_expression, fresh, bit_width, has_some, may_stand, if_here, place_in, struct_place, parts_of, total_width, integral_type, if_some_alternative, after_field, with_itself, FieldMeaning, field_meaning, field_then, meaning, fields_meaning}
-use Rattle.pickle_types.specs.Built.{Fails, types_in, words_in, bytes_now, view_of, views_of, IsInLevel, AreNamed, AreBelow, names_in, part_of}
+use Rattle.pickle_types.specs.Built.{Fails, types_in, words_in, bytes_now, view_of, views_of, IsInLevel, AreListed, AreBelow, names_in, part_of}
 use Rattle.pickle_types.specs.Building.{visible_in, after_itself, Keeps, IsBuilt, Builds, IsFieldBuilt, AreBuilt, with_front, FieldsSoFar}
 use Rattle.pickle_types.specs.Numbers.{Extends}
 use Rattle.pickle_types.proofs.Numbered.{extends_none, extends_on}
@@ -34,29 +35,40 @@ use Rattle.pickle_types.proofs.Tables.{fields_same}
 use Rattle.pickle_types.proofs.Steps.{fails_bind, views_kept, names_kept, named_kept, grows_on}
 
 -- a node that is pushed has the type that it opens to
-pub pushed : (old new : Builder) (node : Node) → IsTable old.nodes → AreNamed old.nodes old.names →
-    NamesBelow (length old.nodes) node.shape → IsSoundShape node.shape →
+pub pushed : (old new : Builder) (node : Node) → NamesBelow (length old.nodes) node.shape →
     new.nodes ≡ old.nodes ++ node ∷ [] → new.names ≡ old.names → new.seen ≡ old.seen →
-    (d at : ℕ) → d ≡ depth (open_shape (type_of old.nodes) node.shape) → d ≤ 64 → at ≡ length old.nodes → at < 2 ^ 32 →
+    (d at : ℕ) → d ≡ depth (open_shape (type_of old.nodes) node.shape) → at ≡ length old.nodes →
     IsBuilt old new (record { node = at; depth = d }) (open_shape (type_of old.nodes) node.shape)
-pushed old new node table named below sound is same seen d at deep low last few =
+pushed old new node below is same seen d at deep last =
     let grows : Grows old.nodes new.nodes = record { more = node ∷ []; is = is } in
     let longer = length-append old.nodes (node ∷ []) in
-    let known = names_kept old.nodes new.nodes table grows (types_in old.names) named in
-    let still = named_kept old.nodes new.nodes table grows (map (λ d. d.declared) (types_in old.names)) named in
+    let known = names_kept old.nodes new.nodes old.table grows (types_in old.names) old.named in
     record {
       keeps = record {
         grows = grows;
-        table = rw is (push_table old.nodes table node below sound (omega arith) (omega arith));
-        named = rw same still;
         known = rw same known;
+        types = rw same refl;
         numbers = rw same (extends_none (words_in old.names));
       };
       seen = seen;
       inside = rw is (omega arith);
-      type = rw (is, last) (push_type old.nodes table node below);
+      type = rw (is, last) (push_type old.nodes old.table node below);
       deep = deep;
     }
+
+-- a node was pushed, or nothing has changed
+module _ (old : List Node) (table : IsTable old) (new : List Node) (node : Node) where
+  pub table_after : (r : Result (Unit {0}) FaultKind) → OnOk r (new ≡ old ++ node ∷ []) → OnErr r (new ≡ old) →
+      NamesBelow (length old) node.shape → IsSoundShape node.shape →
+      depth (open_shape (type_of old) node.shape) ≤ 64 → length old < 2 ^ 32 → IsTable new
+  table_after (Ok u) is same below sound low few = rw is (push_table old table node below sound low few)
+  table_after (Err e) is same below sound low few = rw same table
+
+  pub named_after : (types : List Named) (r : Result (Unit {0}) FaultKind) → OnOk r (new ≡ old ++ node ∷ []) →
+      OnErr r (new ≡ old) → AreListed old types → AreListed new types
+  named_after types (Ok u) is same named =
+      named_kept old new table (record { more = node ∷ []; is = is }) (map (λ d. d.declared) types) named
+  named_after types (Err e) is same named = rw same named
 
 -- the steps of a meaning where `room` allows it
 module _ (names : Names) (seen : List Visible) (levels : ℕ) (title : Option (List ℕ)) where
@@ -111,9 +123,8 @@ module _ (names : Names) (seen : List Visible) (levels : ℕ) (title : Option (L
 pub keeps_on : (a b c : Builder) → Keeps a b → Keeps b c → Keeps a c
 keeps_on a b c g h = record {
   grows = grows_on a.nodes b.nodes c.nodes g.grows h.grows;
-  table = h.table;
-  named = h.named;
   known = h.known ∙ g.known;
+  types = h.types ∙ g.types;
   numbers = extends_on g.numbers h.numbers;
 }
 
@@ -130,10 +141,10 @@ built_then a b c (Err Memory) given whole g s e h = tt
 built_then a b c (Err _) given whole g s e h = e ∙ h
 
 -- what is visible stays the same over a table that grew
-pub visible_kept : (old new : Builder) → IsTable old.nodes → Keeps old new → new.seen ≡ old.seen → (levels : ℕ) →
+pub visible_kept : (old new : Builder) → Keeps old new → new.seen ≡ old.seen → (levels : ℕ) →
     AreBelow (length old.nodes) levels old.seen → visible_in new ≡ visible_in old
-visible_kept old new table keeps same levels below =
-    rw same (views_kept old.nodes new.nodes table keeps.grows levels old.seen below)
+visible_kept old new keeps same levels below =
+    rw same (views_kept old.nodes new.nodes old.table keeps.grows levels old.seen below)
 
 pub array_depth : (t : PokeType) (b : Bound) → depth (ArrayOf t b) ≡ 1 + depth t
 unfolding depth
@@ -225,10 +236,10 @@ pub so_far_more : (a b c : Builder) (fields : List Field) (field : Field) (deepe
     FieldsSoFar a c (fields ++ field ∷ []) (max deepest deepness) whole rest'
 unfolding fields_depth
 so_far_more a b c fields field deepest deepness here levels index parts f whole rest rest' h g deep next =
-    let long = longer b.nodes c.nodes h.keeps.table g.keeps.grows in
+    let long = longer b.nodes c.nodes b.table g.keeps.grows in
     let same : (more : Fields) → fields_onto (type_of b.nodes) fields more ≡ fields_onto (type_of c.nodes) fields more =
     λ more. sym (fields_same (type_of c.nodes) (type_of b.nodes) (length b.nodes)
-    (λ e lt. type_kept b.nodes c.nodes h.keeps.table g.keeps.grows e lt) fields more h.below) in
+    (λ e lt. type_kept b.nodes c.nodes b.table g.keeps.grows e lt) fields more h.below) in
     let opens : open_fields (type_of c.nodes) (fields ++ field ∷ [])
     ≡ fields_onto (type_of b.nodes) fields (field_then parts f NoFields) =
     onto_append (type_of c.nodes) fields (field ∷ []) NoFields
@@ -311,7 +322,7 @@ after_below n levels seen s enclosing.Union below h = below
 
 -- a field that is built on a table that stays the same
 pub field_built : (old new : Builder) (s : Seen) (here : Enclosing) (index : ℕ) (parts : FieldParts) (field : Field) →
-    IsTable old.nodes → AreNamed old.nodes old.names → AreBelow (length old.nodes) (s.level + 1) old.seen →
+    AreBelow (length old.nodes) (s.level + 1) old.seen →
     s.node < length old.nodes →
     new.names ≡ old.names → new.nodes ≡ old.nodes → new.seen ≡ after_itself here old.seen s →
     bytes_now s.name ≡ parts.name → s.place ≡ place_in here index → field.node ≡ s.node →
@@ -323,13 +334,12 @@ pub field_built : (old new : Builder) (s : Seen) (here : Enclosing) (index : ℕ
       label = optional_term field.label;
       condition = optional_term field.condition;
     })
-field_built old new s here index parts field table named below inside names nodes seen en ep node name order =
+field_built old new s here index parts field below inside names nodes seen en ep node name order =
     record {
       keeps = record {
         grows = record { more = []; is = nodes ∙ sym (append-nil _) };
-        table = rw nodes table;
-        named = rw (names, nodes) named;
         known = rw (names, nodes) refl;
+        types = rw names refl;
         numbers = rw names (extends_none (words_in old.names));
       };
       inside = rw (nodes, node) inside;
@@ -383,15 +393,14 @@ kept_on mark xs ys zs e n k =
     let same = ap length e in
     sym (take_within mark (length ys) zs (omega arith)) ∙ ap (take mark) k ∙ e
 
-pub so_far_none : (b : Builder) (fields : List Field) (whole : Result Fields FaultKind) → IsTable b.nodes →
-    AreNamed b.nodes b.names → fields ≡ [] → FieldsSoFar b b fields 0 whole whole
+pub so_far_none : (b : Builder) (fields : List Field) (whole : Result Fields FaultKind) → fields ≡ [] →
+    FieldsSoFar b b fields 0 whole whole
 unfolding fields_depth
-so_far_none b fields whole table named none = rw none (record {
+so_far_none b fields whole none = rw none (record {
   keeps = record {
     grows = record { more = []; is = sym (append-nil _) };
-    table = table;
-    named = named;
     known = refl;
+    types = refl;
     numbers = extends_none (words_in b.names);
   };
   below = λ k d lt. absurd (omega arith);
@@ -455,9 +464,8 @@ all_built a b c fields deepest whole rest h none names nodes seen =
       record {
         keeps = record {
           grows = rw nodes k.grows;
-          table = rw nodes k.table;
-          named = rw (nodes, names) k.named;
           known = rw (nodes, names) k.known;
+          types = rw names k.types;
           numbers = rw names k.numbers;
         };
         seen = seen;
@@ -468,13 +476,12 @@ all_built a b c fields deepest whole rest h none names nodes seen =
     )
 
 -- names got numbers, and nothing else changed
-pub keeps_numbers : (b c : Builder) → IsTable b.nodes → AreNamed b.nodes b.names → c.nodes ≡ b.nodes →
+pub keeps_numbers : (b c : Builder) → c.nodes ≡ b.nodes →
     types_in c.names ≡ types_in b.names → Extends (words_in b.names) (words_in c.names) → Keeps b c
-keeps_numbers b c table named nodes types more = record {
+keeps_numbers b c nodes types more = record {
   grows = record { more = []; is = nodes ∙ sym (append-nil _) };
-  table = rw nodes table;
-  named = rw (types, nodes) named;
   known = rw (types, nodes) refl;
+  types = types;
   numbers = more;
 }
 
@@ -483,8 +490,44 @@ pub so_far_numbered : (a b c : Builder) (fields : List Field) (deepest : ℕ) (w
     c.nodes ≡ b.nodes → types_in c.names ≡ types_in b.names → Extends (words_in b.names) (words_in c.names) →
     FieldsSoFar a c fields deepest whole rest
 so_far_numbered a b c fields deepest whole rest h nodes types more = record {
-  keeps = keeps_on a b c h.keeps (keeps_numbers b c h.keeps.table h.keeps.named nodes types more);
+  keeps = keeps_on a b c h.keeps (keeps_numbers b c nodes types more);
   below = rw nodes h.below;
   given = rw nodes h.given;
   deep = rw nodes h.deep;
+}
+
+-- what holds of a builder holds of another with the same nodes, names and visible fields
+pub keeps_as : (a b c : Builder) → c.nodes ≡ b.nodes → c.names ≡ b.names → Keeps a b → Keeps a c
+keeps_as a b c nodes names h = record {
+  grows = rw nodes h.grows;
+  known = rw (nodes, names) h.known;
+  types = rw names h.types;
+  numbers = rw names h.numbers;
+}
+
+pub so_far_as : (a b c : Builder) (fields : List Field) (deepest : ℕ) (whole rest : Result Fields FaultKind) →
+    FieldsSoFar a b fields deepest whole rest → c.nodes ≡ b.nodes → c.names ≡ b.names →
+    FieldsSoFar a c fields deepest whole rest
+so_far_as a b c fields deepest whole rest h nodes names = record {
+  keeps = keeps_as a b c nodes names h.keeps;
+  below = rw nodes h.below;
+  given = rw nodes h.given;
+  deep = rw nodes h.deep;
+}
+
+-- what is built after others
+pub built_after : (a b b' c : Builder) (r : Result Found FaultKind) (given whole : Result PokeType FaultKind) →
+    Builds b' c r given → Keeps a b → b.seen ≡ a.seen → b'.nodes ≡ b.nodes → b'.names ≡ b.names → b'.seen ≡ b.seen →
+    whole ≡ given → Builds a c r whole
+built_after a b b' c r given whole h keeps seen nodes names same e =
+    built_then a b' c r given whole (keeps_as a b b' nodes names keeps) (same ∙ seen) e h
+
+pub built_as : (a b c : Builder) (fields : List Field) (deepest : ℕ) (fs : Fields) → c.nodes ≡ b.nodes →
+    c.names ≡ b.names → c.seen ≡ b.seen → AreBuilt a b fields deepest fs → AreBuilt a c fields deepest fs
+built_as a b c fields deepest fs nodes names seen h = record {
+  keeps = keeps_as a b c nodes names h.keeps;
+  seen = seen ∙ h.seen;
+  below = rw nodes h.below;
+  opened = rw nodes h.opened;
+  deep = h.deep;
 }

@@ -1,7 +1,7 @@
 -- One step of the definitions for each declaration that is added.
 use Rattle.std.proofs.Common.{◌≡◌, ℕ, List, [], ◌∷◌, ◌++◌, map, Option, Some, None, Result, Ok, Err, true, false, refl, ◌∙◌, arith}
 use denote.Bor.{Bor}
-use Rattle.std.specs.Prelude.{is_some}
+use Rattle.std.specs.Prelude.{is_some, OnOk, OnErr}
 use Rattle.std.proofs.lemmas.List.{map_push}
 use Rattle.std.proofs.lemmas.List.Elements.{All-append}
 use Rattle.pickle_tree.specs.Tree.{DeclarationTree}
@@ -10,37 +10,34 @@ use Rattle.pickle_types.specs.declared.fault.FaultKind.TheVariants.{DuplicateTyp
 use Rattle.pickle_types.specs.declared.names.Declared.{Declared}
 use Rattle.pickle_types.specs.declared.names.Named.{Named}
 use Rattle.pickle_types.specs.declared.node.Node.{Node}
-use Rattle.pickle_types.specs.declared.check.builder.Builder.{Builder}
 use Rattle.pickle_types.specs.declared.integer.IntegerType.{IntegerType}
 use Rattle.pickle_types.specs.Types.{PokeType, IntegerOf}
 use Rattle.pickle_types.specs.Table.{type_of, IsWidth}
 use Rattle.pickle_types.specs.Names.{Names, find_type}
 use Rattle.pickle_types.specs.Meaning.{unless_declared, meaning, declared_type, declared}
-use Rattle.pickle_types.specs.Built.{Fails, types_in, named_of, IsNamed, IsFound, AddsName}
-use Rattle.pickle_types.specs.Building.{known_types, IsReady, is_unknown, may_add}
+use Rattle.pickle_types.specs.Built.{Fails, named_of, listed_of, IsNamed, AreListed, IsFound, AddsName}
+use Rattle.pickle_types.specs.Building.{is_unknown, may_add}
 use Rattle.pickle_types.proofs.Steps.{fails_bind}
 
-pub record IsAdded (old new : Builder) (word : List ℕ) (node : ℕ) : Type 0 where
-  pub ready : IsReady new
-  pub known : known_types new ≡ known_types old ++ (word, type_of old.nodes node) ∷ []
-
 -- one more name
-pub added : (old new : Builder) (word : List ℕ) (d : Declared) → IsReady old →
-    AddsName (types_in old.names) (types_in new.names) word d →
-    new.nodes ≡ old.nodes → new.seen ≡ old.seen → IsNamed old.nodes d → IsAdded old new word d.node
-added old new word d ready adds nodes seen named =
-    let one : Named = record { word = adds.name; declared = d } in
-    let values = map_push (λ (x : Named). x.declared) (types_in old.names) one in
-    record {
-      ready = record {
-        table = rw nodes ready.table;
-        named = rw (nodes, adds.names, values)
-            (All-append (IsNamed old.nodes) (map (λ (x : Named). x.declared) (types_in old.names)) (d ∷ []) ready.named
-            (λ k e lt. let z : k ≡ 0 = omega arith in rw z named));
-        none = seen ∙ ready.none;
-      };
-      known = rw (nodes, adds.names) (map_push (named_of old.nodes) (types_in old.names) one ∙ rw adds.bytes refl);
-    }
+module _ (nodes : List Node) (old new : List Named) (word : List ℕ) (d : Declared)
+    (adds : AddsName old new word d) where
+  pub added_known : listed_of nodes new ≡ listed_of nodes old ++ (word, type_of nodes d.node) ∷ []
+  added_known =
+      rw adds.names (map_push (named_of nodes) old (record { word = adds.name; declared = d }) ∙ rw adds.bytes refl)
+
+  pub added_named : AreListed nodes old → IsNamed nodes d → AreListed nodes new
+  added_named listed named =
+      rw (adds.names, map_push (λ (x : Named). x.declared) old (record { word = adds.name; declared = d }))
+      (All-append (IsNamed nodes) (map (λ (x : Named). x.declared) old) (d ∷ []) listed
+      (λ k e lt. let z : k ≡ 0 = omega arith in rw z named))
+
+-- the name was added, or nothing has changed
+pub named_since : (nodes : List Node) (old new : List Named) (word : List ℕ) (d : Declared)
+    (r : Result (Unit {0}) FaultKind) → OnOk r (AddsName old new word d) → OnErr r (new ≡ old) → AreListed nodes old →
+    IsNamed nodes d → AreListed nodes new
+named_since nodes old new word d (Ok u) adds same listed named = added_named nodes old new word d adds listed named
+named_since nodes old new word d (Err e) adds same listed named = rw same listed
 
 pub declared_twice : (nodes : List Node) (o : Option Declared) (found : Option PokeType) → IsFound nodes o found →
     is_some o ≡ true → unless_declared found ≡ Err DuplicateType
@@ -51,6 +48,10 @@ pub declared_once : (nodes : List Node) (o : Option Declared) (found : Option Po
     is_some o ≡ false → found ≡ None
 declared_once nodes None found is none = is
 declared_once nodes (Some d) found is none = cc
+
+pub is_absent : {A : Type 0} (o : Option A) → is_some o ≡ false → o ≡ None
+is_absent None none = refl
+is_absent (Some x) none = cc
 
 pub duplicate : (names : Names) (d : DeclarationTree) → unless_declared (find_type d.name names) ≡ Err DuplicateType →
     declared_type names d ≡ Err DuplicateType

@@ -10,6 +10,8 @@ pub mod Sums
 pub mod Bounded
 pub mod Steps
 pub mod Buildings
+pub mod DeclaredNodes
+pub mod BuiltNodes
 pub mod Forms
 pub mod Declarations
 pub mod WrongPlaces

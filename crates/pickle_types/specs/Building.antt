@@ -1,10 +1,13 @@
 -- What the builder of a table has built.
-use Rattle.std.specs.Prelude.{◌≡◌, ℕ, ◌+◌, ◌^◌, ◌<◌, ◌≤◌, length, List, [], ◌∷◌, ◌++◌, take, Option, Some, None, Result, Ok, Err, Bool, true, false, ◌&&◌, nat_le}
+use Rattle.std.specs.Prelude.{◌≡◌, ℕ, ◌+◌, ◌^◌, ◌<◌, ◌≤◌, length, List, [], ◌∷◌, ◌++◌, take, Option, Some, None, Result, Ok, Err, Bool, true, false, ◌&&◌, nat_le, All}
 use denote.Bor.{Bor}
-use Rattle.pickle_tree.specs.Tree.{FieldParts}
+use Rattle.pickle_tree.specs.Tree.{FieldParts, FormTree, FieldTrees, DeclarationTree}
 use Rattle.pickle_types.specs.declared.integer.IntegerType.{IntegerType}
 use Rattle.pickle_types.specs.declared.fault.FaultKind.{FaultKind}
+use Rattle.pickle_types.specs.declared.names.Declared.{Declared}
 use Rattle.pickle_types.specs.declared.node.Field.{Field}
+use Rattle.pickle_types.specs.declared.node.Node.{Node}
+use Rattle.pickle_types.specs.declared.node.Shape.{Shape}
 use Rattle.pickle_types.specs.declared.scopes.Seen.{Seen}
 use Rattle.pickle_types.specs.declared.check.enclosing.Enclosing.{Enclosing}
 use Rattle.pickle_types.specs.declared.check.enclosing.Enclosing.TheVariants as enclosing
@@ -12,12 +15,13 @@ use Rattle.pickle_types.specs.declared.check.field_list.FieldList.{FieldList}
 use Rattle.pickle_types.specs.declared.check.builder.Builder.{Builder}
 use Rattle.pickle_types.specs.declared.check.builder.Found.{Found}
 use Rattle.pickle_types.specs.Types.{PokeType, IntegerOf, Fields, depth, fields_depth}
-use Rattle.pickle_types.specs.Table.{name_of, type_of, fields_onto, open_fields, FieldsBelow, IsTable, Grows}
+use Rattle.pickle_types.specs.Table.{name_of, type_of, fields_onto, open_fields, FieldsBelow, Grows}
 use Rattle.pickle_types.specs.Scopes.{Visible}
 use Rattle.pickle_types.specs.Names.{Names, find_type}
 use Rattle.pickle_types.specs.Meaning.{after_field, with_itself, FieldMeaning, field_then}
-use Rattle.pickle_types.specs.Built.{Fails, names_of, words_in, views_of, AreNamed, AreBelow}
+use Rattle.pickle_types.specs.Built.{Fails, names_of, types_in, words_in, views_of, AreBelow, AddsName}
 use Rattle.pickle_types.specs.Numbers.{Extends}
+use Rattle.pickle_types.specs.DeclaredNodes.{field_nodes, IsFormNode, AreFormNodes, IsDeclaredNode, AreAtPlaces, HasMore}
 
 -- the named types
 abbrev pub known_types : Builder → Names
@@ -45,9 +49,8 @@ AddsAtMost old new count = length new.nodes ≤ length old.nodes + count
 -- the table of a builder grew, and the builder knows the same types by their names
 pub record Keeps (old new : Builder) : Type 0 where
   pub grows : Grows old.nodes new.nodes
-  pub table : IsTable new.nodes
-  pub named : AreNamed new.nodes new.names
   pub known : known_types new ≡ known_types old
+  pub types : types_in new.names ≡ types_in old.names
   pub numbers : Extends (words_in old.names) (words_in new.names)
 
 -- a node of a table that grew has a type
@@ -112,16 +115,10 @@ pub record FieldsSoFar (old new : Builder) (fields : List Field) (deepest : ℕ)
   pub given : whole ≡ with_front (fields_onto (type_of new.nodes) fields) rest
   pub deep : deepest ≡ fields_depth (open_fields (type_of new.nodes) fields)
 
--- a builder that can take the next declaration
-pub record IsReady (b : Builder) : Type 0 where
-  pub table : IsTable b.nodes
-  pub named : AreNamed b.nodes b.names
-  pub none : b.seen ≡ []
-
 -- the type and the name that a declaration added
 abbrev pub AddsType : Builder → Builder → List ℕ → Result ℕ FaultKind → Result PokeType FaultKind → Type 0
 AddsType old new name (Ok node) given =
-    (t : PokeType) × (given ≡ Ok t) × (known_types new ≡ known_types old ++ (name, t) ∷ []) × IsReady new
+    (t : PokeType) × (given ≡ Ok t) × (known_types new ≡ known_types old ++ (name, t) ∷ []) × (new.seen ≡ [])
 AddsType old new name (Err e) given = Fails e given
 
 -- integer types with their names
@@ -138,3 +135,42 @@ abbrev pub may_add : Names → List (Bor (List ℕ) × IntegerType) → Bool
 may_add names [] = true
 may_add names (p ∷ ps) = is_unknown (find_type p.0.now names) && nat_le 1 p.1.width && nat_le p.1.width 64
     && may_add (names ++ (p.0.now, IntegerOf p.1) ∷ []) ps
+
+-- ---- the nodes of declared types
+
+-- as many types have names as there are nodes, and each has the node of its place
+pub record IsInStep (b : Builder) : Type 0 where
+  pub count : length (types_in b.names) ≡ length b.nodes
+  pub order : AreAtPlaces (types_in b.names)
+
+-- a node of this shape came last
+pub record IsLastNode (old new : List Node) (i : ℕ) (shape : Shape) : Type 0 where
+  pub place : i ≡ length old
+  pub node : Node
+  pub shaped : node.shape ≡ shape
+  pub is : new ≡ old ++ node ∷ []
+
+-- the node is that of a type as it is written
+abbrev pub HasFormNode : Builder → FormTree → ℕ → Type 0
+HasFormNode b form i = IsFormNode b.nodes (types_in b.names) form i
+
+abbrev pub HaveFormNodes : Builder → FieldTrees → List Field → Type 0
+HaveFormNodes b written fields = AreFormNodes b.nodes (types_in b.names) written (field_nodes fields)
+
+-- one more name, of that node
+abbrev pub NamesNode : Builder → Builder → List ℕ → ℕ → Type 0
+NamesNode old new word i = (d : Declared) × (d.node ≡ i) × AddsName (types_in old.names) (types_in new.names) word d
+
+-- the table grew, and more types have names
+pub record Continues (old new : Builder) : Type 0 where
+  pub nodes : Grows old.nodes new.nodes
+  pub types : HasMore (types_in old.names) (types_in new.names)
+
+-- the declared name has the node of its declaration
+pub record DeclaresNode (old new : Builder) (d : DeclarationTree) : Type 0 where
+  pub on : Continues old new
+  pub declared : IsDeclaredNode new.nodes (types_in new.names) d
+
+pub record DeclaresNodes (old new : Builder) (ds : List DeclarationTree) : Type 0 where
+  pub on : Continues old new
+  pub declared : All (IsDeclaredNode new.nodes (types_in new.names)) ds

@@ -9,7 +9,7 @@ use Rattle.pickle_types.specs.declared.node.Shape.{Shape}
 use Rattle.pickle_types.specs.declared.scopes.Seen.{Seen}
 use Rattle.pickle_types.specs.declared.check.enclosing.Enclosing.{Enclosing}
 use Rattle.pickle_types.specs.declared.check.field_list.FieldList.{FieldList}
-use Rattle.pickle_types.specs.declared.check.expressions.Context.{Context}
+use Rattle.pickle_types.specs.declared.check.context.Context.{Context}
 use Rattle.pickle_types.specs.declared.check.builder.Builder.{Builder}
 use Rattle.pickle_types.specs.declared.check.builder.Found.{Found}
 use Rattle.pickle_types.specs.declared.check.builder.Title.{Title}

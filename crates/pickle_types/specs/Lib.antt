@@ -19,6 +19,7 @@ pub mod Wrong
 pub mod WellTyped
 pub mod Built
 pub mod Props
+pub mod DeclaredNodes
 pub mod Building
 pub mod Calls
 pub mod Sites

@@ -6,13 +6,12 @@ use Rattle.pickle_types.specs.declared.node.Part.{Part}
 use Rattle.pickle_types.specs.declared.node.Shape.{Shape}
 use Rattle.pickle_types.specs.declared.node.Shape.TheVariants as shape
 use Rattle.pickle_types.specs.declared.node.Node.{Node}
-use Rattle.pickle_types.specs.declared.names.Declared.{Declared}
 use Rattle.pickle_types.specs.declared.table.Table.{Table}
-use Rattle.pickle_types.specs.Built.{declared_as}
+use Rattle.pickle_types.specs.DeclaredNodes.{node_called}
 
 -- the node under the first entry of the name `char`
 abbrev pub char_node_of : Table → Option ℕ
-char_node_of t = option_map (λ (d : Declared). d.node) (declared_as (codes "char") t.names)
+char_node_of t = node_called t.names (codes "char")
 
 -- the node of an array's element, of the field of that number, or of a union's alternative of that number
 abbrev pub shape_part : Shape → (number : ℕ) → Option ℕ

@@ -1,4 +1,4 @@
--- What a table proves of itself has one proof at most.
+-- What a table, its builder and what an expression sees prove of themselves has one proof at most.
 use Rattle.std.specs.Prelude.{ℕ, List, Bool, true, false, ℤ, pos, negsuc, Option, Some, None}
 use Rattle.std.specs.Coded.{Unit-prop, ×_prop, Π_prop, le_prop, Coded-set, coded_ℕ}
 use Rattle.pickle_types.specs.declared.integer.IntegerType.{IntegerType}
@@ -12,7 +12,8 @@ use Rattle.pickle_types.specs.declared.node.Node.{Node}
 use Rattle.pickle_types.specs.Types.{Term, Number, Text, Name, Bracket, Before, Between, Choice, Index, Select, AttributeOf, ToInteger, ToOffset, InUnit, Bound, Unbounded, ByCount, BySize}
 use Rattle.pickle_types.specs.Sound.{IsWidth, IsOptionalWidth, IsSmall, IsSoundTerm, IsSoundClause, IsSoundBound}
 use Rattle.pickle_types.specs.Table.{optional_term, bound_of, FieldsBelow, PartsBelow, NamesBelow, IsSoundField, IsSoundPart, IsSoundShape, IsTable}
-use Rattle.pickle_types.specs.Built.{IsNamed, AreListed}
+use Rattle.pickle_types.specs.declared.scopes.Seen.{Seen}
+use Rattle.pickle_types.specs.Built.{IsNamed, AreListed, IsInLevel, AreBelow}
 
 IsWidth-prop : (type : IntegerType) → IsProp (IsWidth type)
 IsWidth-prop type x y = λ i. record {
@@ -113,3 +114,12 @@ IsNamed-prop nodes d x y = λ i. record {
 
 pub AreListed-prop : (nodes : List Node) (names : List Named) → IsProp (AreListed nodes names)
 AreListed-prop nodes names = Π_prop λ k. Π_prop λ d. Π_prop λ h. IsNamed-prop nodes _
+
+IsInLevel-prop : (n levels : ℕ) (s : Seen) → IsProp (IsInLevel n levels s)
+IsInLevel-prop n levels s x y = λ i. record {
+  node = le_prop x.node y.node i;
+  level = le_prop x.level y.level i;
+}
+
+pub AreBelow-prop : (n levels : ℕ) (seen : List Seen) → IsProp (AreBelow n levels seen)
+AreBelow-prop n levels seen = Π_prop λ k. Π_prop λ d. Π_prop λ h. IsInLevel-prop n levels _

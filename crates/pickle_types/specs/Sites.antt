@@ -1,9 +1,9 @@
 -- What is told of an expression that is refused.
-use Rattle.std.specs.Prelude.{◌≡◌, ℕ, List, [], ◌∷◌, slice_get, Option, Some, None, IfSome, Ok}
+use Rattle.std.specs.Prelude.{◌≡◌, ℕ, List, [], ◌∷◌, slice_get, Option, Some, IfSome, Ok}
 use Rattle.std.specs.Option.{option_and_then}
 use Rattle.pickle_tree.specs.Tree.{Tree, Literal, Character, Text, Name, Bracket, Before, Between, Choice, Index, After}
 use Rattle.pickle_types.specs.declared.node.Node.{Node}
-use Rattle.pickle_types.specs.declared.check.expressions.Context.{Context}
+use Rattle.pickle_types.specs.declared.check.context.Context.{Context}
 use Rattle.pickle_types.specs.declared.check.site.OperandType.{OperandType}
 use Rattle.pickle_types.specs.declared.check.site.OperandType.TheVariants as told
 use Rattle.pickle_types.specs.declared.check.site.OperandTypes.{OperandTypes}

@@ -1,6 +1,7 @@
 -- The types in a table.
-use Rattle.std.specs.Prelude.{◌≡◌, ℕ, ◌<◌, length, List, Option, Some, None}
+use Rattle.std.specs.Prelude.{◌≡◌, ℕ, ◌<◌, length, List, Option, Some, None, slice_get, All}
 use Rattle.pickle_tree.specs.Tree.{DeclarationTree}
+use Rattle.pickle_types.specs.declared.names.Named.{Named}
 use Rattle.pickle_types.specs.declared.node.Node.{Node}
 use Rattle.pickle_types.specs.declared.table.Table.{Table}
 use Rattle.pickle_types.specs.declared.table.TypeId.{TypeId}
@@ -9,6 +10,7 @@ use Rattle.pickle_types.specs.Table.{type_of}
 use Rattle.pickle_types.specs.Names.{Names, predeclared}
 use Rattle.pickle_types.specs.WellTyped.{Declares}
 use Rattle.pickle_types.specs.Built.{listed_of}
+use Rattle.pickle_types.specs.DeclaredNodes.{IsDeclaredNode}
 
 abbrev pub nodes_of : Table → List Node
 nodes_of t = t.nodes.items
@@ -41,3 +43,9 @@ IsTypeFound t (Some id) found = found ≡ Some (type_named t id)
 -- the declarations are well typed after the predeclared types
 abbrev pub IsWellTyped : List DeclarationTree → Type 0
 IsWellTyped ds = (types : Names) × Declares predeclared ds types
+
+-- the 18 predeclared names, which come first, have the nodes of their places, and each declared name has the node of
+-- its declaration; so the node of `char` is that of what is declared as `char`, and of nothing else
+pub record HasDeclaredNodes (t : Table) (ds : List DeclarationTree) : Type 0 where
+  pub predeclared : (k : ℕ) (named : Named) → k < 18 → slice_get t.names k ≡ Some named → named.declared.node ≡ k
+  pub declared : All (IsDeclaredNode t.nodes.items t.names) ds

@@ -1,6 +1,7 @@
 //! The type rules.
 
 pub mod builder;
+pub mod context;
 pub mod enclosing;
 pub mod expressions;
 pub mod field_list;

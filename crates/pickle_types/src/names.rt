@@ -1,6 +1,6 @@
 //! Numbers the names of a pickle, and finds the types that have names.
 
-ghost use Rattle.std.specs.Prelude.{◌≡◌, ℕ, List, [], None, Some, map, IfSome, IfOk, IfErr, OnOk, nat_eq};
+ghost use Rattle.std.specs.Prelude.{◌≡◌, ℕ, List, [], None, Some, map, IfSome, IfOk, IfErr, OnOk, OnErr, nat_eq};
 ghost use Rattle.indexmap.specs.IndexMap.{values, get};
 ghost use Rattle.pickle_types.specs.Names.{find_type};
 ghost use Rattle.pickle_types.specs.Numbers.{number_in, Extends, IsNaming};
@@ -107,6 +107,7 @@ impl<'n> Names<'n> {
     ) -> Result<(), FaultKind>
         requires new { declared_as word.now (types_in self.old) ≡ None }
         ensures ok { OnOk result (AddsName (types_in self.old) (types_in self.new) word.now declared) }
+        ensures same { OnErr result (types_in self.new ≡ types_in self.old) }
         ensures err { IfErr result (λ e. e ≡ FaultKind.Memory) }
     {
         let number = self.number(word)?;
@@ -138,6 +139,7 @@ impl<'n> Names<'n> {
 
 /// The type of that name.
 pub fn find_name(names: &Names, word: &[u8]) -> Option<Declared>
+    ensures is { result ≡ declared_as word.now (types_in names.now) }
     ensures found { (nodes : List Node) → IsFound nodes result (find_type word.now (names_of nodes names.now)) }
     ensures named { (nodes : List Node) → AreNamed nodes names.now → IfSome result (IsNamed nodes) }
 {

@@ -40,12 +40,17 @@ pub struct Table {
 }
 
 impl Table {
-    ghost use Rattle.pickle_types.specs.TypeTable.{type_named, types_of, count_of, IsInTable, IsTypeFound, IsWellTyped};
+    ghost use Rattle.std.specs.Option.{option_map};
+    ghost use Rattle.pickle_types.specs.DeclaredNodes.{node_called};
+    ghost use Rattle.pickle_types.specs.declared.table.TypeId.{TypeId};
+    ghost use Rattle.pickle_types.specs.TypeTable.{type_named, types_of, count_of, IsInTable, IsTypeFound, IsWellTyped, HasDeclaredNodes};
 
     /// Builds the types that a pickle declares. The pickle has to be well typed, and no type deeper than 64.
     pub fn build(alloc: Global, pickle: &Pickle<'_>) -> Result<Table, TypeFault>
         ensures ok { IfOk result (λ table. Declares predeclared (pickle_tree pickle.now) (types_of table)) }
         ensures len { IfOk result (λ table. count_of table ≡ length (pickle_tree pickle.now)) }
+        // Each part of a declared type has the node of the name that it is written with, so that chars can be told.
+        ensures nodes { IfOk result (λ table. HasDeclaredNodes table (pickle_tree pickle.now)) }
         // `Memory` is returned only where the allocator refused; any other kind only where the pickle isn't well typed.
         ensures wrong { IfErr result (λ e. e.kind ≢ FaultKind.Memory → ¬ IsWellTyped (pickle_tree pickle.now)) }
         ensures kind { IfErr result (λ e. Fails e.kind (declared predeclared (pickle_tree pickle.now))) }
@@ -75,6 +80,7 @@ impl Table {
     /// The type of a declared or predeclared name. The names are in order, so it compares few of them.
     pub fn find(&self, name: &[u8]) -> Option<TypeId>
         ensures found { IsTypeFound self.now result (find_type name.now (types_of self.now)) }
+        ensures node { option_map (λ (id : TypeId). id.node) result ≡ node_called self.now.names name.now }
         ensures inside { IfSome result (IsInTable self.now) }
     {
         match self.names.find(name) {

@@ -1,23 +1,14 @@
 //! Builds the table: it adds the types of declarations, as nodes, under their names.
 
-ghost use Rattle.std.specs.Prelude.{◌≡◌, ◌+◌, ◌^◌, ◌<◌, ◌≤◌, ℕ, List, [], ◌∷◌, ◌++◌, length, map, true, false, Ok, None, Some, IfOk, IfErr, IfSome, IsTrue, OnOk, All};
-ghost use Rattle.pickle_tree.specs.Limits.{standard, form_count, fields_form_count, pickle_form_count, IsFormWithin, AreFieldsWithin, AreDeclarationsWithin};
-ghost use Rattle.pickle_tree.specs.Tree.{declaration_tree, reference_tree, boxed_tree, borrowed_tree, form_tree, field_tree, fields_tree, ArrayForm, StructForm, IntegralForm, UnionForm, OffsetForm};
-ghost use Rattle.pickle_types.specs.Types;
-ghost use Rattle.pickle_types.specs.Types.{IntegerOf};
-ghost use Rattle.pickle_types.specs.Names.{find_type};
-ghost use Rattle.pickle_types.specs.Wrong.{first_wrong, TellsPlace};
-ghost use Rattle.pickle_types.specs.Sound.{IsSoundClause, IsSoundBound};
-ghost use Rattle.pickle_types.specs.Table.{optional_term, bound_of, type_of, open_shape, IsTable, NamesBelow, IsSoundField, IsSoundShape, IsWidth};
-ghost use Rattle.pickle_types.specs.Meaning.{declared, fresh, integer_expression, offset_expression, bound_expression, integer_type, called, plain, offset_type};
-ghost use Rattle.pickle_types.specs.Built.{Fails, Gives, AreNamed, AreBelow, names_in, words_in};
-ghost use Rattle.pickle_types.specs.FieldNames.{shape_names, AreDistinct};
-ghost use Rattle.pickle_types.specs.FieldLists.{IsFieldList};
-ghost use Rattle.pickle_types.specs.Building.{known_types, visible_in, after_itself, IsReady, named_types, may_add, Builds, HasRoom, AddsAtMost};
-ghost use Rattle.pickle_types.specs.Calls.{constraint_meaning, BuildsForm, AddsField, BuildsField, BuildsFields, AddsDeclaration};
+ghost use Rattle.std.specs.Prelude.{◌≡◌, ◌+◌, ◌^◌, ◌<◌, Some};
+ghost use Rattle.pickle_types.specs.Table.{IsTable};
+ghost use Rattle.pickle_types.specs.Built.{AreNamed, types_in};
+ghost use Rattle.pickle_types.specs.Props.{IsTable-prop, AreListed-prop};
+ghost use Rattle.pickle_types.specs.Wrong.{TellsPlace};
 
+use crate::check::context::Context;
 use crate::check::enclosing::Enclosing;
-use crate::check::expressions::{Context, integer, resolve_expression};
+use crate::check::expressions::{integer, resolve_expression};
 use crate::check::field_list::{FieldList, FieldPlaces};
 use crate::check::fields::{
     borrow_expression, check_allowed, check_new_name, condition_in, constraint_in, copy_name,
@@ -61,14 +52,35 @@ pub struct Builder<'n> {
     pub seen: Scopes<'n>,
     /// Where a declaration is refused, once one is.
     pub site: Site,
+    // The nodes are a table's, and each name has a node.
+    pub ghost table: { IsTable nodes } by { IsTable-prop nodes },
+    pub ghost named: { AreNamed nodes names } by { AreListed-prop nodes (types_in names) },
 }
 
 impl<'n> Builder<'n> {
+    ghost use Rattle.std.specs.Prelude.{◌≡◌, ◌+◌, ◌<◌, ◌≤◌, List, [], ◌∷◌, ◌++◌, length, map, true, false, Ok, None, Some, IfOk, IfErr, IfSome, IsTrue, OnOk, All};
+    ghost use Rattle.pickle_tree.specs.Limits.{standard, form_count, fields_form_count, pickle_form_count, IsFormWithin, AreFieldsWithin, AreDeclarationsWithin};
+    ghost use Rattle.pickle_tree.specs.Tree.{declaration_tree, reference_tree, boxed_tree, borrowed_tree, form_tree, field_tree, fields_tree, ArrayForm, StructForm, IntegralForm, UnionForm};
+    ghost use Rattle.pickle_types.specs.Types;
+    ghost use Rattle.pickle_types.specs.Types.{IntegerOf};
+    ghost use Rattle.pickle_types.specs.Names.{find_type};
+    ghost use Rattle.pickle_types.specs.Wrong.{first_wrong};
+    ghost use Rattle.pickle_types.specs.Sound.{IsSoundClause, IsSoundBound};
+    ghost use Rattle.pickle_types.specs.Table.{optional_term, bound_of, type_of, open_shape, NamesBelow, IsSoundField, IsSoundShape, IsWidth};
+    ghost use Rattle.pickle_types.specs.Meaning.{declared, fresh, integer_expression, offset_expression, bound_expression, integer_type, called, plain, offset_type};
+    ghost use Rattle.pickle_types.specs.Built.{Fails, Gives, AreBelow, names_in, words_in};
+    ghost use Rattle.pickle_types.specs.FieldNames.{shape_names, AreDistinct};
+    ghost use Rattle.pickle_types.specs.FieldLists.{IsFieldList};
+    ghost use Rattle.pickle_types.specs.DeclaredNodes.{node_called, IsWritten, IsReferred};
+    ghost use Rattle.pickle_types.specs.Building.{known_types, visible_in, after_itself, named_types, may_add, Builds, HasRoom, AddsAtMost, IsInStep, IsLastNode, HasFormNode, HaveFormNodes, NamesNode, DeclaresNode, DeclaresNodes};
+    ghost use Rattle.pickle_types.specs.Calls.{constraint_meaning, BuildsForm, AddsField, BuildsField, BuildsFields, AddsDeclaration};
+
     /// No types.
     pub fn new(alloc: Global) -> Builder<'n>
-        ensures ready { IsReady result }
+        ensures ready { result.seen ≡ [] }
         ensures none { known_types result ≡ [] }
         ensures empty { result.nodes ≡ [] }
+        ensures order { IsInStep result }
     {
         Builder {
             alloc,
@@ -96,8 +108,6 @@ impl<'n> Builder<'n> {
         trail: Trail,
         e: Option<&Expression<'_>>,
     )
-        requires table { IsTable self.old.nodes }
-        requires names { AreNamed self.old.nodes self.old.names }
         requires seen { AreBelow (length self.old.nodes) levels self.old.seen }
         ensures names { self.new.names ≡ self.old.names }
         ensures nodes { self.new.nodes ≡ self.old.nodes }
@@ -111,13 +121,14 @@ impl<'n> Builder<'n> {
 
     /// Gives a type a name that no other type has.
     fn add(&mut self, word: &'n [u8], found: Found) -> Result<(), FaultKind>
-        requires ready { IsReady self.old }
+        requires ready { self.old.seen ≡ [] }
         requires new { find_type word.now (known_types self.old) ≡ None }
         requires inside { found.node < length self.old.nodes }
         requires deep { found.depth ≡ Types.depth (type_of self.old.nodes found.node) }
-        ensures ready { OnOk result (IsReady self.new) }
+        ensures ready { OnOk result (self.new.seen ≡ []) }
         ensures known { OnOk result
             (known_types self.new ≡ known_types self.old ++ (word.now, type_of self.old.nodes found.node) ∷ []) }
+        ensures named { OnOk result (NamesNode self.old self.new word.now found.node) }
         ensures nodes { self.new.nodes ≡ self.old.nodes }
         ensures err { IfErr result (λ e. e ≡ FaultKind.Memory) }
     {
@@ -131,12 +142,13 @@ impl<'n> Builder<'n> {
 
     /// Adds integer types under new names.
     pub fn predeclare(&mut self, types: &[(&'n [u8], IntegerType)]) -> Result<(), FaultKind>
-        requires ready { IsReady self.old }
+        requires ready { self.old.seen ≡ [] }
         requires new { IsTrue (may_add (known_types self.old) types.now) }
         requires space { HasRoom self.old (length types.now) }
-        ensures ready { OnOk result (IsReady self.new) }
+        ensures ready { OnOk result (self.new.seen ≡ []) }
         ensures known { OnOk result (known_types self.new ≡ known_types self.old ++ named_types types.now) }
         ensures few { OnOk result (AddsAtMost self.old self.new (length types.now)) }
+        ensures order { IsInStep self.old → OnOk result (IsInStep self.new) }
         ensures err { IfErr result (λ e. e ≡ FaultKind.Memory) }
     {
         for entry in types {
@@ -146,13 +158,14 @@ impl<'n> Builder<'n> {
     }
 
     fn predeclare_one(&mut self, word: &'n [u8], ty: IntegerType) -> Result<(), FaultKind>
-        requires ready { IsReady self.old }
+        requires ready { self.old.seen ≡ [] }
         requires new { find_type word.now (known_types self.old) ≡ None }
         requires wide { IsWidth ty }
         requires space { HasRoom self.old 1 }
-        ensures ready { OnOk result (IsReady self.new) }
+        ensures ready { OnOk result (self.new.seen ≡ []) }
         ensures known { OnOk result (known_types self.new ≡ known_types self.old ++ (word.now, IntegerOf ty) ∷ []) }
         ensures few { OnOk result (AddsAtMost self.old self.new 1) }
+        ensures order { IsInStep self.old → OnOk result (IsInStep self.new) }
         ensures err { IfErr result (λ e. e ≡ FaultKind.Memory) }
     {
         let found = self.push(None, Shape::Integer(ty), None, 1)?;
@@ -165,11 +178,12 @@ impl<'n> Builder<'n> {
         slot: Option<u16>,
         declaration: &Declaration<'n>,
     ) -> Result<usize, FaultKind>
-        requires ready { IsReady self.old }
+        requires ready { self.old.seen ≡ [] }
         requires within { IsFormWithin standard (declaration_tree declaration.now).form }
         requires space { HasRoom self.old (form_count (declaration_tree declaration.now).form) }
         ensures few { OnOk result (AddsAtMost self.old self.new (form_count (declaration_tree declaration.now).form)) }
         ensures adds { AddsDeclaration self.old self.new (declaration_tree declaration.now) result }
+        ensures node { OnOk result (DeclaresNode self.old self.new (declaration_tree declaration.now)) }
     {
         if find_name(&self.names, declaration.name).is_some() {
             return Err(FaultKind::DuplicateType);
@@ -185,12 +199,13 @@ impl<'n> Builder<'n> {
 
     /// Adds the types of declarations, and returns their nodes. A declaration whose type has a node already adds none.
     pub fn declare_all(&mut self, declarations: &[Declaration<'n>]) -> Result<Vec<usize>, TypeFault>
-        requires ready { IsReady self.old }
+        requires ready { self.old.seen ≡ [] }
         requires within { AreDeclarationsWithin standard (map declaration_tree declarations.now) }
         requires space { HasRoom self.old (pickle_form_count (map declaration_tree declarations.now)) }
-        ensures ready { OnOk result (IsReady self.new) }
+        ensures ready { OnOk result (self.new.seen ≡ []) }
         ensures ok { OnOk result
             (declared (known_types self.old) (map declaration_tree declarations.now) ≡ Ok (known_types self.new)) }
+        ensures nodes { OnOk result (DeclaresNodes self.old self.new (map declaration_tree declarations.now)) }
         ensures err { IfErr result
             (λ e. Fails e.kind (declared (known_types self.old) (map declaration_tree declarations.now))) }
         ensures place { IfErr result (λ e.
@@ -214,6 +229,7 @@ impl<'n> Builder<'n> {
 
     /// What an expression sees where `levels` frames are open.
     fn context(&self, levels: u8) -> Context<'_, 'n>
+        requires seen { AreBelow (length self.now.nodes) levels self.now.seen }
         ensures names { result.names.now ≡ self.now.names }
         ensures nodes { result.nodes.now ≡ self.now.nodes }
         ensures seen { result.seen.now ≡ self.now.seen }
@@ -236,8 +252,6 @@ impl<'n> Builder<'n> {
         trail: &mut Trail,
         e: Option<&Expression<'_>>,
     ) -> Result<Option<Box<Resolved>>, FaultKind>
-        requires table { IsTable self.now.nodes }
-        requires names { AreNamed self.now.nodes self.now.names }
         requires seen { AreBelow (length self.now.nodes) levels self.now.seen }
         ensures gives { Gives optional_term result
             (integer_expression (known_types self.now) (visible_in self.now) levels (borrowed_tree e.entry)) }
@@ -259,8 +273,6 @@ impl<'n> Builder<'n> {
         trail: &mut Trail,
         e: Option<&Expression<'_>>,
     ) -> Result<Option<Box<Resolved>>, FaultKind>
-        requires table { IsTable self.now.nodes }
-        requires names { AreNamed self.now.nodes self.now.names }
         requires seen { AreBelow (length self.now.nodes) levels self.now.seen }
         ensures gives { Gives optional_term result
             (offset_expression (known_types self.now) (visible_in self.now) levels (borrowed_tree e.entry)) }
@@ -284,8 +296,6 @@ impl<'n> Builder<'n> {
         trail: &mut Trail,
         e: &Option<Box<Expression<'_>>>,
     ) -> Result<Extent, FaultKind>
-        requires table { IsTable self.now.nodes }
-        requires names { AreNamed self.now.nodes self.now.names }
         requires seen { AreBelow (length self.now.nodes) levels self.now.seen }
         ensures gives { Gives bound_of result
             (bound_expression (known_types self.now) (visible_in self.now) levels (boxed_tree e.now)) }
@@ -308,8 +318,6 @@ impl<'n> Builder<'n> {
         levels: u8,
         e: Option<&Expression<'_>>,
     ) -> Result<Option<Box<Resolved>>, FaultKind>
-        requires table { IsTable self.old.nodes }
-        requires names { AreNamed self.old.nodes self.old.names }
         requires seen { AreBelow (length self.old.nodes) levels self.old.seen }
         ensures gives { Gives optional_term result
             (offset_expression (known_types self.old) (visible_in self.old) levels (borrowed_tree e.entry)) }
@@ -332,8 +340,6 @@ impl<'n> Builder<'n> {
         levels: u8,
         e: Option<&Expression<'_>>,
     ) -> Result<Option<Box<Resolved>>, FaultKind>
-        requires table { IsTable self.old.nodes }
-        requires names { AreNamed self.old.nodes self.old.names }
         requires seen { AreBelow (length self.old.nodes) levels self.old.seen }
         ensures gives { Gives optional_term result
             (integer_expression (known_types self.old) (visible_in self.old) levels (borrowed_tree e.entry)) }
@@ -357,8 +363,6 @@ impl<'n> Builder<'n> {
         itself: Seen<'n>,
         e: Option<&Expression<'_>>,
     ) -> Result<Option<Box<Resolved>>, FaultKind>
-        requires table { IsTable self.old.nodes }
-        requires names { AreNamed self.old.nodes self.old.names }
         requires level { itself.level < 64 }
         requires inside { itself.node < length self.old.nodes }
         requires seen { AreBelow (length self.old.nodes) (itself.level + 1) self.old.seen }
@@ -394,8 +398,6 @@ impl<'n> Builder<'n> {
         before: &FieldList,
         written: &tree::Field<'n>,
     ) -> Result<Field, FaultKind>
-        requires table { IsTable self.old.nodes }
-        requires names { AreNamed self.old.nodes self.old.names }
         requires seen { AreBelow (length self.old.nodes) (levels + 1) self.old.seen }
         requires few { levels < 64 }
         requires inside { found.node < length self.old.nodes }
@@ -447,8 +449,6 @@ impl<'n> Builder<'n> {
         depth: u8,
     ) -> Result<Found, FaultKind>
         requires distinct { IfSome places (λ _. AreDistinct (shape_names shape)) }
-        requires table { IsTable self.old.nodes }
-        requires names { AreNamed self.old.nodes self.old.names }
         requires below { NamesBelow (length self.old.nodes) shape }
         requires sound { IsSoundShape shape }
         requires depth { depth ≡ Types.depth (open_shape (type_of self.old.nodes) shape) }
@@ -457,6 +457,8 @@ impl<'n> Builder<'n> {
         ensures builds { Builds self.old self.new result (Ok (open_shape (type_of self.old.nodes) shape)) }
         ensures few { OnOk result (AddsAtMost self.old self.new 1) }
         ensures depth { IfOk result (λ found. found.depth ≡ depth) }
+        ensures node { IfOk result (λ found. IsLastNode self.old.nodes self.new.nodes found.node shape) }
+        ensures names { self.new.names ≡ self.old.names }
         ensures memory { IfErr result (λ e. e ≡ FaultKind.Memory) }
     {
         let node = self.nodes.len();
@@ -466,10 +468,9 @@ impl<'n> Builder<'n> {
 
     /// The type of a name. A type deeper than `room` is `TooDeep`.
     fn called_at(&self, room: u8, word: &[u8]) -> Result<Found, FaultKind>
-        requires table { IsTable self.now.nodes }
-        requires names { AreNamed self.now.nodes self.now.names }
         ensures builds { Builds self.now self.now result (called room word.now (known_types self.now)) }
         ensures low { IfOk result (λ found. found.depth ≤ room) }
+        ensures node { IfOk result (λ found. node_called (types_in self.now.names) word.now ≡ Some found.node) }
     {
         match find_name(&self.names, word) {
             None => Err(FaultKind::UnknownType),
@@ -491,12 +492,11 @@ impl<'n> Builder<'n> {
         signed: bool,
         width: u64,
     ) -> Result<Found, FaultKind>
-        requires table { IsTable self.old.nodes }
-        requires names { AreNamed self.old.nodes self.old.names }
         requires space { HasRoom self.old 1 }
         ensures builds { Builds self.old self.new result (integer_type signed width) }
         ensures few { OnOk result (AddsAtMost self.old self.new 1) }
         ensures low { IfOk result (λ found. found.depth ≤ 1) }
+        ensures node { IfOk result (λ found. IsWritten self.new.nodes found.node) }
     {
         let t = in_range(signed, width)?;
         if let Some(node) = predeclared_node(&self.nodes, t) {
@@ -512,14 +512,14 @@ impl<'n> Builder<'n> {
         room: u8,
         reference: &Reference<'_>,
     ) -> Result<Found, FaultKind>
-        requires table { IsTable self.old.nodes }
-        requires names { AreNamed self.old.nodes self.old.names }
         requires some { 0 < room }
         requires space { HasRoom self.old 1 }
         ensures builds { Builds self.old self.new result
             (plain room (known_types self.old) (reference_tree reference.now)) }
         ensures few { OnOk result (AddsAtMost self.old self.new 1) }
         ensures low { IfOk result (λ found. found.depth ≤ room) }
+        ensures node { IfOk result
+            (λ found. IsReferred self.new.nodes (types_in self.new.names) (reference_tree reference.now) found.node) }
     {
         match reference {
             Reference::Int(n) => self.integer_at(slot, true, n.value),
@@ -535,8 +535,6 @@ impl<'n> Builder<'n> {
         reference: &Reference<'_>,
         unit: Unit,
     ) -> Result<Found, FaultKind>
-        requires table { IsTable self.old.nodes }
-        requires names { AreNamed self.old.nodes self.old.names }
         requires space { HasRoom self.old 1 }
         ensures builds { Builds self.old self.new result
             (offset_type (known_types self.old) (reference_tree reference.now) unit) }
@@ -558,8 +556,6 @@ impl<'n> Builder<'n> {
         room: u8,
         form: &Form<'n>,
     ) -> Result<Found, FaultKind>
-        requires table { IsTable self.old.nodes }
-        requires names { AreNamed self.old.nodes self.old.names }
         requires seen { AreBelow (length self.old.nodes) levels self.old.seen }
         requires few { levels + room ≤ 64 }
         requires within { IsFormWithin standard (form_tree form.now) }
@@ -567,6 +563,7 @@ impl<'n> Builder<'n> {
         ensures builds { BuildsForm self.old self.new levels title.entry room (form_tree form.now) result }
         ensures few { OnOk result (AddsAtMost self.old self.new (form_count (form_tree form.now))) }
         ensures low { IfOk result (λ found. found.depth ≤ room) }
+        ensures node { IfOk result (λ found. HasFormNode self.new (form_tree form.now) found.node) }
     {
         if room == 0 {
             return Err(FaultKind::TooDeep);
@@ -594,8 +591,6 @@ impl<'n> Builder<'n> {
         element: &Form<'n>,
         bound: &Option<Box<Expression<'_>>>,
     ) -> Result<Found, FaultKind>
-        requires table { IsTable self.old.nodes }
-        requires names { AreNamed self.old.nodes self.old.names }
         requires seen { AreBelow (length self.old.nodes) levels self.old.seen }
         requires some { 0 < room }
         requires few { levels + room ≤ 64 }
@@ -606,6 +601,8 @@ impl<'n> Builder<'n> {
         ensures few { OnOk result
             (AddsAtMost self.old self.new (form_count (ArrayForm (form_tree element.now) (boxed_tree bound.now)))) }
         ensures low { IfOk result (λ found. found.depth ≤ room) }
+        ensures node { IfOk result
+            (λ found. HasFormNode self.new (ArrayForm (form_tree element.now) (boxed_tree bound.now)) found.node) }
     {
         let title_of_element = Title {
             name: None,
@@ -644,8 +641,6 @@ impl<'n> Builder<'n> {
         pinned: bool,
         written: &[tree::Field<'n>],
     ) -> Result<Found, FaultKind>
-        requires table { IsTable self.old.nodes }
-        requires names { AreNamed self.old.nodes self.old.names }
         requires seen { AreBelow (length self.old.nodes) levels self.old.seen }
         requires some { 0 < room }
         requires few { levels + room ≤ 64 }
@@ -656,6 +651,8 @@ impl<'n> Builder<'n> {
         ensures few { OnOk result
             (AddsAtMost self.old self.new (form_count (StructForm pinned (fields_tree written.now)))) }
         ensures low { IfOk result (λ found. found.depth ≤ room) }
+        ensures node { IfOk result
+            (λ found. HasFormNode self.new (StructForm pinned (fields_tree written.now)) found.node) }
     {
         let (fields, depth) = self.fields_at(struct_place(pinned), levels, room - 1, written)?;
         let (fields, places) = fields.into_parts();
@@ -682,8 +679,6 @@ impl<'n> Builder<'n> {
         reference: &Reference<'_>,
         written: &[tree::Field<'n>],
     ) -> Result<Found, FaultKind>
-        requires table { IsTable self.old.nodes }
-        requires names { AreNamed self.old.nodes self.old.names }
         requires seen { AreBelow (length self.old.nodes) levels self.old.seen }
         requires some { 0 < room }
         requires few { levels + room ≤ 64 }
@@ -696,6 +691,8 @@ impl<'n> Builder<'n> {
         ensures few { OnOk result (AddsAtMost self.old self.new
             (form_count (IntegralForm (reference_tree reference.now) (fields_tree written.now)))) }
         ensures low { IfOk result (λ found. found.depth ≤ room) }
+        ensures node { IfOk result (λ found.
+            HasFormNode self.new (IntegralForm (reference_tree reference.now) (fields_tree written.now)) found.node) }
     {
         let number = integer_referred(&self.names, &self.nodes, reference)?;
         let (fields, depth) = self.fields_at(Enclosing::Integral, levels, room - 1, written)?;
@@ -728,8 +725,6 @@ impl<'n> Builder<'n> {
         room: u8,
         written: &[tree::Field<'n>],
     ) -> Result<Found, FaultKind>
-        requires table { IsTable self.old.nodes }
-        requires names { AreNamed self.old.nodes self.old.names }
         requires seen { AreBelow (length self.old.nodes) levels self.old.seen }
         requires some { 0 < room }
         requires few { levels + room ≤ 64 }
@@ -739,6 +734,7 @@ impl<'n> Builder<'n> {
             (UnionForm (fields_tree written.now)) result }
         ensures few { OnOk result (AddsAtMost self.old self.new (form_count (UnionForm (fields_tree written.now)))) }
         ensures low { IfOk result (λ found. found.depth ≤ room) }
+        ensures node { IfOk result (λ found. HasFormNode self.new (UnionForm (fields_tree written.now)) found.node) }
     {
         if written.is_empty() {
             return Err(FaultKind::NotHere);
@@ -765,8 +761,6 @@ impl<'n> Builder<'n> {
         before: &FieldList,
         written: &tree::Field<'n>,
     ) -> Result<(Field, u8), FaultKind>
-        requires table { IsTable self.old.nodes }
-        requires names { AreNamed self.old.nodes self.old.names }
         requires seen { AreBelow (length self.old.nodes) (levels + 1) self.old.seen }
         requires few { levels + 1 + room ≤ 64 }
         requires list { IsFieldList (words_in self.old.names) before.now }
@@ -779,6 +773,7 @@ impl<'n> Builder<'n> {
         ensures fresh { IfOk result
             (λ _. fresh (field_tree written.now).parts.name (names_in before.now.fields.items) ≡ Ok tt) }
         ensures low { IfOk result (λ x. x.1 ≤ room) }
+        ensures node { IfOk result (λ x. HasFormNode self.new (field_tree written.now).form x.0.node) }
     {
         let found = self.type_at(
             levels + 1,
@@ -803,8 +798,6 @@ impl<'n> Builder<'n> {
         room: u8,
         written: &[tree::Field<'n>],
     ) -> Result<(FieldList, u8), FaultKind>
-        requires table { IsTable self.old.nodes }
-        requires names { AreNamed self.old.nodes self.old.names }
         requires seen { AreBelow (length self.old.nodes) levels self.old.seen }
         requires few { levels + 1 + room ≤ 64 }
         requires within { AreFieldsWithin standard (fields_tree written.now) }
@@ -815,6 +808,7 @@ impl<'n> Builder<'n> {
         ensures sound { IfOk result (λ x. All IsSoundField x.0.fields.items) }
         ensures distinct { IfOk result (λ x. AreDistinct (names_in x.0.fields.items)) }
         ensures low { IfOk result (λ x. x.1 ≤ room) }
+        ensures nodes { IfOk result (λ x. HaveFormNodes self.new (fields_tree written.now) x.0.fields.items) }
     {
         let mark = self.seen.len();
         let mut fields = FieldList::with_capacity(self.alloc, written.len())?;

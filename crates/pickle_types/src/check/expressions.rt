@@ -9,6 +9,7 @@ ghost use Rattle.pickle_types.specs.Built.{Gives, names_of, views_of, sort_of, m
 ghost use Rattle.pickle_types.specs.Calls.{typed_in};
 ghost use Rattle.pickle_types.specs.declared.node.Node.{Node};
 
+use crate::check::context::Context;
 use crate::check::nodes::Nodes;
 use crate::check::operators::{Scalar, before, between, choice};
 use crate::check::references::{target_type, unit_bits};
@@ -351,16 +352,6 @@ fn is_path(e: &Expression<'_>) -> bool
     }
 }
 
-/// What an expression sees: the types, and the visible fields. `levels` frames are open.
-#[derive(Clone, Copy)]
-pub struct Context<'a, 'n> {
-    pub alloc: Global,
-    pub names: &'a Names<'n>,
-    pub nodes: &'a Nodes,
-    pub seen: &'a Scopes<'n>,
-    pub levels: u8,
-}
-
 /// An operand of the expression at the end of a trail. The trail goes on to it, and comes back if it has no fault.
 #[cycle(expressions)]
 fn operand(
@@ -369,9 +360,6 @@ fn operand(
     number: u8,
     e: &Expression<'_>,
 ) -> Result<Meant, FaultKind>
-    requires table { IsTable context.now.nodes.now }
-    requires names { AreNamed context.now.nodes.now context.now.names.now }
-    requires seen { AreBelow (length context.now.nodes.now) context.now.levels context.now.seen.now }
     ensures gives { Gives (meant_of context.now.nodes.now) result (typed_in context.now (expression_tree e.now)) }
     ensures sound { IfOk result (IsSoundMeant context.now.nodes.now) }
 {
@@ -389,9 +377,6 @@ pub fn resolve_expression(
     trail: &mut Trail,
     e: &Expression<'_>,
 ) -> Result<Meant, FaultKind>
-    requires table { IsTable context.now.nodes.now }
-    requires names { AreNamed context.now.nodes.now context.now.names.now }
-    requires seen { AreBelow (length context.now.nodes.now) context.now.levels context.now.seen.now }
     ensures gives { Gives (meant_of context.now.nodes.now) result (typed_in context.now (expression_tree e.now)) }
     ensures sound { IfOk result (IsSoundMeant context.now.nodes.now) }
 {

@@ -114,7 +114,11 @@ pub fn check_allowed(place: Enclosing, bits: bool, field: &tree::Field<'_>) -> R
 
 /// Fails with `DuplicateField` where an earlier field has this name.
 #[tactic(auto, unfolding(crate::specs::Meaning::fresh))]
-pub fn check_new_name(names: &Names, name: Option<&[u8]>, fields: &FieldList) -> Result<(), FaultKind>
+pub fn check_new_name(
+    names: &Names,
+    name: Option<&[u8]>,
+    fields: &FieldList,
+) -> Result<(), FaultKind>
     requires { IsFieldList (words_in names.now) fields.now }
     ensures { Gives (λ u. u) result (fresh (bytes_now name.entry) (names_in fields.now.fields.items)) }
 {

@@ -1,12 +1,13 @@
 //! Where in a declaration its types are refused, and the types of the operands there.
 
-ghost use Rattle.std.specs.Prelude.{◌≡◌, ◌<◌, length, slice_get};
+ghost use Rattle.std.specs.Prelude.{◌≡◌, ◌<◌, slice_get};
 ghost use Rattle.pickle_tree.specs.Tree.{expression_tree, borrowed_tree};
 ghost use Rattle.pickle_types.specs.Table.{IsTable};
-ghost use Rattle.pickle_types.specs.Built.{AreNamed, AreBelow, IsInside, sort_of};
+ghost use Rattle.pickle_types.specs.Built.{IsInside, sort_of};
 ghost use Rattle.pickle_types.specs.Sites.{operands, operand_along, TellsSort, TellsType, TellsOperand, TellsRefused};
 
-use crate::check::expressions::{Context, resolve_expression};
+use crate::check::context::Context;
+use crate::check::expressions::resolve_expression;
 use crate::check::nodes::Nodes;
 use crate::check::operators::Scalar;
 use crate::check::sorts::{Sort, shape_at};
@@ -141,9 +142,6 @@ fn operand_type(nodes: &Nodes, sort: Sort) -> OperandType
 
 /// The type of an expression. `None` if it has none.
 fn type_in(context: &Context<'_, '_>, e: &Expression<'_>) -> Option<OperandType>
-    requires table { IsTable context.now.nodes.now }
-    requires names { AreNamed context.now.nodes.now context.now.names.now }
-    requires seen { AreBelow (length context.now.nodes.now) context.now.levels context.now.seen.now }
     ensures { TellsType context.now (expression_tree e.now) result }
 {
     let mut trail = Trail::new();
@@ -183,9 +181,6 @@ fn operand_at<'a, 't>(e: &'a Expression<'t>, numbers: &[u8]) -> Option<&'a Expre
 
 /// What is refused of an expression that isn't allowed in its place, or whose operand at the end of a trail has a fault.
 pub fn refused_in(context: &Context<'_, '_>, trail: Trail, e: &Expression<'_>) -> RefusedExpression
-    requires table { IsTable context.now.nodes.now }
-    requires names { AreNamed context.now.nodes.now context.now.names.now }
-    requires seen { AreBelow (length context.now.nodes.now) context.now.levels context.now.seen.now }
     ensures { TellsRefused context.now (expression_tree e.now) result }
 {
     if let Some(found) = type_in(context, e) {
@@ -204,9 +199,6 @@ pub fn refused_in(context: &Context<'_, '_>, trail: Trail, e: &Expression<'_>) -
 
 /// The type of an operand of that number. `None` if there is none.
 fn type_of_operand(context: &Context<'_, '_>, e: &Expression<'_>, number: u8) -> Option<OperandType>
-    requires table { IsTable context.now.nodes.now }
-    requires names { AreNamed context.now.nodes.now context.now.names.now }
-    requires seen { AreBelow (length context.now.nodes.now) context.now.levels context.now.seen.now }
     ensures { TellsOperand context.now (expression_tree e.now) number result }
 {
     type_in(context, operand_in(e, number)?)

@@ -1,6 +1,6 @@
 //! The sort of an expression: a text literal, or a value of a type.
 
-ghost use Rattle.std.specs.Prelude.{◌≡◌, ℕ, ◌<◌, length, slice_get, Some, true, IfOk, IfSome, option_map};
+ghost use Rattle.std.specs.Prelude.{◌≡◌, ◌≢◌, ℕ, ◌<◌, length, slice_get, Some, true, false, IfOk, IfSome, option_map};
 ghost use Rattle.pickle_types.specs.Types.{PokeType, IntegerOf};
 ghost use Rattle.pickle_types.specs.Table.{open_shape, type_of, FieldsBelow, PartsBelow, NamesBelow, IsTable};
 ghost use Rattle.pickle_types.specs.Expressions.{or_wrong, type_operand, operand_of, element_in, sort_element, sort_field};
@@ -49,7 +49,9 @@ pub fn shape_at<'a>(nodes: &'a Nodes, i: usize) -> &'a Shape
 /// The node of the predeclared type of that width and sign, if there is one. The predeclared nodes are the first.
 pub fn predeclared_node(nodes: &Nodes, ty: IntegerType) -> Option<usize>
     requires { IsTable nodes.now }
-    ensures { IfSome result (λ i. (i < length nodes.now) × (type_of nodes.now i ≡ IntegerOf ty)) }
+    ensures is { IfSome result (λ i. (i < length nodes.now) × (type_of nodes.now i ≡ IntegerOf ty)) }
+    ensures first { (j : ℕ) → j < 18 → j < length nodes.now → IfSome result (λ i. j < i) →
+        type_of nodes.now j ≢ IntegerOf ty }
 {
     for i in 0..nodes.len().min(PREDECLARED.len()) {
         if is_integer(shape_at(nodes, i), ty) {
@@ -60,7 +62,8 @@ pub fn predeclared_node(nodes: &Nodes, ty: IntegerType) -> Option<usize>
 }
 
 fn is_integer(shape: &Shape, ty: IntegerType) -> bool
-    ensures { result ≡ true → (at : ℕ → PokeType) → open_shape at shape.now ≡ IntegerOf ty }
+    ensures yes { result ≡ true → (at : ℕ → PokeType) → open_shape at shape.now ≡ IntegerOf ty }
+    ensures no { result ≡ false → (at : ℕ → PokeType) → open_shape at shape.now ≢ IntegerOf ty }
 {
     match shape {
         Shape::Integer(found) => *found == ty,

@@ -56,3 +56,38 @@ returns-clause-named c nodes named =
     let found : declared_as word (values types) ≡ Some d.declared =
     named_some words c.names.inside.numbers types c.names.invariant word number (Some d) is kept in
     rw found at (found_named word (IsNamed nodes) (values types) (rw (← c.names.view_is) at named))
+
+pub returns-in_err-number-clause-is : goal.returns-in_err-number-clause-is
+returns-in_err-number-clause-is c =
+    let types = c.names.inside.types in
+    let words = map (λ (w : Bor (List ℕ)). w.now) c.names.inside.words.items in
+    let word = c.args.word.now in
+    let none : number_in words word ≡ None =
+    rw (← c.names.view_is) at (sym c.number_of.ensures ∙ c.in_err-number.was) in
+    rw (c.from_residual.ensures, ← c.names.view_is)
+    (sym (named_none words c.names.inside.numbers types c.names.invariant word none))
+
+pub returns-in_err-named-clause-is : goal.returns-in_err-named-clause-is
+returns-in_err-named-clause-is c =
+    let types = c.names.inside.types in
+    let words = map (λ (w : Bor (List ℕ)). w.now) c.names.inside.words.items in
+    let word = c.args.word.now in
+    let number = c.in_ok-number.number in
+    let is : number_in words word ≡ Some number =
+    rw (← c.names.view_is) at (sym c.number_of.ensures ∙ c.in_ok-number.was) in
+    let kept : in_map types number ≡ None = sym c.get.ensures.value ∙ ap option_copied c.in_err-named.was in
+    rw (c.from_residual-in_err-named.ensures, ← c.names.view_is)
+    (sym (named_some words c.names.inside.numbers types c.names.invariant word number None is kept))
+
+pub returns-clause-is : goal.returns-clause-is
+returns-clause-is c =
+    let types = c.names.inside.types in
+    let words = map (λ (w : Bor (List ℕ)). w.now) c.names.inside.words.items in
+    let word = c.args.word.now in
+    let number = c.in_ok-number.number in
+    let d = c.in_ok-named.named.now in
+    let is : number_in words word ≡ Some number =
+    rw (← c.names.view_is) at (sym c.number_of.ensures ∙ c.in_ok-number.was) in
+    let kept : in_map types number ≡ Some d = sym c.get.ensures.value ∙ ap option_copied c.in_ok-named.was in
+    rw (← c.names.view_is)
+    (sym (named_some words c.names.inside.numbers types c.names.invariant word number (Some d) is kept))

@@ -1,19 +1,23 @@
-use Rattle.std.proofs.Common.{◌≡◌, [], ◌∷◌, ◌+◌, ◌-◌, Ok, length, drop, refl, sym, ap, ◌∙◌, arith, eqb-true}
+use Rattle.std.proofs.Common.{◌≡◌, List, map, [], ◌∷◌, ◌+◌, ◌-◌, Ok, length, drop, refl, sym, ap, ◌∙◌, arith, eqb-true}
 use Rattle.std.proofs.lemmas.Bool.{eqb-false}
 use Rattle.std.proofs.lemmas.List.{drop_all, length-append, take_all}
 use Rattle.std.proofs.lemmas.List.Elements.{All-append}
 use Rattle.std.proofs.lemmas.Result.{err_from_is_err_and}
-use Rattle.pickle_tree.specs.Tree.{Plain, StringForm, OffsetForm, reference_tree, boxed_tree, form_tree, fields_tree}
+use Rattle.pickle_tree.specs.Tree.{Plain, StringForm, OffsetForm, reference_tree, boxed_tree, form_tree, field_tree, fields_tree}
+use Rattle.pickle_tree.specs.declared.tree.Field as tree
 use Rattle.pickle_types.specs.declared.check.builder.Builder.{Builder}
+use Rattle.pickle_types.specs.declared.node.Field.{Field}
 use Rattle.pickle_types.specs.Types.{depth, StructOf}
 use Rattle.pickle_types.specs.Table.{type_of, IsSoundField}
 use Rattle.pickle_types.specs.Meaning.{meaning, fields_meaning, struct_place}
-use Rattle.pickle_types.specs.Built.{bytes_now, words_in}
-use Rattle.pickle_types.specs.Building.{known_types, visible_in}
+use Rattle.pickle_types.specs.Built.{bytes_now, words_in, names_in, part_of}
+use Rattle.pickle_types.specs.DeclaredNodes.{field_nodes, alternative_nodes}
+use Rattle.pickle_types.specs.Building.{known_types, visible_in, Keeps}
 use Rattle.pickle_types.proofs.Forms.{reference_form, string_form, offset_form}
 use Rattle.pickle_types.proofs.Growth.{type_kept}
 use Rattle.pickle_types.proofs.Steps.{fails_bind}
-use Rattle.pickle_types.proofs.Buildings.{meaning_plain, meaning_string, meaning_offset, meaning_array, meaning_struct, meaning_integral, meaning_union, built_then, visible_kept, array_depth, struct_depth, integral_depth, union_depth, parts_opened, parts_below, parts_sound, parts_few, some_alternative, integral_fits, integral_wrong, so_far_more, so_far_none, so_far_numbered, fields_next, drop_item, kept_on, builds_as, no_alternative, field_on, fields_end, all_built}
+use Rattle.pickle_types.proofs.Buildings.{meaning_plain, meaning_string, meaning_offset, meaning_array, meaning_struct, meaning_integral, meaning_union, built_then, visible_kept, array_depth, struct_depth, integral_depth, union_depth, parts_opened, parts_below, parts_sound, parts_few, some_alternative, integral_fits, integral_wrong, so_far_more, so_far_none, so_far_numbered, so_far_as, built_after, built_as, fields_next, drop_item, kept_on, builds_as, no_alternative, field_on, fields_end, all_built}
+use Rattle.pickle_types.proofs.BuiltNodes.{form_on, parts_nodes, array_node, struct_node, integral_node, union_node, forms_none, forms_more, forms_end, ok_on, ok_any}
 use Rattle.pickle_types.proofs.Selections.{names_of_parts}
 use Rattle.pickle_types.proofs.Lists.{for_any, list_on}
 use Rattle.pickle_types.proofs.check.builder.Builder.+types.Goals as goal
@@ -65,7 +69,7 @@ array_at-returns-in-Err-bound_expression-clause-builds t c =
     let m = meaning_array (known_types b) (visible_in b) c.args.levels (bytes_now c.args.title.name) c.args.room
     (form_tree c.args.element.now) (boxed_tree c.args.bound.now) (omega arith) in
     let e = c.in-Ok.ensures.builds in
-    let seen = visible_kept b c.type_at.new.self c.requires.table e.2.keeps e.2.seen c.args.levels c.requires.seen in
+    let seen = visible_kept b c.type_at.new.self e.2.keeps e.2.seen c.args.levels c.requires.seen in
     let h = rw (e.2.keeps.known, seen) at c.in-Err-bound_expression.ensures.gives in
     rw (m, e.1) (fails_bind _ _ _ h)
 
@@ -81,7 +85,7 @@ array_at-returns-clause-builds t c =
     let m = meaning_array (known_types b) (visible_in b) c.args.levels (bytes_now c.args.title.name) c.args.room
     (form_tree c.args.element.now) (boxed_tree c.args.bound.now) (omega arith) in
     let e = c.in-Ok.ensures.builds in
-    let seen = visible_kept b c.type_at.new.self c.requires.table e.2.keeps e.2.seen c.args.levels c.requires.seen in
+    let seen = visible_kept b c.type_at.new.self e.2.keeps e.2.seen c.args.levels c.requires.seen in
     let h = rw (e.2.keeps.known, seen) at c.in-Ok-bound_expression.ensures.gives in
     built_then _ _ _ c.push.result _ _ e.2.keeps e.2.seen (rw (m, e.1, h, e.2.type) refl) c.push.ensures.builds
 
@@ -176,7 +180,13 @@ integral_at-returns-clause-builds t c =
     let fits = integral_fits (bytes_now c.args.title.name) c.in_ok-number.number e.0
     (sym w ∙ c.if-width-from.false ∙ c.from.ensures) in
     let parts = parts_opened (type_of c.fields_at.new.self.nodes) c.in_ok-fields.fields.fields.items in
-    built_then _ _ _ c.push.result _ _ e.2.keeps e.2.seen (rw (
+    let keeps : Keeps b c.fields_at.new.self = record {
+      grows = e.2.keeps.grows;
+      known = e.2.keeps.known;
+      types = e.2.keeps.types;
+      numbers = e.2.keeps.numbers;
+    } in
+    built_after b c.fields_at.new.self _ _ c.push.result _ _ c.push.ensures.builds keeps e.2.seen refl refl refl (rw (
       m,
       n,
       e.1,
@@ -186,7 +196,7 @@ integral_at-returns-clause-builds t c =
       parts,
       e.2.opened,
       c.in_ok-name.ensures.ok,
-    ) refl) c.push.ensures.builds
+    ) refl)
 
 pub union_at-returns-then-is_empty-clause-builds : goal.union_at-returns-then-is_empty-clause-builds
 union_at-returns-then-is_empty-clause-builds t c =
@@ -254,10 +264,10 @@ field_at-returns-clause-builds t c =
     let e = c.in_ok-found.ensures.builds in
     let given = rw c.form_in.ensures at e.1 in
     let seen =
-    visible_kept b c.type_at.new.self c.requires.table e.2.keeps e.2.seen (c.args.levels + 1) c.requires.seen in
+    visible_kept b c.type_at.new.self e.2.keeps e.2.seen (c.args.levels + 1) c.requires.seen in
     let g = c.in_ok-field.ensures.gives in
     let h = rw (e.2.keeps.known, seen, e.2.type) at g.1 in
-    let same = type_kept c.type_at.new.self.nodes c.field_of.new.self.nodes e.2.keeps.table g.2.keeps.grows
+    let same = type_kept c.type_at.new.self.nodes c.field_of.new.self.nodes c.type_at.new.self.table g.2.keeps.grows
     c.in_ok-found.found.node e.2.inside in
     let node = rw c.in_ok-field.ensures.node at g.2.type in (
       g.0,
@@ -276,7 +286,8 @@ fields_at-loop-f-init t c = record {
   below = λ k d lt. let b = c.requires.seen k d lt in record { node = b.node; level = omega arith };
   list = c.in_ok-fields.ensures.list (words_in c.args.self.now.names);
   sound = rw c.in_ok-fields.ensures.none (λ k d lt. absurd (omega arith));
-  so_far = rw c.in_ok-fields.ensures.none (so_far_none c.args.self.now [] _ c.requires.table c.requires.names refl);
+  so_far = rw c.in_ok-fields.ensures.none (so_far_none c.args.self.now [] _ refl);
+  forms = forms_none c.args.self.now (fields_tree c.args.written.now) _ c.in_ok-fields.ensures.none;
 }
 
 pub fields_at-field_at-requires : goal.fields_at-field_at-requires
@@ -287,10 +298,7 @@ fields_at-field_at-requires t c =
     -- the measure falls; then what is required
     (
       omega arith,
-      (
-        i.so_far.keeps.table,
-        (i.so_far.keeps.named, (i.below, (c.requires.few, (i.list, ((rw e at i.within).0, omega arith))))),
-      ),
+      (i.below, (c.requires.few, (i.list, ((rw e at i.within).0, omega arith)))),
     )
 
 pub fields_at-loop-f-preserved : goal.fields_at-loop-f-preserved
@@ -299,7 +307,15 @@ fields_at-loop-f-preserved t c =
     let b = c.loop-f.self in
     let n = c.field_at.new.self in
     let m : Builder =
-    record { alloc = n.alloc; names = c.push.new.names; nodes = n.nodes; seen = n.seen; site = n.site } in
+    record {
+      alloc = n.alloc;
+      names = c.push.new.names;
+      nodes = n.nodes;
+      seen = n.seen;
+      site = n.site;
+      table = n.table;
+      named = rw c.push.ensures.types n.named;
+    } in
     let fields = c.loop-f.fields.fields.items in
     let i = c.loop-f.invariant in
     let h = c.in-Ok.ensures.builds in
@@ -310,6 +326,8 @@ fields_at-loop-f-preserved t c =
     let added = c.in-Ok.ensures.few in
     let next = fields_next (known_types a) c.args.place (visible_in b) (visible_in n) c.args.levels c.args.room fields
     c.in-Ok.built.0 c.f-item.result (drop (c.loop-f.f-index + 1) c.args.written.now) h.0 given h.2.name h.2.seen in
+    let step = ap (λ (l : List tree.Field). fields_meaning (known_types a) c.args.place (visible_in b) c.args.levels
+    c.args.room (names_in fields) (fields_tree l)) e ∙ next in
     record {
       low = rw c.max-deepest.ensures (omega arith);
       count = rw c.in_ok-push.ensures.ok (length-append fields (c.in-Ok.built.0 ∷ []) ∙ ap (λ k. k + 1) i.count);
@@ -320,10 +338,13 @@ fields_at-loop-f-preserved t c =
       sound = rw c.in_ok-push.ensures.ok (All-append IsSoundField fields (c.in-Ok.built.0 ∷ []) i.sound
           (λ k d lt. let z : k ≡ 0 = omega arith in rw z c.in-Ok.ensures.sound));
       list = c.in_ok-push.ensures.list;
-      so_far = rw (c.in_ok-push.ensures.ok, c.max-deepest.ensures)
+      so_far = rw (c.in_ok-push.ensures.ok, c.max-deepest.ensures) (so_far_as a m _ _ _ _ _
           (so_far_numbered a n m _ _ _ _ (so_far_more a b n fields c.in-Ok.built.0 c.loop-f.deepest c.in-Ok.built.1
-          c.args.place c.args.levels _ _ h.0 _ _ _ i.so_far h.2 h.3 (rw e next))
-          refl c.in_ok-push.ensures.types c.in_ok-push.ensures.kept);
+          c.args.place c.args.levels _ _ h.0 _ _ _ i.so_far h.2 h.3 step)
+          refl c.in_ok-push.ensures.types c.in_ok-push.ensures.kept) refl refl);
+      forms = rw c.in_ok-push.ensures.ok (forms_more b n m (fields_tree c.args.written.now) fields c.in-Ok.built.0
+          c.f-item.result (drop (c.loop-f.f-index + 1) c.args.written.now) h.2.keeps refl c.in_ok-push.ensures.types
+          (rw e at i.forms) c.in-Ok.ensures.node);
     }
 
 pub field_at-returns-in_err-field-clause-builds : goal.field_at-returns-in_err-field-clause-builds
@@ -333,7 +354,7 @@ field_at-returns-in_err-field-clause-builds t c =
     let e = c.in_ok-found.ensures.builds in
     let given = rw c.form_in.ensures at e.1 in
     let seen =
-    visible_kept b c.type_at.new.self c.requires.table e.2.keeps e.2.seen (c.args.levels + 1) c.requires.seen in
+    visible_kept b c.type_at.new.self e.2.keeps e.2.seen (c.args.levels + 1) c.requires.seen in
     let h = rw (e.2.keeps.known, seen, e.2.type) at c.in_err-field.ensures.gives in
     rw (p.1, p.2, given) h
 
@@ -342,12 +363,21 @@ fields_at-returns-clause-builds t c =
     let a = c.args.self.now in
     let b = c.loop-f.self in
     let n : Builder =
-    record { alloc = b.alloc; names = b.names; nodes = b.nodes; seen = c.truncate.new.self; site = b.site } in
+    record {
+      alloc = b.alloc;
+      names = b.names;
+      nodes = b.nodes;
+      seen = c.truncate.new.self;
+      site = b.site;
+      table = b.table;
+      named = b.named;
+    } in
     let i = c.loop-f.invariant in
     let none = drop_all c.loop-f.f-index c.args.written.now (omega arith) in
     let end = fields_end (known_types a) c.args.place (visible_in b) c.args.levels c.args.room _ _ none in
-    all_built a b n c.loop-f.fields.fields.items c.loop-f.deepest _ _ i.so_far end refl refl
-    (c.truncate.ensures ∙ i.kept)
+    let all = all_built a b n c.loop-f.fields.fields.items c.loop-f.deepest _ _ i.so_far end refl refl
+    (c.truncate.ensures ∙ i.kept) in
+    (all.0, all.1, built_as a n _ _ _ _ refl refl refl all.2)
 
 pub integral_at-push-requires-clause-distinct : goal.integral_at-push-requires-clause-distinct
 integral_at-push-requires-clause-distinct t c = rw
@@ -372,3 +402,68 @@ field_at-field_of-requires-clause-list t c =
 pub fields_at-push-requires-clause-list : goal.fields_at-push-requires-clause-list
 fields_at-push-requires-clause-list t c =
     list_on _ _ c.loop-f.fields c.loop-f.invariant.list c.in-Ok.ensures.builds.2.keeps.numbers
+
+pub type_at-returns-in-Reference-clause-node : goal.type_at-returns-in-Reference-clause-node
+type_at-returns-in-Reference-clause-node t c =
+    let w : form_tree c.args.form.now ≡ Plain (reference_tree c.in-Reference.reference) = ap form_tree c.in-Reference.is
+    ∙ reference_form c.in-Reference.reference in
+    rw w c.plain_at.ensures.node
+
+pub type_at-returns-in-String-clause-node : goal.type_at-returns-in-String-clause-node
+type_at-returns-in-String-clause-node t c =
+    let w : form_tree c.args.form.now ≡ StringForm = ap form_tree c.in-String.is ∙ string_form in
+    rw w (ok_any c.push.result)
+
+pub type_at-returns-in-Offset-clause-node : goal.type_at-returns-in-Offset-clause-node
+type_at-returns-in-Offset-clause-node t c =
+    let w : form_tree c.args.form.now ≡ OffsetForm (reference_tree c.in-Offset.reference.value) c.in-Offset.unit =
+    ap form_tree c.in-Offset.is ∙ offset_form c.in-Offset.reference c.in-Offset.unit in
+    rw w (ok_any c.offset_at.result)
+
+pub array_at-returns-clause-node : goal.array_at-returns-clause-node
+array_at-returns-clause-node t c =
+    ok_on _ _ c.push.result (λ found last.
+    array_node c.type_at.new.self c.push.new.self c.push.ensures.names found.node _ last (form_tree c.args.element.now)
+    (boxed_tree c.args.bound.now) c.in-Ok.found.node refl c.in-Ok.ensures.node) c.push.ensures.node
+
+pub struct_at-returns-clause-node : goal.struct_at-returns-clause-node
+struct_at-returns-clause-node t c =
+    ok_on _ _ c.push.result
+    (λ found last. struct_node c.fields_at.new.self c.push.new.self c.push.ensures.names found.node _ last c.args.pinned
+    (fields_tree c.args.written.now) (field_nodes c.in_ok-fields.fields.fields.items)
+    (ap field_nodes c.into_parts-fields.ensures.fields) c.in_ok-fields.ensures.nodes) c.push.ensures.node
+
+pub integral_at-returns-clause-node : goal.integral_at-returns-clause-node
+integral_at-returns-clause-node t c =
+    let parts = ap alternative_nodes c.in_ok-fields-2.ensures.ok
+    ∙ ap (λ (fs : List Field). alternative_nodes (map part_of fs)) c.into_parts-fields.ensures.fields
+    ∙ parts_nodes c.in_ok-fields.fields.fields.items in
+    ok_on _ _ c.push.result
+    (λ found last. integral_node c.fields_at.new.self c.push.new.self c.push.ensures.names found.node _ last
+    (reference_tree c.args.reference.now) (fields_tree c.args.written.now)
+    (field_nodes c.in_ok-fields.fields.fields.items) parts c.in_ok-fields.ensures.nodes) c.push.ensures.node
+
+pub union_at-returns-clause-node : goal.union_at-returns-clause-node
+union_at-returns-clause-node t c =
+    let parts = ap alternative_nodes c.in_ok-alternatives.ensures.ok
+    ∙ ap (λ (fs : List Field). alternative_nodes (map part_of fs)) c.into_parts-fields.ensures.fields
+    ∙ parts_nodes c.in_ok-fields.fields.fields.items in
+    ok_on _ _ c.push.result
+    (λ found last. union_node c.fields_at.new.self c.push.new.self c.push.ensures.names found.node _ last
+    (fields_tree c.args.written.now) (field_nodes c.in_ok-fields.fields.fields.items) parts
+    c.in_ok-fields.ensures.nodes) c.push.ensures.node
+
+pub field_at-returns-clause-node : goal.field_at-returns-clause-node
+field_at-returns-clause-node t c =
+    let g = c.in_ok-field.ensures.gives in
+    rw c.in_ok-field.ensures.node (form_on c.type_at.new.self c.field_of.new.self g.2.keeps.grows g.2.keeps.types
+    (field_tree c.args.written.now).form c.in_ok-found.found.node (rw c.form_in.ensures at c.in_ok-found.ensures.node))
+
+pub fields_at-returns-clause-nodes : goal.fields_at-returns-clause-nodes
+fields_at-returns-clause-nodes t c =
+    let none = drop_all c.loop-f.f-index c.args.written.now (omega arith) in
+    forms_end c.loop-f.self (fields_tree c.args.written.now) _ c.loop-f.fields.fields.items
+    (ap fields_tree none) c.loop-f.invariant.forms
+
+pub fields_at-invariant_of-self-in-loop-f-clause-named : goal.fields_at-invariant_of-self-in-loop-f-clause-named
+fields_at-invariant_of-self-in-loop-f-clause-named t c = rw c.push.ensures.types c.field_at.new.self.named

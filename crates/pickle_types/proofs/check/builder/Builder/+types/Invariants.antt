@@ -7,6 +7,7 @@ use Rattle.pickle_types.specs.Meaning.{fields_meaning}
 use Rattle.pickle_types.specs.Built.{AreBelow, names_in, words_in}
 use Rattle.pickle_types.specs.FieldLists.{IsFieldList}
 use Rattle.pickle_types.specs.Building.{known_types, visible_in, FieldsSoFar}
+use Rattle.pickle_types.proofs.BuiltNodes.{FormsSoFar}
 use Rattle.pickle_types.proofs.check.builder.Builder.+types.Given as goal
 
 abbrev pub decreases-type_at : goal.decreases-type_at
@@ -46,4 +47,5 @@ invariant-fields_at-loop-f l = record {
       (fields_tree l.written))
       (fields_meaning (known_types l.initial.self) l.place (visible_in l.self) l.levels l.room
       (names_in l.fields.fields.items) (fields_tree (drop l.f-index l.written)));
+  forms : FormsSoFar l.self (fields_tree l.written) (fields_tree (drop l.f-index l.written)) l.fields.fields.items;
 }

@@ -1,8 +1,10 @@
-use Rattle.std.proofs.Common.{sym, ◌∙◌}
+use Rattle.std.proofs.Common.{◌≡◌, None, sym, ◌∙◌}
 use Rattle.std.proofs.lemmas.Result.{err_from_is_err_and}
 use Rattle.pickle_tree.specs.Tree.{declaration_tree}
+use Rattle.pickle_types.specs.Built.{types_in, declared_as}
 use Rattle.pickle_types.specs.Building.{known_types}
-use Rattle.pickle_types.proofs.Declarations.{declared_twice, declared_once, duplicate, new_type}
+use Rattle.pickle_types.proofs.BuiltNodes.{declares}
+use Rattle.pickle_types.proofs.Declarations.{declared_twice, declared_once, is_absent, duplicate, new_type}
 use Rattle.pickle_types.proofs.check.builder.Builder.declare.Goals as goal
 
 pub returns-then-is_some-clause-adds : goal.returns-then-is_some-clause-adds
@@ -19,7 +21,7 @@ returns-in_err-found-clause-adds c =
     let once =
     declared_once b.nodes c.find_name.result _ (c.find_name.ensures.found b.nodes) (sym c.if-is_some.ensures) in
     let n = new_type (known_types b) (declaration_tree c.args.declaration.now) once in
-    let h = rw c.requires.ready.none at c.in_err-found.ensures.builds in
+    let h = rw c.requires.ready at c.in_err-found.ensures.builds in
     rw (p.1, p.2, n) h
 
 pub returns-clause-adds : goal.returns-clause-adds
@@ -29,6 +31,15 @@ returns-clause-adds c =
     declared_once b.nodes c.find_name.result _ (c.find_name.ensures.found b.nodes) (sym c.if-is_some.ensures) in
     let n = new_type (known_types b) (declaration_tree c.args.declaration.now) once in
     let e = c.in_ok-found.ensures.builds in
-    let given = rw c.requires.ready.none at e.1 in
+    let given = rw c.requires.ready at e.1 in
     let known = rw (e.2.keeps.known, e.2.type) at c.in_ok-add.ensures.known in
     (e.0, n ∙ given, known, c.in_ok-add.ensures.ready)
+
+pub returns-clause-node : goal.returns-clause-node
+returns-clause-node c =
+    let mid = c.type_at.new.self in
+    let keeps = c.in_ok-found.ensures.builds.2.keeps in
+    let none : declared_as c.args.declaration.now.name.now (types_in c.args.self.now.names) ≡ None =
+    sym c.find_name.ensures.is ∙ is_absent c.find_name.result (sym c.if-is_some.ensures) in
+    declares c.args.self.now mid c.add.new.self (declaration_tree c.args.declaration.now) c.in_ok-found.found.node keeps
+    c.in_ok-found.ensures.node (rw keeps.types none) c.in_ok-add.ensures.named c.add.ensures.nodes

@@ -7,6 +7,7 @@ use Rattle.pickle_types.specs.Meaning.{declared}
 use Rattle.pickle_types.specs.Wrong.{first_wrong}
 use Rattle.pickle_types.specs.Building.{known_types}
 use Rattle.pickle_types.proofs.Buildings.{drop_item}
+use Rattle.pickle_types.proofs.BuiltNodes.{continues_on, so_far_next, so_far_last}
 use Rattle.pickle_types.proofs.Declarations.{declared_next, declared_fails, declared_end, fails_along}
 use Rattle.pickle_types.proofs.WrongPlaces.{wrong_next, wrong_here, tells_along}
 use Rattle.pickle_types.proofs.check.builder.Builder.declare_all.Goals as goal
@@ -54,6 +55,11 @@ loop-i-preserved c =
     let added = c.in-Ok.ensures.few in
     record {
       ready = h.3;
+      on = continues_on c.args.self.now b c.declare.new.self c.loop-i.invariant.on c.in-Ok.ensures.node.on;
+      nodes = so_far_next b c.declare.new.self (map declaration_tree c.args.declarations.now)
+          (declaration_tree c.index-declarations-i.result) rest c.in-Ok.ensures.node
+          (λ n on r. c.loop-i.invariant.nodes n on
+          (rw (ap (λ (l : List Declaration). map declaration_tree l) e) r));
       within = (rw e at c.loop-i.invariant.within).2;
       space = omega arith;
       rest = c.loop-i.invariant.rest
@@ -72,3 +78,9 @@ returns-clause-ok c =
     c.loop-i.invariant.rest
     ∙ ap (λ (l : List Declaration). declared (known_types c.loop-i.self) (map declaration_tree l)) e
     ∙ declared_end (known_types c.loop-i.self)
+
+pub returns-clause-nodes : goal.returns-clause-nodes
+returns-clause-nodes c =
+    let e = drop_all c.loop-i.i c.args.declarations.now (omega arith) in
+    so_far_last c.args.self.now c.loop-i.self (map declaration_tree c.args.declarations.now) _
+    (ap (λ (l : List Declaration). map declaration_tree l) e) c.loop-i.invariant.on c.loop-i.invariant.nodes

@@ -91,7 +91,7 @@ returns-clause-gives c =
           (names_in c.args.before.now.fields.items) parts t _ _ _ stands new label condition
           (rw (names_count c.args.before.now.fields.items) h),
       field_built b c.constraint.new.self s c.args.place (length c.args.before.now.fields.items) parts field
-          c.requires.table c.requires.names c.requires.seen c.requires.inside
+          c.requires.seen c.requires.inside
           (c.in_ok-constraint.ensures.names ∙ names) (c.in_ok-constraint.ensures.nodes ∙ nodes)
           (rw same at c.in_ok-constraint.ensures.seen)
           c.name_in-word.ensures placed refl (c.in_ok-name.ensures.ok ∙ c.name_in-word.ensures) c.order_in.ensures,
