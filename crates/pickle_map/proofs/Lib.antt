@@ -28,6 +28,7 @@ pub mod Mapping
 pub mod Elements
 pub mod Row
 pub mod Stopped
+pub mod Prepared
 pub mod Followed
 pub mod Repeated
 mod KeptRows

@@ -1,6 +1,7 @@
 -- What calls that followed a plan stored, and that the same again fits.
-use Rattle.std.proofs.Common.{◌≡◌, ℕ, zero, suc, ◌+◌, ◌-◌, ◌*◌, ◌≤◌, Bool, List, Some, Result, Ok, Err, refl, sym, subst, arith}
+use Rattle.std.proofs.Common.{◌≡◌, ℕ, zero, suc, ◌+◌, ◌-◌, ◌*◌, ◌<◌, ◌≤◌, Bool, List, Some, Result, Ok, Err, inl, inr, refl, sym, ap, subst, ◌∙◌, arith}
 use Rattle.std.specs.Prelude.{IfErr}
+use Rattle.std.proofs.lemmas.Bool.{cases_lt}
 use Rattle.bit_space.specs.Bits.{bits_of}
 use Rattle.pickle_meaning.specs.declared.faults.MapFault.{MapFault}
 use Rattle.pickle_meaning.specs.declared.faults.MapFaultKind.{MapFaultKind}
@@ -11,8 +12,13 @@ use Rattle.mapping_plans.specs.Mapping.{plan}
 use Rattle.mapping_plans.specs.Kept.{KeepsBy}
 use Rattle.mapping_plans.proofs.Kept.{keeps_less}
 use Rattle.pickle_map.specs.Follows.{World, HasRoom, during_move, Walk, arrived, stepped, kept, read, Done, NoSteps, NoRoom, NeedsStep, NeedsRoom, Follows}
-use Rattle.pickle_map.specs.Mapped.{HasRoomFor, UnlessBreaks, UnlessBroken}
-use Rattle.pickle_map.specs.Repeated.{WantsNoMore}
+use Rattle.pickle_map.specs.Mapped.{HasRoomFor, UnlessBreaks, UnlessBroken, prepared}
+use Rattle.pickle_map.specs.Repeated.{OneMapping, IsUnbroken, IsAgain, WantsNoMore}
+use Rattle.pickle_map.proofs.Prepared.{kept_more, least_more, packs_made}
+use Rattle.bit_space.specs.declared.order.Order.{Order}
+use Rattle.pickle_types.specs.Bounds.{room as room_of}
+use Rattle.pickle_types.specs.Types.{PokeType}
+use Rattle.value_store.specs.Promises.{least_capacity}
 use Rattle.value_store.specs.Slots.{packs}
 use Rattle.value_store.specs.Moves.{State, IsWithin, no_state}
 use Rattle.pickle_map.proofs.Followed.{walk_rises}
@@ -122,26 +128,55 @@ not_wanted : (result : Result (Unit {0}) MapFault) (P : Type 0) → IfErr result
 not_wanted (Ok u) P wanted h = tt
 not_wanted (Err f) P wanted h = λ e. wanted e h
 
-pub wants_no_more : WantsNoMore
-wants_no_more type order start first second whole again =
+not_lacking : (result : Result (Unit {0}) MapFault) (capacity bound : ℕ) → bound ≤ capacity →
+    IfErr result (λ f. f.kind ≡ fault.Memory → capacity < bound) → IfErr result (λ f. f.kind ≡ fault.Memory → ⊥)
+not_lacking (Ok u) capacity bound le lacks = tt
+not_lacking (Err f) capacity bound le lacks = λ e. let lt = lacks e in omega (arith, le, lt)
+
+-- neither store has capacity for the bound, and so both are as they were
+packs_again : (type : PokeType) (order : Order) (start : ℕ) (first second : OneMapping type order start) →
+    (again : IsAgain first second) → least_capacity second.store.capacity < room_of type (8 * second.space.len) →
+    packs (prepared type second.space second.store).room ≡ packs (prepared type first.space first.store).room
+packs_again type order start first second again lt =
+    let more : least_capacity first.store.capacity ≤ least_capacity second.store.capacity =
+    least_more _ _ (λ vector. kept_more first.store first.store' vector first.mapped.room (again.room vector)) in
+    let bound : room_of type (8 * second.space.len) ≡ room_of type (8 * first.space.len) =
+    ap (λ len. room_of type (8 * len)) again.len in
+    packs_made type second.space second.store lt ∙ again.packing
+    ∙ sym (packs_made type first.space first.store (omega (arith, more, bound, lt)))
+
+wants_no_more_capacity : (type : PokeType) (order : Order) (start : ℕ) (first second : OneMapping type order start) →
+    IsUnbroken first.result → (again : IsAgain first second) →
+    packs (prepared type second.space second.store).room ≡ packs (prepared type first.space first.store).room →
+    IfErr second.result (λ f. f.kind ≡ fault.Memory → ⊥)
+wants_no_more_capacity type order start first second whole again packing =
     let bits = bits_of again.bytes in
-    let then : HasRoomFor first.store.room first.store'.capacity type order start first.space first.meter again.bytes =
-    unbroken first.result
-    (HasRoomFor first.store.room first.store'.capacity type order start first.space first.meter again.bytes)
+    let room = (prepared type first.space first.store).room in
+    let room' = (prepared type second.space second.store).room in
+    let then : HasRoomFor room first.store'.capacity type order start first.space first.meter again.bytes =
+    unbroken first.result (HasRoomFor room first.store'.capacity type order start first.space first.meter again.bytes)
     whole.device whole.memory (first.mapped.kept again.bytes again.known) in
     let less =
     keeps_less (λ state. IsWithin state first.store'.capacity) (λ state. IsWithin state second.store.capacity)
-    (λ state. within_more state first.store'.capacity second.store.capacity again.room) (packs first.store.room)
+    (λ state. within_more state first.store'.capacity second.store.capacity again.room) (packs room)
     bits (plan (8 * first.space.len) type order no_values start)
     (first.meter.limit - first.meter.steps) (second.meter.limit - second.meter.steps) no_state again.steps then in
     let less = subst (λ b. KeepsBy (λ state. IsWithin state second.store.capacity) b bits
     (plan (8 * first.space.len) type order no_values start) (second.meter.limit - second.meter.steps) no_state)
-    (sym again.packing) less in
-    let now : HasRoomFor second.store.room second.store.capacity type order start second.space
-    second.meter again.bytes =
-    subst (λ n. KeepsBy (λ state. IsWithin state second.store.capacity) (packs second.store.room) bits
+    (sym packing) less in
+    let now : HasRoomFor room' second.store.capacity type order start second.space second.meter again.bytes =
+    subst (λ n. KeepsBy (λ state. IsWithin state second.store.capacity) (packs room') bits
     (plan (8 * n) type order no_values start) (second.meter.limit - second.meter.steps) no_state)
     (sym again.len) less in
     not_wanted second.result
-    (HasRoomFor second.store.room second.store.capacity type order start second.space second.meter again.bytes)
+    (HasRoomFor room' second.store.capacity type order start second.space second.meter again.bytes)
     (second.mapped.asked again.bytes again.same) now
+
+pub wants_no_more : WantsNoMore
+wants_no_more type order start first second whole again =
+    elim (cases_lt (least_capacity second.store.capacity) (room_of type (8 * second.space.len))) [
+      | inl lt ↦ wants_no_more_capacity type order start first second whole again
+          (packs_again type order start first second again lt)
+      | inr enough ↦ not_lacking second.result (least_capacity second.store.capacity)
+          (room_of type (8 * second.space.len)) enough second.mapped.memory
+    ]

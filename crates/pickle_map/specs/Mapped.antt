@@ -27,6 +27,7 @@ use Rattle.mapping_plans.specs.Kept.{KeepsBy}
 use Rattle.value_store.specs.declared.store.room.Growth.TheVariants.{Never}
 use Rattle.value_store.specs.declared.store.room.Room.{Room}
 use Rattle.value_store.specs.declared.store.slots.Marks.{Marks}
+use Rattle.value_store.specs.Promises.{least_capacity, promised, promising}
 use Rattle.value_store.specs.Slots.{Held, packs, emptied, HoldsInRoom, KeepsRoom, levels}
 use Rattle.value_store.specs.Moves.{State, IsWithin, no_state, state_of}
 use Rattle.pickle_meaning.specs.Values.{Value, no_values, pushed}
@@ -57,6 +58,11 @@ fault_finish faults.Limit at = NoSteps
 fault_finish faults.Device at = Broken
 fault_finish faults.Memory at = NoRoom
 fault_finish kind at = Done (Err (kind, at))
+
+-- The store of a mapping, until the mapping ends. Where it has capacity for the slots of the type's bound, it promises
+-- all that it has capacity for, and so it packs no arrays.
+abbrev pub prepared : PokeType → SpaceView → Held → Held
+prepared type space store = promising (promised (room_of type (8 * space.len)) store) store
 
 -- what a mapping into an empty store did by a plan, up to the state `last` of the store
 abbrev pub RunsUpTo : {A : Type 0} → SpaceView → (meter meter' : Meter) → (store store' : Held) → (last : State) →
@@ -93,7 +99,8 @@ abbrev pub KeptInRoom : PokeType → Order → (start : ℕ) → SpaceView → M
     Result (Unit {0}) MapFault → Type 0
 KeptInRoom type order start space meter store store' result =
     (bytes : List ℕ) → space.bytes ≡ Some bytes →
-    UnlessBroken result (HasRoomFor store.room store'.capacity type order start space meter bytes)
+    UnlessBroken result
+    (HasRoomFor (prepared type space store).room store'.capacity type order start space meter bytes)
 
 -- Where they are known, and `Memory` was returned: before, the store lacked the capacity for all that the mapping
 -- stores.
@@ -102,7 +109,8 @@ abbrev pub WantedMore : PokeType → Order → (start : ℕ) → SpaceView → M
 WantedMore type order start space meter store result =
     (bytes : List ℕ) → space.bytes ≡ Some bytes →
     IfErr result
-    (λ f. f.kind ≡ faults.Memory → HasRoomFor store.room store.capacity type order start space meter bytes → ⊥)
+    (λ f. f.kind ≡ faults.Memory →
+    HasRoomFor (prepared type space store).room store.capacity type order start space meter bytes → ⊥)
 
 -- faults that end a run, which no type means
 abbrev pub EndsRun : MapFaultKind → Type 0
@@ -130,11 +138,11 @@ module _ (type : PokeType) (order : Order) (start : ℕ) (space : SpaceView) (me
   -- fault. Its steps and values made are those of the run.
   abbrev pub RunsPlan : List Node → (store store' : Held) → Result (Unit {0}) MapFault → Type 0
   RunsPlan nodes store store' (Ok u) =
-      Gives nodes store' (λ v. RunsUpTo space meter meter' store store' (state_of store')
+      Gives nodes store' (λ v. RunsUpTo space meter meter' (prepared type space store) store' (state_of store')
       (plan (8 * space.len) type order no_values start) (Done (Ok v)))
   RunsPlan nodes store store' (Err f) =
-      RunsTo space meter meter' store store' (plan (8 * space.len) type order no_values start)
-      (fault_finish f.kind f.at)
+      RunsTo space meter meter' (prepared type space store) store'
+      (plan (8 * space.len) type order no_values start) (fault_finish f.kind f.at)
 
 module _ (nodes : List Node) (store' : Held) where
   -- a value fits its type by the stored parts
@@ -157,10 +165,10 @@ ReachesLimit type space meter meter' result =
     IfErr result (λ f. f.kind ≡ faults.Limit →
     (meter'.steps ≡ meter.limit) × (meter.limit < meter.steps + cost type (8 * space.len)))
 
--- `Memory` is returned only where the store was made with fewer slots than the type's bound
+-- `Memory` is returned only where some vector of the store had less capacity before than the type's bound
 abbrev pub LacksBound : PokeType → SpaceView → (store : Held) → Result (Unit {0}) MapFault → Type 0
 LacksBound type space store result =
-    IfErr result (λ f. f.kind ≡ faults.Memory → store.room.least < room_of type (8 * space.len))
+    IfErr result (λ f. f.kind ≡ faults.Memory → least_capacity store.capacity < room_of type (8 * space.len))
 
 -- what a mapping of a type from the bit `start` on does, into an empty store
 pub record IsMapped (nodes : List Node) (type : PokeType) (order : Order) (start : ℕ) (space space' : SpaceView)

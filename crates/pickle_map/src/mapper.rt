@@ -1,10 +1,13 @@
 //! Maps types over the bits of a space.
 
-ghost use Rattle.std.specs.Prelude.{◌≡◌, ◌+◌, ◌*◌, ◌≤◌, IfErr, OnErr};
+ghost use Rattle.std.specs.Prelude.{◌≡◌, ℕ, ◌+◌, ◌*◌, ◌≤◌, IfErr, OnErr, nat_le};
 ghost use Rattle.bit_space.specs.SpaceView.{HasRisen};
-ghost use Rattle.pickle_types.specs.Bounds.{cost, room};
+ghost use Rattle.pickle_types.specs.Bounds.{cost, room, IsBound};
 ghost use Rattle.pickle_types.specs.TypeTable.{nodes_of, type_named, IsInTable};
 ghost use Rattle.pickle_map.specs.Mapped.{MeansValue, MeansFault, FitsType, CountsParts, ReachesLimit, LacksBound, RunsNamed, KeptInRoom, WantedMore, EndsRun, HoldsAtMost, MapsNamed, fault_of};
+ghost use Rattle.pickle_map.specs.Packings.{AreKept};
+ghost use Rattle.value_store.specs.declared.store.room.Growth.TheVariants.{Never};
+ghost use Rattle.value_store.specs.Promises.{promised, promising};
 ghost use Rattle.value_store.specs.Slots.{emptied, HoldsInRoom, KeepsRoom};
 
 pub mod clauses;
@@ -111,16 +114,82 @@ pub fn map_watched<S: Space, W: Watch>(
         store.old store.new result }
 {
     let mut packings = Packings::new();
-    let mut mapper = Mapper::new(table.nodes(), &mut packings, meter, store, watch);
+    map_with(
+        table,
+        id,
+        order,
+        start,
+        space,
+        meter,
+        store,
+        watch,
+        &mut packings,
+    )
+}
+
+/// Maps as [`map_watched`] does, and keeps how arrays are packed of which types, as far as it was looked for. A caller
+/// that maps many files by one table lends the same `packings` to each mapping, so that each type is looked at once.
+#[inline(always)]
+pub fn map_with<S: Space, W: Watch>(
+    table: &Table,
+    id: TypeId,
+    order: Order,
+    start: u64,
+    space: &mut S,
+    meter: &mut Meter,
+    store: &mut Store,
+    watch: &mut W,
+    packings: &mut Packings,
+) -> Result<(), MapFault>
+    requires known { IsInTable table.now id }
+    requires empty { store.old ≡ emptied store.old }
+    requires kept { AreKept (nodes_of table.now) packings.old }
+    ensures is { MapsNamed table.now id order start (S.view space.old) (S.view space.new) meter.old meter.new
+        store.old store.new result }
+    ensures kept { AreKept (nodes_of table.now) packings.new }
+{
+    let before = prepare(table, id, 8 * space.len(), store);
+    let mut mapper = Mapper::new(table.nodes(), packings, meter, store, watch);
     match mapper.map_type(id.node, order, u128::from(start), space) {
         Ok(_) => {
             let _fixed = mapper.store.never_grows();
+            mapper.store.promise(before);
             Ok(())
         }
         Err(stop) => {
             mapper.store.clear();
+            mapper.store.promise(before);
             Err(fault_of(stop, start))
         }
+    }
+}
+
+// Has an empty store promise all the slots that it has capacity for, where they are enough for a type over so many bits.
+// Returns how many it promised before. A store that has no more capacity than it promised stays as it is, so the first
+// mapping computes no bound.
+fn prepare(table: &Table, id: TypeId, bits: u64, store: &mut Store) -> usize
+    requires known { IsInTable table.now id }
+    requires empty { store.old ≡ emptied store.old }
+    ensures store { store.new ≡ promising (promised (room (type_named table.now id) bits) store.old) store.old }
+    ensures before { result ≡ store.old.room.least }
+    ensures fewer { result ≤ store.new.room.least }
+    ensures fixed { store.old.room.growth ≡ Never → store.new.room.least ≡ result }
+{
+    let before = store.promised();
+    let capacity = store.least_capacity();
+    if before < capacity && is_enough(capacity, table.slot_bound(id, bits)) {
+        store.promise_capacity();
+    }
+    before
+}
+
+// Whether so much capacity is enough for a bound; None is 2^128 or more.
+fn is_enough(capacity: usize, bound: Option<u128>) -> bool
+    ensures { (n : ℕ) → IsBound bound n → result ≡ nat_le n capacity }
+{
+    match bound {
+        None => false,
+        Some(slots) => slots <= capacity as u128,
     }
 }
 

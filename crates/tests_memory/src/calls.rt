@@ -1,10 +1,10 @@
 //! The calls, by name.
 
 use crate::call_outcome::CallOutcome;
-use crate::samples::{ARRAYS, ELEMENTS, MIXED, UNIONS};
+use crate::samples::{ARRAYS, ELEMENTS, MIXED, UNIONS, WIDE};
 use crate::sparing::{
-    asking_tables, mapping_again, mapping_in_room, mapping_letters_in_room, mapping_within,
-    reading_values, telling_lengths, telling_tokens, using_spaces,
+    asking_tables, mapping_again, mapping_in_grown, mapping_in_room, mapping_letters_in_room,
+    mapping_within, reading_values, telling_lengths, telling_tokens, using_spaces,
 };
 use crate::wanting::{
     building, lexing, mapping, paging, parsing, reading_pages, reading_pickle, reading_stream,
@@ -14,7 +14,7 @@ use std::fs::File;
 use std::rt::Files;
 
 /// The names of the calls.
-pub const CALLS: [&str; 28] = [
+pub const CALLS: [&str; 29] = [
     "lex",
     "parse",
     "build",
@@ -38,6 +38,7 @@ pub const CALLS: [&str; 28] = [
     "most_21",
     "again_mixed",
     "again_elements",
+    "grown_7",
     "spaces",
     "lengths",
     "tokens",
@@ -82,6 +83,7 @@ fn run_named<R: Files<File = File> + AllocGlobal>(
         b"most_21" => mapping_within(alloc, ARRAYS, 21),
         b"again_mixed" => mapping_again(alloc, MIXED),
         b"again_elements" => mapping_again(alloc, ELEMENTS),
+        b"grown_7" => mapping_in_grown(alloc, WIDE, 7),
         b"spaces" => using_spaces(alloc),
         b"lengths" => telling_lengths(rt),
         b"tokens" => Ok(telling_tokens(alloc)),

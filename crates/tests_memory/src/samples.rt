@@ -39,5 +39,15 @@ pub const ARRAYS: Sample<'_> = Sample {
     text: b"T {a=[1UB,2UB,3UB,4UB,5UB,6UB,7UB,8UB,9UB],b=[9UB,8UB,7UB,6UB,5UB,4UB,3UB,2UB,1UB]}\n",
 };
 
+/// An array that takes 16 bytes where it is packed. Its bound is 7 slots.
+pub const WIDE: Sample<'_> = Sample {
+    pickle: b"type E = struct { string s; }; type Strings = E[7]; type T = uint<64>[];",
+    bytes: b"\x00\x00\x00\x00\x00\x00\x00\x01\x00\x00\x00\x00\x00\x00\x00\x02",
+    text: b"[1UL,2UL]\n",
+};
+
+/// Seven strings.
+pub const LETTERS: &[u8] = b"a\0b\0c\0d\0e\0f\0g\0";
+
 /// A text that is stored by an alternative that is rolled back, and then by the next alternative.
 pub const LONG_PICKLE: &[u8] = b"type T = union { string a : 0 != 0; string b; };";

@@ -1,10 +1,12 @@
 //! The calls that allocate nothing: what they need is made before them.
 
+ghost use Rattle.std.specs.Prelude.{◌≡◌};
 ghost use Rattle.pickle_types.specs.TypeTable.{IsInTable};
+ghost use Rattle.value_store.specs.Slots.{emptied};
 
 use crate::call_outcome::CallOutcome;
 use crate::given::{Written, is_mapped, map_type, space_of, types_of};
-use crate::samples::{ELEMENTS, LONG_PICKLE, Sample};
+use crate::samples::{ELEMENTS, LETTERS, LONG_PICKLE, Sample};
 use bit_space::{FileSpace, MemSpace, Meter, Order, Paged, Space, read_number};
 use pickle_map::{Kind, MapFaultKind, Store};
 use pickle_syntax::lex;
@@ -77,20 +79,52 @@ pub fn mapping_letters_in_room(alloc: Global) -> Result<CallOutcome, CallOutcome
     mapping_in_room(alloc, letters, 1005)
 }
 
+// Maps a type in an empty store, and clears the store.
+fn map_and_clear(
+    table: &Table,
+    id: TypeId,
+    space: &mut MemSpace,
+    store: &mut Store,
+) -> Result<(), CallOutcome>
+    requires known { IsInTable table.now id }
+    requires empty { store.old ≡ emptied store.old }
+    ensures emptied { store.new ≡ emptied store.new }
+{
+    let mapped = map_type(table, id, space, store);
+    store.clear();
+    match mapped {
+        Ok(()) => Ok(()),
+        Err(fault) if fault.kind == MapFaultKind::Memory => Err(CallOutcome::Early),
+        Err(_) => Err(CallOutcome::Wrong),
+    }
+}
+
 /// Maps again in a store that mapped the same value from no capacity, and was cleared.
 pub fn mapping_again(alloc: Global, sample: Sample<'_>) -> Result<CallOutcome, CallOutcome> {
     let (table, id) = types_of(alloc, sample.pickle)?;
     let mut space = space_of(alloc, sample.bytes)?;
     let mut store = Store::new(alloc);
-    if let Err(fault) = map_type(&table, id, &mut space, &mut store) {
-        return Err(if fault.kind == MapFaultKind::Memory {
-            CallOutcome::Early
-        } else {
-            CallOutcome::Wrong
-        });
-    }
-    store.clear();
+    map_and_clear(&table, id, &mut space, &mut store)?;
     Ok(CallOutcome::answer_if(is_mapped(&table, id, &mut space, &mut store, sample)))
+}
+
+/// Maps in a store that grew to the slots of the mapping with strings, and was cleared. It has too few bytes for the
+/// sample's array to be packed.
+pub fn mapping_in_grown(
+    alloc: Global,
+    sample: Sample<'_>,
+    slots: usize,
+) -> Result<CallOutcome, CallOutcome> {
+    let (table, id) = types_of(alloc, sample.pickle)?;
+    let strings = table.find(b"Strings").ok_or(CallOutcome::Wrong)?;
+    let mut letters = space_of(alloc, LETTERS)?;
+    let mut space = space_of(alloc, sample.bytes)?;
+    let mut store = Store::new(alloc);
+    map_and_clear(&table, strings, &mut letters, &mut store)?;
+    let capacity = store.least_capacity();
+    let mapped = is_mapped(&table, id, &mut space, &mut store, sample);
+    let grown = slots <= capacity && capacity < sample.bytes.len();
+    Ok(CallOutcome::answer_if(mapped && grown && store.least_capacity() == capacity))
 }
 
 /// Spaces in memory, their numbers and their dump, and a meter.

@@ -9,6 +9,7 @@ pub mod Counted
 pub mod Placed
 pub mod PlacedBytes
 pub mod Empty
+pub mod Promises
 pub mod Fits
 pub mod Held
 pub mod Below

@@ -9,6 +9,7 @@ pub mod Records
 pub mod Layouts
 pub mod Columns
 pub mod Slots
+pub mod Promises
 pub mod Below
 pub mod Names
 pub mod MemberNames

@@ -14,6 +14,7 @@ mod element;
 mod gather;
 mod layout;
 mod place;
+mod promise;
 mod read;
 mod records;
 pub mod room;
