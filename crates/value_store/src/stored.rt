@@ -212,6 +212,7 @@ impl<'a> StoredValue<'a> {
     pub fn bytes(&self) -> &'a [u8]
         ensures { (names : Names) → result.now ≡ bytes_of (label_of (value_of names self.now)) }
     {
+        // Nothing of the node is read at run time. The call only proves that there is such a node.
         let _node = self.store.node_at(self.array());
         let Place::Node(at) = self.place else {
             return &[];
@@ -421,6 +422,7 @@ impl<'a> StoredValue<'a> {
         ensures below { IfSome result (λ c. place_rank c.place < place_rank self.now.place) }
         ensures lender { IfSome result (λ c. c.store.now.slots ≡ self.now.store.now.slots) }
     {
+        // Nothing of the node is read at run time. The call only proves that these are its parts.
         let _node = self.store.node_at(self.array());
         if i < packed {
             return Some(StoredValue {

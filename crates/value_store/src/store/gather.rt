@@ -29,6 +29,7 @@ impl Store {
         ensures lacks { OnErr result (CannotMove self.old Places) }
         ensures extends { OnOk result (Extends self.old self.new) }
     {
+        // Nothing is read at run time. This only opens the store for the proof, as it is when the call begins.
         let _ = &self.nodes;
         self.place_number(shape, begin, u64::from(at))
     }
@@ -96,6 +97,7 @@ impl Store {
         ensures lacks { OnErr result (CannotMove self.old OpensRecords) }
         ensures below { OnOk result (KeepsBelow self.old self.new) }
     {
+        // Nothing is read at run time. This only opens the store for the proof, as it is when the call begins.
         let _ = &self.nodes;
         self.reserve_records()?;
         self.place_family(Shape::Struct { of }, start, u64::from(size))?;

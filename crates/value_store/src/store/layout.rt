@@ -274,6 +274,7 @@ impl Store {
         ensures lacks { OnErr result (CannotPackFirst self.old) }
         ensures below { OnOk result (KeepsBelow self.old self.new) }
     {
+        // Nothing is read at run time. This only opens the store for the proof, as it is when the call begins.
         let _ = &self.nodes;
         let root = match self.part_at(0, 0) {
             Some(root) => root,
