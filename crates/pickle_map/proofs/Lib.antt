@@ -29,6 +29,7 @@ pub mod Elements
 pub mod Row
 pub mod Stopped
 pub mod Prepared
+pub mod SlotBounds
 pub mod Followed
 pub mod Repeated
 mod KeptRows

@@ -10,6 +10,7 @@ pub mod Layouts
 pub mod Records
 pub mod LaidArrays
 pub mod Packings
+pub mod Findings
 pub mod Settles
 pub mod Settled
 pub mod Mappable

@@ -1,16 +1,17 @@
 //! Maps types over the bits of a space.
 
-ghost use Rattle.std.specs.Prelude.{◌≡◌, ℕ, ◌+◌, ◌*◌, ◌≤◌, IfErr, OnErr, nat_le};
+ghost use Rattle.std.specs.Prelude.{◌≡◌, ◌+◌, ◌*◌, ◌≤◌, IfErr, OnErr};
 ghost use Rattle.bit_space.specs.SpaceView.{HasRisen};
-ghost use Rattle.pickle_types.specs.Bounds.{cost, room, IsBound};
+ghost use Rattle.pickle_types.specs.Bounds.{cost, room};
 ghost use Rattle.pickle_types.specs.TypeTable.{nodes_of, type_named, IsInTable};
 ghost use Rattle.pickle_map.specs.Mapped.{MeansValue, MeansFault, FitsType, CountsParts, ReachesLimit, LacksBound, RunsNamed, KeptInRoom, WantedMore, EndsRun, HoldsAtMost, MapsNamed, fault_of};
-ghost use Rattle.pickle_map.specs.Packings.{AreKept};
+ghost use Rattle.pickle_map.specs.Findings.{AreFound};
 ghost use Rattle.value_store.specs.declared.store.room.Growth.TheVariants.{Never};
 ghost use Rattle.value_store.specs.Promises.{promised, promising};
 ghost use Rattle.value_store.specs.Slots.{emptied, HoldsInRoom, KeepsRoom};
 
 pub mod clauses;
+pub mod findings;
 pub(crate) mod layouts;
 pub(crate) mod level;
 pub mod number;
@@ -30,7 +31,7 @@ pub(crate) mod watched_clauses;
 pub(crate) mod weights;
 
 use bit_space::{Meter, Order, Space};
-use packings::Packings;
+use findings::Findings;
 use pickle_meaning::faults::{MapFault, MapFaultKind};
 use pickle_types::table::{Table, TypeId};
 use state::Mapper;
@@ -113,7 +114,7 @@ pub fn map_watched<S: Space, W: Watch>(
     ensures { MapsNamed table.now id order start (S.view space.old) (S.view space.new) meter.old meter.new
         store.old store.new result }
 {
-    let mut packings = Packings::new();
+    let mut findings = Findings::new();
     map_with(
         table,
         id,
@@ -123,12 +124,11 @@ pub fn map_watched<S: Space, W: Watch>(
         meter,
         store,
         watch,
-        &mut packings,
+        &mut findings,
     )
 }
 
-/// Maps as [`map_watched`] does, and keeps how arrays are packed of which types, as far as it was looked for. A caller
-/// that maps many files by one table lends the same `packings` to each mapping, so that each type is looked at once.
+/// Maps as [`map_watched`] does, and keeps what it finds of the table's types for the next mappings by this table.
 #[inline(always)]
 pub fn map_with<S: Space, W: Watch>(
     table: &Table,
@@ -139,16 +139,17 @@ pub fn map_with<S: Space, W: Watch>(
     meter: &mut Meter,
     store: &mut Store,
     watch: &mut W,
-    packings: &mut Packings,
+    findings: &mut Findings,
 ) -> Result<(), MapFault>
     requires known { IsInTable table.now id }
     requires empty { store.old ≡ emptied store.old }
-    requires kept { AreKept (nodes_of table.now) packings.old }
+    requires found { AreFound (nodes_of table.now) findings.old }
     ensures is { MapsNamed table.now id order start (S.view space.old) (S.view space.new) meter.old meter.new
         store.old store.new result }
-    ensures kept { AreKept (nodes_of table.now) packings.new }
+    ensures found { AreFound (nodes_of table.now) findings.new }
 {
-    let before = prepare(table, id, 8 * space.len(), store);
+    let before = prepare(table, id, 8 * space.len(), store, findings);
+    let packings = &mut findings.packings;
     let mut mapper = Mapper::new(table.nodes(), packings, meter, store, watch);
     match mapper.map_type(id.node, order, u128::from(start), space) {
         Ok(_) => {
@@ -167,30 +168,28 @@ pub fn map_with<S: Space, W: Watch>(
 // Has an empty store promise all the slots that it has capacity for, where they are enough for a type over so many bits.
 // Returns how many it promised before. A store that has no more capacity than it promised stays as it is, so the first
 // mapping computes no bound.
-fn prepare(table: &Table, id: TypeId, bits: u64, store: &mut Store) -> usize
+fn prepare(
+    table: &Table,
+    id: TypeId,
+    bits: u64,
+    store: &mut Store,
+    findings: &mut Findings,
+) -> usize
     requires known { IsInTable table.now id }
     requires empty { store.old ≡ emptied store.old }
+    requires found { AreFound (nodes_of table.now) findings.old }
     ensures store { store.new ≡ promising (promised (room (type_named table.now id) bits) store.old) store.old }
     ensures before { result ≡ store.old.room.least }
     ensures fewer { result ≤ store.new.room.least }
     ensures fixed { store.old.room.growth ≡ Never → store.new.room.least ≡ result }
+    ensures found { AreFound (nodes_of table.now) findings.new }
 {
     let before = store.promised();
     let capacity = store.least_capacity();
-    if before < capacity && is_enough(capacity, table.slot_bound(id, bits)) {
+    if before < capacity && findings.is_enough(table, id, bits, capacity) {
         store.promise_capacity();
     }
     before
-}
-
-// Whether so much capacity is enough for a bound; None is 2^128 or more.
-fn is_enough(capacity: usize, bound: Option<u128>) -> bool
-    ensures { (n : ℕ) → IsBound bound n → result ≡ nat_le n capacity }
-{
-    match bound {
-        None => false,
-        Some(slots) => slots <= capacity as u128,
-    }
 }
 
 /// A stop, as the fault of a mapping that began at the bit `start`.
