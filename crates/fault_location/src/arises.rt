@@ -63,7 +63,7 @@ pub fn find_there<S: Space, W: Watch>(
     ensures is { IsTrue result → OnBits (S.view space.old) (ArisesFrom whole.entry claim.entry) }
 {
     let inner = Inner {
-        node: whole.id.node,
+        node: whole.id.node(),
         order: whole.order,
         start: u128::from(whole.start),
     };

@@ -40,7 +40,7 @@ pub fn find_part<S: Space>(
 {
     let mut path = Vec::new(alloc);
     let inner = Inner {
-        node: whole.id.node,
+        node: whole.id.node(),
         order: whole.order,
         start: u128::from(whole.start),
     };

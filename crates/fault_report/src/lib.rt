@@ -186,7 +186,7 @@ fn root_of<'a>(store: &'a Store, table: &'a Table, types: &'a Types<'a>, id: Typ
     requires held { IsSome (value_at (levels (nodes_of table.now) store.now) 0 0) }
 {
     match store.root(table) {
-        Some(value) => Typed::new(value, types, Some(id.node)),
+        Some(value) => Typed::new(value, types, Some(id.node())),
         None => unreachable!(),
     }
 }
@@ -211,7 +211,7 @@ fn scene_of<'p, 't>(
         path: Text::new(alloc).show(pickle.path)?.into_bytes(),
         name: Vec::from_slice(alloc, mapping.ask.name)?,
         nodes: mapping.table.nodes(),
-        root: mapping.id.node,
+        root: mapping.id.node(),
         bits,
         most_steps: mapping.ask.limit,
         most_slots: terms.most_slots,

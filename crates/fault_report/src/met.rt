@@ -54,7 +54,7 @@ impl TypeMapping<'_> {
         let stopped = Stopped {
             alloc: self.alloc,
             types: &types,
-            root: self.id.node,
+            root: self.id.node(),
             start: self.ask.start,
             store,
             fault,

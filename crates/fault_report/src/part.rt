@@ -141,7 +141,7 @@ impl TypeMapping<'_> {
         };
         match find_part(alloc, whole, space, &mut meter, store) {
             Ok(places) => {
-                let way = Way::along(alloc, table.nodes(), id.node, places.as_slice())?;
+                let way = Way::along(alloc, table.nodes(), id.node(), places.as_slice())?;
                 let stop = Stop::Fault(fault.kind, fault.at);
                 Ok(Some(Fault::new(alloc, way, stop, Cause::Plain)))
             }

@@ -210,7 +210,7 @@ fn separator(first: bool) -> &'static [u8]
 // The node of a declared type, or one past the nodes.
 fn node_of(table: &Table, name: &[u8]) -> usize {
     match table.find(name) {
-        Some(id) => id.node,
+        Some(id) => id.node(),
         None => table.nodes().len(),
     }
 }

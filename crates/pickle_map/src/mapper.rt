@@ -151,7 +151,7 @@ pub fn map_with<S: Space, W: Watch>(
     let before = prepare(table, id, 8 * space.len(), store, findings);
     let packings = &mut findings.packings;
     let mut mapper = Mapper::new(table.nodes(), packings, meter, store, watch);
-    match mapper.map_type(id.node, order, u128::from(start), space) {
+    match mapper.map_type(id.node(), order, u128::from(start), space) {
         Ok(_) => {
             let _fixed = mapper.store.never_grows();
             mapper.store.promise(before);

@@ -20,10 +20,19 @@ use crate::predeclared::PREDECLARED;
 use pickle_tree::tree::Pickle;
 use std::alloc::Global;
 
-/// A type of a table.
+/// A type of a table. `Table::find` alone makes one.
 #[derive(Clone, Copy, PartialEq, Eq, Debug)]
 pub struct TypeId {
-    pub node: usize,
+    pub(crate) node: usize,
+}
+
+impl TypeId {
+    /// The place of the type's node among those of its table.
+    pub fn node(&self) -> usize
+        ensures { result ≡ self.now.node }
+    {
+        self.node
+    }
 }
 
 /// The types of a pickle and the predeclared types, found by their names.

@@ -45,7 +45,7 @@ impl TypeRun<'_> {
             (O.contents out.old) (O.contents out.new) }
     {
         let types = Types::new(self.table);
-        let whole = Typed::new(value, &types, Some(self.id.node));
+        let whole = Typed::new(value, &types, Some(self.id.node()));
         let Some(part) = part_at(whole, &self.terms.part) else {
             return Outcome::NoSuchPart;
         };

@@ -143,11 +143,11 @@ pub fn type_size(
     let roots = table.roots();
     let mut known = Vec::new(alloc);
     for root in roots {
-        if *root >= id.node {
+        if *root >= id.node() {
             break;
         }
         let size = known_size(form, bits, table, known.as_slice(), *root);
         known.push(size)?;
     }
-    Ok(known_size(form, bits, table, known.as_slice(), id.node))
+    Ok(known_size(form, bits, table, known.as_slice(), id.node()))
 }

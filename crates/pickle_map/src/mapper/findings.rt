@@ -82,7 +82,7 @@ fn compute(table: &Table, id: TypeId, bits: u64) -> SlotBound
     ensures slots { IsBound result.slots (room (type_named table.now id) bits) }
 {
     SlotBound {
-        at: id.node,
+        at: id.node(),
         bits,
         slots: table.slot_bound(id, bits),
     }
@@ -113,10 +113,10 @@ impl Findings {
         ensures is { result ≡ nat_le (room (type_named table.now id) bits) capacity }
         ensures found { AreFound (nodes_of table.now) self.new }
     {
-        if let Some(enough) = recall(self.within, id.node, bits, capacity) {
+        if let Some(enough) = recall(self.within, id.node(), bits, capacity) {
             return enough;
         }
-        if let Some(enough) = recall(self.beyond, id.node, bits, capacity) {
+        if let Some(enough) = recall(self.beyond, id.node(), bits, capacity) {
             return enough;
         }
         let bound = compute(table, id, bits);
