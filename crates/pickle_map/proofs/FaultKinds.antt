@@ -272,12 +272,12 @@ behind_fault : (s : ℕ) (x : Label) → OfFault IsMeant (behind_start s x)
 behind_fault s (OffsetLabel x type unit) = negative_fault s _ (bits_in x unit)
 behind_fault s x = tt
 
-start_fault : (pinned : Bool) (label : Option Term) (levels : Levels) (s behind : ℕ) →
-    OfFault IsMeant (field_start pinned label levels s behind)
+start_fault : (pinned : Bool) (label : Option Term) (levels : Levels) (s last_end : ℕ) →
+    OfFault IsMeant (field_start pinned label levels s last_end)
 unfolding field_start
-start_fault true label levels s behind = tt
-start_fault false None levels s behind = tt
-start_fault false (Some e) levels s behind =
+start_fault true label levels s last_end = tt
+start_fault false None levels s last_end = tt
+start_fault false (Some e) levels s last_end =
     told_fault s _ (evaluation e levels).outcome (evaluation_kind e levels) (behind_fault s)
 
 count_fault : (s : ℕ) (x : Label) → OfFault IsMeant (count_of s x)
@@ -436,17 +436,18 @@ mutual
       inside_fault m s _ (after_tick (frame_fault levels _
       (then_fault _ _ (alternatives_faults m alternatives 0 order (opened levels) s) (λ t. after_made tt (result tt)))))
 
-  fields_faults : (m : ℕ) (pinned : Bool) (s : ℕ) (fields : Fields) (order : Order) (levels : Levels) (behind top : ℕ) →
-      FaultsMeant (fields_plan m pinned s fields order levels behind top)
-  fields_faults m pinned s NoFields order levels behind top = result tt
-  fields_faults m pinned s (FieldThen name set ty c label when rest) order levels behind top =
+  fields_faults : (m : ℕ) (pinned : Bool) (s : ℕ) (fields : Fields) (order : Order) (levels : Levels)
+      (last_end top : ℕ) →
+      FaultsMeant (fields_plan m pinned s fields order levels last_end top)
+  fields_faults m pinned s NoFields order levels last_end top = result tt
+  fields_faults m pinned s (FieldThen name set ty c label when rest) order levels last_end top =
       after_tick (after_fault _ (condition when levels s) _ (condition_fault when levels s)
       (λ there. plan_if there _ _
-      (after_fault _ (field_start pinned label levels s behind) _ (start_fault pinned label levels s behind)
+      (after_fault _ (field_start pinned label levels s last_end) _ (start_fault pinned label levels s last_end)
       (λ p. then_fault _ _
       (then_fault _ _ (plan_faults m ty (ordered set order) levels p) (λ v. constrained_fault c levels p v))
       (λ v. fields_faults m pinned s rest order (pushed levels (Some v)) (end_of v) (max top (end_of v)))))
-      (after_made tt (fields_faults m pinned s rest order (pushed levels None) behind top))))
+      (after_made tt (fields_faults m pinned s rest order (pushed levels None) last_end top))))
 
   alternatives_faults : (m : ℕ) (parts : Parts) (index : ℕ) (order : Order) (levels : Levels) (s : ℕ) →
       FaultsMeant (alternatives_plan m parts index order levels s)

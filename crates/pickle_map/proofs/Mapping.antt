@@ -143,16 +143,16 @@ abbrev pub checked : (m : ℕ) → PokeType → Option Term → Order → Levels
 checked m ty c order levels p = then_ok (plan m ty order levels p) (constrained c levels p)
 
 module _ {world : World} {limit : ℕ} (types : ℕ → PokeType) (m : ℕ) (pinned : Bool) (s : ℕ) (fs : List Field)
-    (order : Order) (levels : Levels) (behind top : ℕ) {k j : ℕ} {state : State} where
+    (order : Order) (levels : Levels) (last_end top : ℕ) {k j : ℕ} {state : State} where
   pub fields_end : fs ≡ [] →
-      Follows world limit (fields_plan m pinned s (open_fields types fs) order levels behind top) k j state k j state
+      Follows world limit (fields_plan m pinned s (open_fields types fs) order levels last_end top) k j state k j state
       (Done (Ok (levels, top)))
   unfolding fields_plan
   fields_end is = rw is follow_done
 
   module _ (f : Field) (rest : List Field) (is : fs ≡ f ∷ rest) {k1 j1 : ℕ} where
     pub fields_no_tick : {state' : State} → k1 ≡ k → k1 ≡ limit → j1 ≡ j →
-        Follows world limit (fields_plan m pinned s (open_fields types fs) order levels behind top) k j state
+        Follows world limit (fields_plan m pinned s (open_fields types fs) order levels last_end top) k j state
         k1 j1 state' NoSteps
     unfolding fields_plan
     fields_no_tick ek el ej = rw is (follow_no_tick ek el ej)
@@ -161,7 +161,7 @@ module _ {world : World} {limit : ℕ} (types : ℕ → PokeType) (m : ℕ) (pin
       pub condition_stops : (stop : Stop) → k1 ≤ limit1 →
           Settles limit1 k1 k2 (Err stop) (condition (optional_term f.condition) levels s)
           (clause_steps (optional_term f.condition) levels) →
-          Follows world limit (fields_plan m pinned s (open_fields types fs) order levels behind top) k j state k2 j2
+          Follows world limit (fields_plan m pinned s (open_fields types fs) order levels last_end top) k j state k2 j2
           state (stop_finish stop)
       unfolding fields_plan
       condition_stops stop le h =
@@ -170,15 +170,16 @@ module _ {world : World} {limit : ℕ} (types : ℕ → PokeType) (m : ℕ) (pin
       module _ (there : Settles limit1 k1 k2 (Ok false) (condition (optional_term f.condition) levels s)
           (clause_steps (optional_term f.condition) levels)) where
         pub absent_no_room : {state' : State} → LacksRoom world state Leaves (pushed levels None) →
-            Follows world limit (fields_plan m pinned s (open_fields types fs) order levels behind top) k j
+            Follows world limit (fields_plan m pinned s (open_fields types fs) order levels last_end top) k j
             state k2 j2 state' NoRoom
         unfolding fields_plan
         absent_no_room lacks = rw is
             (follow_tick el ek ej (follow_then_ok _ _ (settles_ok _ _ false refl there ej2) (follow_no_room lacks)))
 
         pub absent_goes : {state' : State} → MovesTo world Leaves state state' →
-            Follows world limit (fields_plan m pinned s (open_fields types fs) order levels behind top) k j state k2 j2
-            state' (Partly (fields_plan m pinned s (open_fields types rest) order (pushed levels None) behind top))
+            Follows world limit
+            (fields_plan m pinned s (open_fields types fs) order levels last_end top) k j state k2 j2
+            state' (Partly (fields_plan m pinned s (open_fields types rest) order (pushed levels None) last_end top))
         unfolding fields_plan
         absent_goes moves = rw is (follow_tick el ek ej (follow_then_ok _ _ (settles_ok _ _ false refl there ej2)
             (follow_made {limit' = limit1} {k1 = k2} {j1 = j2} moves refl refl (omega arith) follow_here)))
@@ -187,23 +188,24 @@ module _ {world : World} {limit : ℕ} (types : ℕ → PokeType) (m : ℕ) (pin
           (clause_steps (optional_term f.condition) levels))
           {limit2 k3 j3 : ℕ} (el2 : limit2 ≡ limit1) (ej3 : j3 ≡ j2) where
         pub start_stops : (stop : Stop) → k2 ≤ limit1 →
-            Settles limit2 k2 k3 (Err stop) (field_start pinned (optional_term f.label) levels s behind)
+            Settles limit2 k2 k3 (Err stop) (field_start pinned (optional_term f.label) levels s last_end)
             (label_steps pinned (optional_term f.label) levels) →
-            Follows world limit (fields_plan m pinned s (open_fields types fs) order levels behind top) k j state k3 j3
+            Follows world limit
+            (fields_plan m pinned s (open_fields types fs) order levels last_end top) k j state k3 j3
             state (stop_finish stop)
         unfolding fields_plan
         start_stops stop le h = rw is (follow_tick el ek ej (follow_then_ok _ _ (settles_ok _ _ true refl there ej2)
             (follow_stop _ _ stop (settles_stop _ _ stop el2 le h ej3))))
 
         module _ (p : ℕ)
-            (start : Settles limit2 k2 k3 (Ok p) (field_start pinned (optional_term f.label) levels s behind)
+            (start : Settles limit2 k2 k3 (Ok p) (field_start pinned (optional_term f.label) levels s last_end)
             (label_steps pinned (optional_term f.label) levels))
             {limit3 k' j' : ℕ} {state' : State} (el3 : limit3 ≡ limit2) where
           pub field_stops : (stop : Stop) →
               Follows world limit3
               (checked m (types f.node) (optional_term f.constraint) (ordered f.order order) levels p) k3 j3 state k' j'
               state' (stop_finish stop) →
-              Follows world limit (fields_plan m pinned s (open_fields types fs) order levels behind top) k j state k'
+              Follows world limit (fields_plan m pinned s (open_fields types fs) order levels last_end top) k j state k'
               j' state' (stop_finish stop)
           unfolding fields_plan
           field_stops stop h =
@@ -215,7 +217,7 @@ module _ {world : World} {limit : ℕ} (types : ℕ → PokeType) (m : ℕ) (pin
               Follows world limit3
               (checked m (types f.node) (optional_term f.constraint) (ordered f.order order) levels p) k3 j3 state k' j'
               state' (Done (Ok v)) →
-              Follows world limit (fields_plan m pinned s (open_fields types fs) order levels behind top) k j state k'
+              Follows world limit (fields_plan m pinned s (open_fields types fs) order levels last_end top) k j state k'
               j' state'
               (Partly (fields_plan m pinned s (open_fields types rest) order (pushed levels (Some v)) end top'))
           unfolding fields_plan

@@ -23,7 +23,7 @@ use Rattle.pickle_map.specs.Columns.{shapes_of}
 use Rattle.pickle_map.specs.Row.{IsRecordType}
 use Rattle.pickle_map.proofs.Shapes.{struct_opened, names_as, below_as, sound_as}
 
--- the bytes of a number behind others
+-- the bytes of a number after others
 pub appended : {E : Type 0} (r : Result (Unit {0}) E) (old new bytes : List ℕ) (count w n : ℕ) →
     bytes ≡ to_le_bytes w64 n → w ≤ 64 → count + bytes_for w ≤ 512 →
     (IsOk r ↔ (count + length (take (bytes_for w) bytes) ≤ 512)) → OnOk r (new ≡ old ++ take (bytes_for w) bytes) →

@@ -95,19 +95,19 @@ module _ (world : World) (packing : packs world.room ≡ true) (widths : List �
       (constraint c (there more) place) (both_same (constraint c (there more) place))) (λ a b e. ended_alike refl))
 
   fields_rowed : (m s : ℕ) (fs : Fields) → AreColumns fs →
-      (order : Order) (members : List (Option Value)) (behind top : ℕ) →
-      Alike (FitsToo world) (Both InFrames) (fields_plan m false s fs order (here members) behind top)
-      (as_row row (fields_plan m false s fs order (there members) behind top))
+      (order : Order) (members : List (Option Value)) (last_end top : ℕ) →
+      Alike (FitsToo world) (Both InFrames) (fields_plan m false s fs order (here members) last_end top)
+      (as_row row (fields_plan m false s fs order (there members) last_end top))
   unfolding fields_plan condition field_start then_ok
-  fields_rowed m s NoFields h order members behind top = ended_alike (members, refl, refl)
-  fields_rowed m s (FieldThen name set ty c label when rest) h order members behind top =
+  fields_rowed m s NoFields h order members last_end top = ended_alike (members, refl, refl)
+  fields_rowed m s (FieldThen name set ty c label when rest) h order members last_end top =
       rw (h.2, h.3) (tick_alike
       (rowed_ok widths {Mid = Same} {Ends = InFrames}
-      (then_ok (plan m ty (ordered set order) (there members) behind) (constrained c (there members) behind)) _ _
-      (rowed_ok widths {Mid = Same} {Ends = Same} (plan m ty (ordered set order) (there members) behind) _ _
-      (number_rowed m ty h.0 (ordered set order) members behind)
-      (λ v w e. subst (λ x. Alike (FitsToo world) (Both Same) (constrained c (here members) behind v)
-      (as_row row (constrained c (there members) behind x))) e (constrained_rowed c h.1 members behind v)))
+      (then_ok (plan m ty (ordered set order) (there members) last_end) (constrained c (there members) last_end)) _ _
+      (rowed_ok widths {Mid = Same} {Ends = Same} (plan m ty (ordered set order) (there members) last_end) _ _
+      (number_rowed m ty h.0 (ordered set order) members last_end)
+      (λ v w e. subst (λ x. Alike (FitsToo world) (Both Same) (constrained c (here members) last_end v)
+      (as_row row (constrained c (there members) last_end x))) e (constrained_rowed c h.1 members last_end v)))
       (λ v w e. subst (λ x. Alike (FitsToo world) (Both InFrames)
       (fields_plan m false s rest order (here (members ++ Some v ∷ [])) (end_of v) (max top (end_of v)))
       (as_row row (fields_plan m false s rest order (there (members ++ Some x ∷ [])) (end_of x) (max top (end_of x)))))

@@ -52,7 +52,7 @@ abbrev pub KeepsOpened : (store store' : Held) → Type 0
 KeepsOpened store store' =
     (opened : Held) → innermost store.frames ≡ marks_of opened.slots → Extends opened store → Extends opened store'
 
--- a call adds to the innermost frame, behind all that was stored, or stops and leaves the frames and slots as they were
+-- a call adds to the innermost frame, after all that was stored, or stops and leaves the frames and slots as they were
 pub record AddsToLevel {A : Type 0} (nodes : List Node) (store store' : Held) (result : Result A Stop) : Type 0 where
   pub same : OnErr result (levels nodes store' ≡ levels nodes store)
   pub depth : level_count store' ≡ level_count store

@@ -15,7 +15,7 @@ IsLaidKind kept.Apart own = own ≡ None
 IsLaidKind kept.Records own = ⊥
 IsLaidKind kept.Values own = (l : Layout) × (own ≡ Some l)
 
--- whether the kind that is known of a type, if any, is that of its row; numbers stand apart
+-- whether the kind that is known of a type, if any, is that of its row; numbers are kept apart
 abbrev pub is_right : Row → Option Kept → Bool
 is_right row None = true
 is_right Apart (Some kept.Apart) = true

@@ -29,10 +29,10 @@ module _ (nodes : List Node) (meter meter' : Meter) (store : Held) where
       (clause_steps (optional_term clause) (levels nodes store))
 
   -- a field's start was found, by its label or after the field before it
-  abbrev pub FindsStart : (pinned : Bool) → Option (Box Resolved Global) → (start behind : ℕ) → Result ℕ Stop → Type 0
-  FindsStart pinned label start behind result =
+  abbrev pub FindsStart : (pinned : Bool) → Option (Box Resolved Global) → (start last_end : ℕ) → Result ℕ Stop → Type 0
+  FindsStart pinned label start last_end result =
       Settles meter.limit meter.steps meter'.steps result
-      (field_start pinned (optional_term label) (levels nodes store) start behind)
+      (field_start pinned (optional_term label) (levels nodes store) start last_end)
       (label_steps pinned (optional_term label) (levels nodes store))
 
   -- the extent of an array was found

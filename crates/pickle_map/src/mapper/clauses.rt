@@ -61,7 +61,7 @@ pub fn is_there(
 }
 
 /// The bit where a field of a struct starts. In a pinned struct that is `start`, the struct's first bit. A label counts
-/// its bits from `start`. Otherwise the field starts at `behind`, where the last present field before it ended. A
+/// its bits from `start`. Otherwise the field starts at `last_end`, where the last present field before it ended. A
 /// negative label is a Bounds fault. A label's faults are at `start`.
 #[inline(always)]
 pub fn find_start(
@@ -69,19 +69,19 @@ pub fn find_start(
     label: &Option<Box<Resolved>>,
     store: &Store,
     start: u64,
-    behind: u64,
+    last_end: u64,
     meter: &mut Meter,
 ) -> Result<u128, Stop>
     requires sound { IsSoundClause (optional_term label.now) }
     ensures meter { SpendsSteps meter.old meter.new }
     ensures is { (nodes : List TableNode) →
-        FindsStart nodes meter.old meter.new store.now pinned label.now start behind result }
+        FindsStart nodes meter.old meter.new store.now pinned label.now start last_end result }
 {
     if pinned {
         return Ok(u128::from(start));
     }
     match label {
-        None => Ok(u128::from(behind)),
+        None => Ok(u128::from(last_end)),
         Some(e) => evaluate_label(e, store, u128::from(start), meter),
     }
 }

@@ -284,8 +284,8 @@ pub fn first_digits(digits: u64, left: u8, width: u8) -> u64
     ensures is { result ≡ first_digits digits left width }
     ensures below { result < 2 ^ width }
 {
-    let behind = left.saturating_sub(width);
-    low_digits(width, u128::from(digits) >> u32::from(behind))
+    let after = left.saturating_sub(width);
+    low_digits(width, u128::from(digits) >> u32::from(after))
 }
 
 /// The width in bits of a type that is read as one number; 0 for other types.

@@ -75,7 +75,7 @@ pub(crate) fn scalar_width(nodes: &[Node], at: usize) -> Option<u8>
     }
 }
 
-/// The width in bits of a field that is a number, always there, and behind the field before it, if its constraint names
+/// The width in bits of a field that is a number, always there, and after the field before it, if its constraint names
 /// nothing of the frame around its struct.
 fn column_width(nodes: &[Node], field: &Field) -> Option<u8>
     requires table { IsTable nodes.now }

@@ -1,5 +1,5 @@
 //! Arrays of values of fixed layout that the store packs: an element is mapped as any other value is, into the array's
-//! frame behind the array so far, and packed after that.
+//! frame after the array so far, and packed after that.
 
 ghost use Rattle.std.specs.Prelude.{◌≡◌, ◌+◌, ◌*◌, ◌<◌, ◌≤◌, ◌∷◌, [], length, IfOk};
 ghost use Rattle.pickle_map.specs.AtWork.{Frame, LevelStays, LeavesLevel, Closes, IsAmongValues, PacksAllValues, PacksOneValue};

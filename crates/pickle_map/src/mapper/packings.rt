@@ -30,7 +30,7 @@ pub(crate) struct KindAt {
 
 /// The kinds of the types of a table, as far as they were found: each is looked for once, since a type may have many
 /// fields and long constraints. The first one is kept in place, so most mappings need no memory for that. The others
-/// stand in a list of the kinds by the places of the types.
+/// are in a list of the kinds by the places of the types.
 #[derive(Drop)]
 pub struct Packings {
     first: Option<KindAt>,

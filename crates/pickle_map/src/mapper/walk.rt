@@ -378,7 +378,7 @@ impl<W: Watch> Mapper<'_, W> {
     {
         let nodes = self.nodes;
         let origin = u128::from(start.bit);
-        let mut behind = start.bit;
+        let mut last_end = start.bit;
         let mut top = start.bit;
         for field in fields {
             self.watch.next();
@@ -394,7 +394,7 @@ impl<W: Watch> Mapper<'_, W> {
                 let layout = Layout {
                     pinned,
                     start: start.bit,
-                    behind,
+                    last_end,
                 };
                 let place = find_start(
                     nodes,
@@ -404,14 +404,14 @@ impl<W: Watch> Mapper<'_, W> {
                     self.meter,
                     self.watch,
                 )?;
-                behind = self.map_checked(
+                last_end = self.map_checked(
                     field.node,
                     &field.constraint,
                     byte_order(field.order, start.order),
                     place,
                     space,
                 )?;
-                top = top.max(behind);
+                top = top.max(last_end);
             } else {
                 self.store.push_absent()?;
             }

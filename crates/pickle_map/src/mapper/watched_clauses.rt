@@ -61,7 +61,7 @@ pub fn is_there<W: Watch>(
 pub struct Layout {
     pub pinned: bool,
     pub start: u64,
-    pub behind: u64,
+    pub last_end: u64,
 }
 
 /// The bit where a field of a struct starts. Its label is reported where it stops.
@@ -77,14 +77,14 @@ pub fn find_start<W: Watch>(
     requires sound { IsSoundClause (optional_term label.now) }
     ensures meter { SpendsSteps meter.old meter.new }
     ensures is { FindsStart table.now meter.old meter.new store.now layout.pinned label.now
-        layout.start layout.behind result }
+        layout.start layout.last_end result }
 {
     let Layout {
         pinned,
         start,
-        behind,
+        last_end,
     } = layout;
-    let found = clauses::find_start(pinned, label, store, start, behind, meter);
+    let found = clauses::find_start(pinned, label, store, start, last_end, meter);
     if let Err(stop) = found {
         blame_clause(table, Clause::Label, label, store, stop, watch);
     }

@@ -1,4 +1,4 @@
-use Rattle.pickle_map.proofs.mapper.state.Mapper.+mapping.Goals.{map_fields-then-branch+in_ok-place+in_ok-behind, map_fields-else-branch+in_ok-push_absent, values_body-then-end-start+in_ok-close_array, values_body-else-end-start}
+use Rattle.pickle_map.proofs.mapper.state.Mapper.+mapping.Goals.{map_fields-then-branch+in_ok-place+in_ok-last_end, map_fields-else-branch+in_ok-push_absent, values_body-then-end-start+in_ok-close_array, values_body-else-end-start}
 use Rattle.std.proofs.Common.{rules, ◌+◌, ◌*◌, ◌^◌, ◌<◌, ◌≤◌, max, [], ◌∷◌, ◌++◌, Some, refl, subst, sym, ap, ◌∙◌, arith}
 use Rattle.std.specs.Prelude.{nat_eq}
 use Rattle.std.proofs.lemmas.Bool.{eqb-true, eqb-false}
@@ -565,9 +565,9 @@ map_fields-map_checked-requires g t c =
     let field = rw (← c.loop-field.invariant.level.depth) at field in
     search rules
 
-pub map_fields-returns-in_err-behind-clause-is : goal.map_fields-returns-in_err-behind-clause-is
-map_fields-returns-in_err-behind-clause-is g t c =
-    let p = err_from_is_err_and c.from_residual-in_err-behind.result c.from_residual-in_err-behind.ensures.1 in
+pub map_fields-returns-in_err-last_end-clause-is : goal.map_fields-returns-in_err-last_end-clause-is
+map_fields-returns-in_err-last_end-clause-is g t c =
+    let p = err_from_is_err_and c.from_residual-in_err-last_end.result c.from_residual-in_err-last_end.ensures.1 in
     let i = c.loop-field.invariant in
     let e = c.in_ok-tick.ensures in
     let next = drop_more c.args.fields.now c.loop-field.field-index c.field-item.result (omega arith) in
@@ -575,18 +575,19 @@ map_fields-returns-in_err-behind-clause-is g t c =
     let there = c.in_ok-is_there.ensures in
     let there_is = rw (c.if-branch.true, c.from-origin.ensures) at there.is in
     let start = c.in_ok-place.ensures in
-    let h = rw (i.lent.nodes, i.frame.len, c.byte_order.ensures) at c.in_err-behind.ensures.is in
+    let h = rw (i.lent.nodes, i.frame.len, c.byte_order.ensures) at c.in_err-last_end.ensures.is in
     let h = in_world (g.S.Space.view c.args.space.now) (g.S.Space.view c.loop-field.space) i.frame.bytes i.frame.room
-    c.in_err-behind.ensures.frame.left.room h in
+    c.in_err-last_end.ensures.frame.left.room h in
     rw (p.1, p.2)
-    (follow_on (in_later i.frame.room c.in_err-behind.ensures.frame.left.room i.so_far) (field_stops _ _ _ _ _ _ _ _ _ _
+    (follow_on (in_later i.frame.room c.in_err-last_end.ensures.frame.left.room i.so_far)
+    (field_stops _ _ _ _ _ _ _ _ _ _
     _ next (e.limit ∙ i.frame.limit) e.ok e.made there.meter.made there_is there.meter.limit start.meter.made _ start.is
     start.meter.limit _ h))
 
-pub map_fields-returns-in_err-behind-clause-level : goal.map_fields-returns-in_err-behind-clause-level
-map_fields-returns-in_err-behind-clause-level g t c =
+pub map_fields-returns-in_err-last_end-clause-level : goal.map_fields-returns-in_err-last_end-clause-level
+map_fields-returns-in_err-last_end-clause-level g t c =
     let i = c.loop-field.invariant in
-    stays_then c.args.self.now.nodes.now _ _ _ i.level (rw i.lent.nodes at c.in_err-behind.ensures.level)
+    stays_then c.args.self.now.nodes.now _ _ _ i.level (rw i.lent.nodes at c.in_err-last_end.ensures.level)
 
 pub map_fields-returns-in_err-push_absent-clause-is : goal.map_fields-returns-in_err-push_absent-clause-is
 map_fields-returns-in_err-push_absent-clause-is g t c =
@@ -615,21 +616,21 @@ map_fields-loop-field-preserved g t c =
     let next = rw (← c.field-item.is) at next in
     let there = c.in_ok-is_there.ensures in
     elim c.if-branch.branch [
-      | map_fields-then-branch+in_ok-place+in_ok-behind w ↦
+      | map_fields-then-branch+in_ok-place+in_ok-last_end w ↦
           let there_is = rw (w.if-branch.true, c.from-origin.ensures) at there.is in
           let start = w.in_ok-place.ensures in
-          let m = rw i.lent.nodes at w.in_ok-behind.ensures.is in
+          let m = rw i.lent.nodes at w.in_ok-last_end.ensures.is in
           let h = rw (i.frame.len, w.byte_order.ensures) at m.follows in
           let h = in_world (g.S.Space.view c.args.space.now) (g.S.Space.view c.loop-field.space) i.frame.bytes
-          i.frame.room w.in_ok-behind.ensures.frame.left.room h in
-          rw (w.space-is, w.self-is, w.behind-is, w.top-is) (record {
+          i.frame.room w.in_ok-last_end.ensures.frame.left.room h in
+          rw (w.space-is, w.self-is, w.last_end-is, w.top-is) (record {
             lent = search rules;
             frame = search rules;
             after = search rules;
             inside = search rules;
             level = stays_then c.args.self.now.nodes.now _ _ _ i.level
-                (rw i.lent.nodes at w.in_ok-behind.ensures.level);
-            so_far = rw m.kept (follow_on (in_later i.frame.room w.in_ok-behind.ensures.frame.left.room i.so_far)
+                (rw i.lent.nodes at w.in_ok-last_end.ensures.level);
+            so_far = rw m.kept (follow_on (in_later i.frame.room w.in_ok-last_end.ensures.frame.left.room i.so_far)
                 (field_goes _ _ _ _ _ _ _ _ _ _ _ next (e.limit ∙ i.frame.limit) e.ok e.made there.meter.made there_is
                 there.meter.limit start.meter.made _ start.is start.meter.limit m.value _ _ m.ends w.max-top.ensures
                 h));
@@ -640,7 +641,7 @@ map_fields-loop-field-preserved g t c =
           let room = w.in_ok-push_absent.ensures.room in
           let moves = moves_to i.frame.room (same_room w.push_absent.new.self) w.in_ok-push_absent.ensures.within
           w.in_ok-push_absent.ensures.moves tt in
-          rw (w.space-is, w.self-is, w.behind-is, w.top-is) (record {
+          rw (w.space-is, w.self-is, w.last_end-is, w.top-is) (record {
             lent = search rules;
             frame = search rules;
             after = search rules;

@@ -79,7 +79,7 @@ invariant-map_fields-loop-field g l = record {
       (levels l.initial.self.nodes.now l.initial.self.store.now))
       (Partly (fields_plan (8 * (g.S.Space.view l.initial.space).len) l.pinned l.start.bit
       (open_fields (type_of l.initial.self.nodes.now) (drop l.field-index l.fields)) l.start.order
-      (levels l.initial.self.nodes.now l.self.store.now) l.behind l.top));
+      (levels l.initial.self.nodes.now l.self.store.now) l.last_end l.top));
 }
 
 abbrev pub invariant-map_alternatives-loop-index : goal.invariant-map_alternatives-loop-index
