@@ -1,6 +1,5 @@
 //! The first part of a selection that a value lacks.
 
-use crate::impossible::impossible_text;
 use crate::members::{name_in, say_members};
 use crate::missing::say_step;
 use crate::way::say_element;
@@ -12,20 +11,16 @@ use poke_batch::path::Step;
 use poke_batch::pattern::{PatternStep, Span};
 use poke_batch::places::{Places, places_of};
 use poke_batch::presence::has_each;
-use poke_batch::selection::{Absent, Column, Selection, Shape};
+use poke_batch::selection::{Column, Selection, Shape};
 use std::alloc::{AllocError, Global};
 use value_text::typed::Typed;
 
-/// The line that says how far the path to the first absent part of a selection leads, or where absent parts are no fault,
-/// which part no value of the type has. Empty if all parts are there.
+/// The line that says how far the path to the first absent part of a selection leads. Empty if all parts are there.
 pub fn absent_text(
     alloc: Global,
     value: Typed<'_>,
     selection: &Selection,
 ) -> Result<Text, AllocError> {
-    if selection.absent == Absent::Empty {
-        return impossible_text(alloc, value, &selection.shape);
-    }
     match &selection.shape {
         Shape::Parts(patterns) => {
             for pattern in patterns {

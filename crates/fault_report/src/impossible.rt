@@ -1,168 +1,287 @@
-//! The first part of a selection that no value of the type has.
+//! The first requested part that no value of the type has.
 
 use crate::absent::{name_of, say_pattern_step};
-use crate::members::name_in;
+use crate::members::{name_in, say_names};
 use crate::missing::say_step;
 use pickle_source::near::nearest;
 use pickle_source::text::Text;
-use pickle_types::view::{Name, Node, Shape};
+use pickle_types::table::{Table, TypeId};
+use pickle_types::view::{Name, Node, Part, Shape};
 use poke_batch::path::Step;
 use poke_batch::pattern::PatternStep;
-use poke_batch::selection;
-use poke_batch::selection::Rows;
-use poke_batch::type_paths::{Lead, lead_of, pattern_step_lead, step_lead};
+use poke_batch::selection::{Rows, Shape as Selected};
+use poke_batch::terms::Terms;
 use std::alloc::{AllocError, Global};
-use value_text::typed::Typed;
+use type_parts::can_have::Hop;
 
-/// Where steps lead, and their path.
-#[derive(Drop)]
-struct Led {
-    to: Lead,
-    path: Text,
-    /// If they lead nowhere: the name that is near to that of the last step.
-    near: Option<Vec<u8>>,
+/// What is looked for, and in which type of a table.
+#[derive(Clone, Copy)]
+struct Search<'a> {
+    alloc: Global,
+    table: &'a Table,
+    id: TypeId,
+    terms: &'a Terms,
 }
 
-/// The line on the first part of a selection that no value of the type has. Empty if there is no such part.
+/// The types of the parts to which steps lead, and the path of the steps.
+#[derive(Drop)]
+struct Reach {
+    /// Of each node of the table, whether it is one of these types.
+    at: Vec<bool>,
+    path: Vec<u8>,
+    /// If they lead nowhere: what the parts before the last step have instead.
+    instead: Vec<u8>,
+}
+
+/// The line on the first part that terms request and no value of the type has. Empty if there is no such part.
 pub fn impossible_text(
     alloc: Global,
-    value: Typed<'_>,
-    shape: &selection::Shape,
+    table: &Table,
+    id: TypeId,
+    terms: &Terms,
 ) -> Result<Text, AllocError> {
-    let nodes = value.types().nodes();
-    match shape {
-        selection::Shape::Parts(patterns) => {
+    let search = Search {
+        alloc,
+        table,
+        id,
+        terms,
+    };
+    let part = search.part()?;
+    if part.is_lost() {
+        return part.say(alloc);
+    }
+    let Some(selection) = &terms.selection else {
+        return Ok(Text::new(alloc));
+    };
+    match &selection.shape {
+        Selected::Parts(patterns) => {
             for pattern in patterns {
-                let led = along(alloc, nodes, value.node(), pattern.steps.as_slice())?;
-                if led.to == Lead::Nowhere {
-                    return led.say(alloc);
+                let reach = search.by_pattern(search.part()?, pattern.steps.as_slice())?;
+                if reach.is_lost() {
+                    return reach.say(alloc);
                 }
             }
             Ok(Text::new(alloc))
         }
-        selection::Shape::Rows(rows) => impossible_row(alloc, nodes, value.node(), rows),
+        Selected::Rows(rows) => search.rows_text(rows),
     }
 }
 
-/// The line on rows that no value of the type has, or on the first of their columns.
-fn impossible_row(
-    alloc: Global,
-    nodes: &[Node],
-    node: Option<usize>,
-    rows: &Rows,
-) -> Result<Text, AllocError> {
-    for column in &rows.columns {
-        let row = along(alloc, nodes, node, rows.pattern.steps.as_slice())?;
-        let led = row.along(alloc, nodes, column.path.steps.as_slice())?;
-        if led.to == Lead::Nowhere {
-            return led.say(alloc);
+impl Search<'_> {
+    /// Where the requested part is.
+    fn part(&self) -> Result<Reach, AllocError> {
+        let mut at = no_types(self.alloc, self.table.nodes())?;
+        mark(&mut at, self.id.node);
+        let root = Reach {
+            at,
+            path: Vec::new(self.alloc),
+            instead: Vec::new(self.alloc),
+        };
+        match &self.terms.part {
+            Some(path) => self.by_path(root, path.steps.as_slice()),
+            None => Ok(root),
         }
     }
-    Ok(Text::new(alloc))
-}
 
-/// Where the steps of a pattern lead, up to the first that leads nowhere.
-fn along(
-    alloc: Global,
-    nodes: &[Node],
-    node: Option<usize>,
-    steps: &[PatternStep],
-) -> Result<Led, AllocError> {
-    let mut to = lead_of(node);
-    let mut path = Text::new(alloc);
-    for step in steps {
-        let from = to;
-        to = pattern_step_lead(nodes, from, step);
-        path = say_pattern_step(path, step)?;
-        if to == Lead::Nowhere {
-            let near = near_name(alloc, nodes, from, name_of(step))?;
-            return Ok(Led { to, path, near });
+    /// The line on rows that it can't have, or on the first of their columns.
+    fn rows_text(&self, rows: &Rows) -> Result<Text, AllocError> {
+        let row = self.by_pattern(self.part()?, rows.pattern.steps.as_slice())?;
+        if row.is_lost() {
+            return row.say(self.alloc);
         }
+        for column in &rows.columns {
+            let row = self.by_pattern(self.part()?, rows.pattern.steps.as_slice())?;
+            let cell = self.by_path(row, column.path.steps.as_slice())?;
+            if cell.is_lost() {
+                return cell.say(self.alloc);
+            }
+        }
+        Ok(Text::new(self.alloc))
     }
-    Ok(Led {
-        to,
-        path,
-        near: None,
-    })
-}
 
-impl Led {
     /// Where the steps of a path lead from there, up to the first that leads nowhere.
-    fn along(self, alloc: Global, nodes: &[Node], steps: &[Step]) -> Result<Led, AllocError> {
-        let Led {
-            mut to,
-            mut path,
-            mut near,
-        } = self;
+    fn by_path(&self, from: Reach, steps: &[Step]) -> Result<Reach, AllocError> {
+        let mut reach = from;
         for step in steps {
-            if to == Lead::Nowhere {
+            if reach.is_lost() {
                 break;
             }
-            let from = to;
-            to = step_lead(nodes, from, step);
-            path = say_step(path, step)?;
-            if to == Lead::Nowhere {
-                near = near_name(alloc, nodes, from, name_in(step))?;
+            let text = say_step(Text::new(self.alloc), step)?;
+            reach = self.after(reach, Hop::To(step), name_in(step), text)?;
+        }
+        Ok(reach)
+    }
+
+    /// Where the steps of a pattern lead from there, up to the first that leads nowhere.
+    fn by_pattern(&self, from: Reach, steps: &[PatternStep]) -> Result<Reach, AllocError> {
+        let mut reach = from;
+        for step in steps {
+            if reach.is_lost() {
+                break;
+            }
+            let text = say_pattern_step(Text::new(self.alloc), step)?;
+            reach = self.after(reach, Hop::of(step), name_of(step), text)?;
+        }
+        Ok(reach)
+    }
+
+    /// Where a step leads that has this text, and may have a name.
+    fn after(
+        &self,
+        from: Reach,
+        hop: Hop<'_>,
+        name: &[u8],
+        text: Text,
+    ) -> Result<Reach, AllocError> {
+        let nodes = self.table.nodes();
+        let mut at = no_types(self.alloc, nodes)?;
+        for (node, is_from) in nodes.iter().zip(from.at.as_slice()) {
+            if *is_from {
+                mark_parts(&mut at, &node.shape, hop);
             }
         }
-        Ok(Led { to, path, near })
-    }
-
-    /// The line on a path that leads nowhere.
-    fn say(self, alloc: Global) -> Result<Text, AllocError> {
-        let path = self.path.into_bytes();
-        let text = Text::new(alloc)
-            .say(b"  no value of the type has ")?
-            .say(path.as_slice())?;
-        let text = match &self.near {
-            Some(near) => text.say(b": is .")?.say(near.as_slice())?.say(b" meant?")?,
-            None => text,
+        let instead = match at.contains(&true) {
+            true => Vec::new(self.alloc),
+            false => self.instead(&from, name)?.into_bytes(),
         };
-        text.say(b"\n")
+        let mut path = from.path;
+        path.extend_from_slice(&text.into_bytes())?;
+        Ok(Reach { at, path, instead })
+    }
+
+    /// What the parts at the end of a path have instead of one that is called so: a name that is near to it, or all.
+    fn instead(&self, reach: &Reach, wanted: &[u8]) -> Result<Text, AllocError> {
+        let mut names = Vec::new(self.alloc);
+        let mut kind = Kind::Number;
+        for (node, is_from) in self.table.nodes().iter().zip(reach.at.as_slice()) {
+            if *is_from {
+                add_names(&mut names, &node.shape)?;
+                kind = kind.or(&node.shape);
+            }
+        }
+        let text = Text::new(self.alloc).say(b": ")?;
+        if let Some(near) = nearest(self.alloc, wanted, names.as_slice())? {
+            return text.say(b"is .")?.say(near)?.say(b" meant?");
+        }
+        let path: &[u8] = match reach.path.as_slice() {
+            [] => b".",
+            path => path,
+        };
+        let text = text.say(path)?;
+        match kind {
+            Kind::Number => text.say(b" has no parts"),
+            Kind::Array => text.say(b" has elements"),
+            Kind::Struct => say_names(text.say(b" has ")?, names.as_slice()),
+        }
     }
 }
 
-/// The name of a field or an alternative of a type that is near to a word.
-fn near_name(
-    alloc: Global,
-    nodes: &[Node],
-    from: Lead,
-    word: &[u8],
-) -> Result<Option<Vec<u8>>, AllocError> {
-    let Lead::To(at) = from else {
-        return Ok(None);
-    };
-    let Some(node) = nodes.get(at) else {
-        return Ok(None);
-    };
-    let names = names_in(alloc, &node.shape)?;
-    match nearest(alloc, word, names.as_slice())? {
-        Some(near) => Ok(Some(Vec::from_slice(alloc, near)?)),
-        None => Ok(None),
+/// What the parts of a type are called by.
+#[derive(Clone, Copy)]
+enum Kind {
+    Number,
+    Array,
+    Struct,
+}
+
+impl Kind {
+    /// That of two types, of which one has this kind.
+    fn or(self, shape: &Shape) -> Kind {
+        match (self, shape) {
+            (Kind::Struct, _) => Kind::Struct,
+            (_, Shape::Struct { .. } | Shape::Integral { .. } | Shape::Union { .. }) => Kind::Struct,
+            (_, Shape::Array(_, _)) => Kind::Array,
+            (kind, Shape::Integer(_) | Shape::Offset(_, _) | Shape::String) => kind,
+        }
     }
 }
 
-fn names_in<'t>(alloc: Global, shape: &'t Shape) -> Result<Vec<&'t [u8]>, AllocError> {
-    let mut names = Vec::new(alloc);
+impl Reach {
+    /// Whether the steps lead nowhere.
+    fn is_lost(&self) -> bool {
+        !self.at.contains(&true)
+    }
+
+    /// The line on steps that lead nowhere.
+    fn say(self, alloc: Global) -> Result<Text, AllocError> {
+        Text::new(alloc)
+            .say(b"  no value of the type has ")?
+            .say(self.path.as_slice())?
+            .say(self.instead.as_slice())?
+            .say(b"\n")
+    }
+}
+
+fn no_types(alloc: Global, nodes: &[Node]) -> Result<Vec<bool>, AllocError> {
+    let mut at = Vec::new(alloc);
+    for _ in nodes {
+        at.push(false)?;
+    }
+    Ok(at)
+}
+
+fn mark(at: &mut Vec<bool>, node: usize) {
+    if let Some(is_there) = at.get_mut(node) {
+        *is_there = true;
+    }
+}
+
+/// Marks the types to which a step leads from a type.
+fn mark_parts(at: &mut Vec<bool>, shape: &Shape, hop: Hop<'_>) {
+    match shape {
+        Shape::Integer(_) | Shape::Offset(_, _) | Shape::String => {}
+        Shape::Array(element, _) => {
+            if hop.leads_to_element() {
+                mark(at, *element);
+            }
+        }
+        Shape::Struct { fields, .. } => {
+            for (place, field) in fields.iter().enumerate() {
+                if hop.leads_to_field(&field.name, place) {
+                    mark(at, field.node);
+                }
+            }
+        }
+        Shape::Integral { fields, .. } => mark_fields(at, fields.as_slice(), hop),
+        Shape::Union { alternatives, .. } => mark_alternatives(at, alternatives.as_slice(), hop),
+    }
+}
+
+fn mark_fields(at: &mut Vec<bool>, fields: &[Part], hop: Hop<'_>) {
+    for (place, field) in fields.iter().enumerate() {
+        if hop.leads_to_field(&field.name, place) {
+            mark(at, field.node);
+        }
+    }
+}
+
+fn mark_alternatives(at: &mut Vec<bool>, alternatives: &[Part], hop: Hop<'_>) {
+    for alternative in alternatives {
+        if hop.leads_to_field(&alternative.name, 0) {
+            mark(at, alternative.node);
+        }
+    }
+}
+
+fn add_names<'t>(names: &mut Vec<&'t [u8]>, shape: &'t Shape) -> Result<(), AllocError> {
     match shape {
         Shape::Struct { fields, .. } => {
             for field in fields {
-                add_name(&mut names, &field.name)?;
+                add_name(names, &field.name)?;
             }
         }
-        Shape::Integral { fields, .. } => {
-            for field in fields {
-                add_name(&mut names, &field.name)?;
-            }
-        }
-        Shape::Union { alternatives, .. } => {
-            for alternative in alternatives {
-                add_name(&mut names, &alternative.name)?;
-            }
-        }
+        Shape::Integral { fields, .. } => add_part_names(names, fields.as_slice())?,
+        Shape::Union { alternatives, .. } => add_part_names(names, alternatives.as_slice())?,
         Shape::Integer(_) | Shape::Offset(_, _) | Shape::String | Shape::Array(_, _) => {}
     }
-    Ok(names)
+    Ok(())
+}
+
+fn add_part_names<'t>(names: &mut Vec<&'t [u8]>, parts: &'t [Part]) -> Result<(), AllocError> {
+    for part in parts {
+        add_name(names, &part.name)?;
+    }
+    Ok(())
 }
 
 fn add_name<'t>(names: &mut Vec<&'t [u8]>, name: &'t Option<Name>) -> Result<(), AllocError> {

@@ -26,7 +26,7 @@ mod defect;
 mod endings;
 mod flat;
 mod front;
-mod impossible;
+pub mod impossible;
 mod indent;
 mod lengths;
 mod lines;

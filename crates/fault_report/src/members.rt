@@ -58,13 +58,13 @@ fn say_fields(
     }
     match nearest(alloc, wanted, names.as_slice())? {
         Some(near) => text.say(b": is .")?.say(near)?.say(b" meant?"),
-        None => say_names(text, names.as_slice()),
+        None => say_names(text.say(b": it has ")?, names.as_slice()),
     }
 }
 
 /// Adds the first of some names to the text, and how many more there are.
-fn say_names(text: Text, names: &[&[u8]]) -> Result<Text, AllocError> {
-    let mut text = text.say(b": it has ")?;
+pub fn say_names(text: Text, names: &[&[u8]]) -> Result<Text, AllocError> {
+    let mut text = text;
     let told = names.len().min(MOST_TOLD);
     for (place, name) in names.iter().take(told).enumerate() {
         let last = place.saturating_add(1) == names.len();

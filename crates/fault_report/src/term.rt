@@ -57,6 +57,7 @@ pub fn term_text(
         Outcome::NoSuchPart => lacking_text(alloc, value, terms)?,
         Outcome::Refused(_)
         | Outcome::NoSuchType
+        | Outcome::ImpossiblePart
         | Outcome::Offset
         | Outcome::Fault(_)
         | Outcome::Slots(_)

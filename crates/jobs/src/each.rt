@@ -14,11 +14,11 @@ use crate::file_run::{FileForm, Typed, flush, run_name};
 use crate::names::{ListFault, read_name};
 use crate::opener::Opener;
 use crate::settings::Mapping;
-use crate::why::{Why, explain};
+use crate::why::{Why, explain, explain_parts};
 use command_line::request::FileNames;
 use poke_batch::each::Kept;
 use poke_batch::outcome::Outcome;
-use poke_batch::resolve::resolve;
+use poke_batch::resolve::{refuse_parts, resolve};
 use poke_batch::status::Status;
 use std::alloc::Global;
 use std::io::{BufReader, Read, Write};
@@ -47,6 +47,10 @@ pub fn map_files<P: Opener, A: Aside, O: Write>(
             return Ok(Ending::Run(outcome));
         }
     };
+    if let Some(outcome) = refuse_parts(alloc, &table, id, mapping.terms) {
+        explain_parts(alloc, why, outcome, &table, id, mapping.terms);
+        return Ok(Ending::Run(outcome));
+    }
     let typed = Typed {
         alloc,
         mapping,

@@ -9,12 +9,12 @@ use crate::fault::FileFault;
 use crate::head::wants_little;
 use crate::opener::{NamedPickle, Opener};
 use crate::settings::Mapping;
-use crate::why::{Why, explain, reasons_of};
+use crate::why::{Why, explain, explain_parts, reasons_of};
 use bit_space::{Order, Paged, Space};
 use command_line::start::Start;
 use poke_batch::ask::Ask;
 use poke_batch::outcome::Outcome;
-use poke_batch::resolve::resolve;
+use poke_batch::resolve::{refuse_parts, resolve};
 use poke_batch::status::Status;
 use poke_batch::terms::Terms;
 use poke_batch::type_run::TypeRun;
@@ -74,6 +74,10 @@ fn map_space<S: Space, O: Write>(
             return outcome;
         }
     };
+    if let Some(outcome) = refuse_parts(alloc, &table, id, terms) {
+        explain_parts(alloc, why, outcome, &table, id, terms);
+        return outcome;
+    }
     let run = TypeRun {
         alloc,
         table: &table,

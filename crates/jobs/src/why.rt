@@ -2,11 +2,14 @@
 use crate::opener::NamedPickle;
 use bit_space::Space;
 use fault_report::mapping::{Pickle, TypeMapping};
+use fault_report::impossible::impossible_text;
 use fault_report::{Explained, reasons_in};
 use pickle_reasons::{explanation, refusal_explanation};
 use pickle_warnings::accepted_warnings;
 use poke_batch::outcome::Outcome;
+use pickle_types::table::{Table, TypeId};
 use poke_batch::status::Status;
+use poke_batch::terms::Terms;
 use poke_batch::type_run::TypeRun;
 use std::alloc::{AllocError, Global};
 
@@ -38,6 +41,24 @@ pub fn explain(
     };
     if let Ok(text) = text {
         *why.text = text;
+    }
+}
+
+/// Writes which requested part no value of a type has, if reasons are requested and the run ended so. If an allocation
+/// fails there is only the line of the refusal.
+pub fn explain_parts(
+    alloc: Global,
+    why: &mut Why<'_>,
+    outcome: Outcome,
+    table: &Table,
+    id: TypeId,
+    terms: &Terms,
+) {
+    if !why.asked || outcome != Outcome::ImpossiblePart {
+        return;
+    }
+    if let Ok(text) = impossible_text(alloc, table, id, terms) {
+        *why.text = text.into_bytes();
     }
 }
 

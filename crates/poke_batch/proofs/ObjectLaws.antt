@@ -203,6 +203,7 @@ done_before : (ended : Outcome) → in_memory ended ≡ outcome.Done → ended �
 done_before outcome.Done e = refl
 done_before (outcome.Refused why) e = cc
 done_before outcome.NoSuchType e = cc
+done_before outcome.ImpossiblePart e = cc
 done_before outcome.Offset e = cc
 done_before (outcome.Fault why) e = cc
 done_before (outcome.Slots at) e = cc

@@ -39,7 +39,6 @@ pub use Rattle.command_line.specs.Words
 pub use Rattle.command_line.specs.Paths
 pub mod PathParts
 pub mod PathNodes
-pub mod TypePaths
 pub mod Selected
 pub mod TypedLines
 pub use Rattle.value_text.specs.LineParts

@@ -1,5 +1,5 @@
 -- What a run must print for a pickle under terms.
-use Rattle.std.specs.Prelude.{◌*◌, ◌<◌, ◌≡◌, ℕ, Bool, false, ◌&&◌, List, Option, Some, None, Ok, length, nat_le, nat_lt, if◌then◌else◌, codes}
+use Rattle.std.specs.Prelude.{◌*◌, ◌<◌, ◌≡◌, ℕ, Bool, true, false, ◌&&◌, List, Option, Some, None, Ok, length, nat_le, nat_lt, if◌then◌else◌, codes}
 use Rattle.bit_space.specs.SpaceView.{SpaceView}
 use Rattle.pickle_types.specs.declared.table.Table.{Table}
 use Rattle.pickle_types.specs.declared.table.TypeId.{TypeId}
@@ -26,7 +26,12 @@ use Rattle.run_parts.specs.Lines.{fault_line, fault_at_line}
 use Rattle.poke_batch.specs.PathParts.{part_at, node_at}
 use Rattle.poke_batch.specs.Selected.{Part, text_under, has_selected}
 pub use Rattle.poke_batch.specs.Selected.{text_in}
-use Rattle.poke_batch.specs.Runs.{HasAnswer, IsAsked, MapsAs}
+use Rattle.poke_batch.specs.Runs.{HasAnswer, HasNoType, IsAsked, MapsAs}
+use Rattle.run_parts.specs.declared.outcome.Failure.TheVariants as failure
+use Rattle.run_parts.specs.declared.outcome.Outcome.{Outcome}
+use Rattle.run_parts.specs.declared.outcome.Outcome.TheVariants as outcome
+use Rattle.run_parts.specs.Outcomes.{outcome_saying}
+use Rattle.type_parts.specs.CanHave.{can_have_requested}
 use Rattle.run_parts.specs.Told.{Saying, Text, Line}
 
 -- a text if it has no more bytes than the most, else a fault at the first bit of the mapping
@@ -98,6 +103,24 @@ pub data MapsUnder (pickle : List ℕ) (ask : Ask) (terms : Terms) (before after
   slots_under : {type : PokeType} {most : ℕ} → IsAsked pickle ask.name.now type → terms.most_slots ≡ Some most
       → most < room type (8 * before.len) → AreTooFew most type ask before
       → MapsUnder pickle ask terms before after (Line Fault (fault_at_line (codes "Slots") ask.start))
+
+-- why a type isn't mapped under terms: no value of it has a requested part, or memory didn't suffice to decide that
+pub data LacksPart (type : PokeType) (terms : Terms) : Outcome → Type 0 where
+  no_part : can_have_requested terms type ≡ false → LacksPart type terms outcome.ImpossiblePart
+  undecided : LacksPart type terms (outcome.Failed failure.Memory)
+
+-- why nothing is mapped: the pickle has no type of a name, or the type can't have a requested part
+pub data HasNoRun (pickle name : List ℕ) (terms : Terms) (ended : Outcome) : Type 0 where
+  lacks_type : HasNoType pickle name ended → HasNoRun pickle name terms ended
+  lacks_part : {type : PokeType} → IsAsked pickle name type → LacksPart type terms ended →
+      HasNoRun pickle name terms ended
+
+-- what a requested mapping prints: what it prints under its terms, if values of its type can have the requested parts
+pub data MapsRequested (pickle : List ℕ) (ask : Ask) (terms : Terms) (before after : SpaceView) : Saying → Type 0 where
+  not_run : {ended : Outcome} → HasNoRun pickle ask.name.now terms ended
+      → MapsRequested pickle ask terms before after (outcome_saying ended)
+  is_run : {type : PokeType} {saying : Saying} → IsAsked pickle ask.name.now type → can_have_requested terms type ≡ true
+      → MapsUnder pickle ask terms before after saying → MapsRequested pickle ask terms before after saying
 
 -- a store for a mapping under terms: with a most it has exactly that capacity
 abbrev pub IsStoreOf : (most : Option ℕ) → Held → Type 0

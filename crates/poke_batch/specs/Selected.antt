@@ -1,5 +1,5 @@
 -- What is printed of the parts of a value that a selection leads to.
-use Rattle.std.specs.Prelude.{ℕ, zero, suc, ◌+◌, ◌-◌, Bool, true, false, List, [], ◌∷◌, ◌++◌, Option, Some, None, min, unwrap_or, option_map, is_some, codes, string_bytes}
+use Rattle.std.specs.Prelude.{ℕ, zero, suc, ◌+◌, ◌-◌, Bool, true, false, ◌&&◌, List, [], ◌∷◌, ◌++◌, Option, Some, None, min, unwrap_or, option_map, is_some, codes, string_bytes}
 use Rattle.pickle_types.specs.declared.node.Node.{Node}
 use Rattle.pickle_meaning.specs.Values.{Label, IntegerLabel, OffsetLabel, TextLabel, ArrayLabel, StructLabel, UnionLabel, Value, label_of, members_of, member_at, member_count}
 use Rattle.text_output.specs.declared.mode.Mode.{Mode}
@@ -28,9 +28,11 @@ use Rattle.command_line.specs.declared.terms.Terms.{Terms}
 use Rattle.poke_batch.specs.declared.places.Places.{Places}
 use Rattle.poke_batch.specs.declared.line.Line.{Line}
 use Rattle.poke_batch.specs.declared.line.Line.TheVariants as line
-pub use Rattle.poke_batch.specs.TypePaths.{all_of}
-use Rattle.poke_batch.specs.TypePaths.{may_have}
 use Rattle.poke_batch.specs.PathParts.{is_array, place_of, step_to, part_of, node_there, node_from}
+
+abbrev pub all_of : {A : Type 0} → (test : A → Bool) → List A → Bool
+all_of test [] = true
+all_of test (one ∷ more) = test one && all_of test more
 
 -- a part of a value, beside the node of its type
 pub record Part : Type 0 where
@@ -265,10 +267,9 @@ module _ (nodes : List Node) where
 
   abbrev pub has_parts : Absent → Shape → Part → Bool
   has_parts absent.Fault shape part = has_shape shape part
-  has_parts absent.Empty shape part = may_have nodes part.node shape
+  has_parts absent.Empty shape part = true
 
-  -- whether a part has all parts that are selected; where the absence of one is no fault, whether its type may have
-  -- them
+  -- whether a part has all parts that are selected, if the absence of one is a fault
   abbrev pub has_selected : Option Selection → Part → Bool
   has_selected None part = true
   has_selected (Some selection) part = has_parts selection.absent selection.shape part

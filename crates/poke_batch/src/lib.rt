@@ -37,7 +37,6 @@ pub mod run;
 pub mod run_laws;
 pub mod selected;
 mod tell_value;
-pub mod type_paths;
 pub mod type_run;
 
 pub use command_line::ask::Ask;

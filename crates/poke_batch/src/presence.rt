@@ -8,20 +8,18 @@ ghost use Rattle.poke_batch.specs.TypedLines.{has_typed, has_typed_patterns, has
 use crate::line::Line;
 use crate::part::{part_of, step_beside};
 use crate::places::{Places, places_of};
-use crate::type_paths::may_have;
 use command_line::pattern::{Pattern, PatternStep};
 use command_line::selection::{Absent, Column, Selection, Shape};
 use value_text::typed::Typed;
 
-/// Whether a value has all parts that are selected. Where the absence of one is no fault, it is enough that a value of
-/// its type may have them. Without a selection it has.
+/// Whether a value has all parts that are selected, if the absence of one is a fault. Without a selection it has.
 pub fn has_selected(value: Typed<'_>, selection: &Option<Selection>) -> bool
     ensures { result ≡ has_selected (nodes_in (types_in value.entry)) selection.now (part_in value.entry) }
 {
     match selection {
         Some(selection) => match selection.absent {
             Absent::Fault => has_shape(value, &selection.shape),
-            Absent::Empty => may_have(value.types().nodes(), value.node(), &selection.shape),
+            Absent::Empty => true,
         },
         None => true,
     }

@@ -8,12 +8,12 @@ ghost use Rattle.pickle_meaning.specs.Values.{Value, value_at, start_of, end_of}
 ghost use Rattle.run_parts.specs.Outcomes.{EndsAs, outcome_saying};
 ghost use Rattle.run_parts.specs.Told.{Says};
 ghost use Rattle.poke_batch.specs.Runs.{ChecksAs, BoundsAs, MapsAs, types_text};
-ghost use Rattle.poke_batch.specs.RunsUnder.{MapsUnder, IsStoreOf, end_saying, fixed_saying, SaysIt};
+ghost use Rattle.poke_batch.specs.RunsUnder.{MapsRequested, IsStoreOf, end_saying, fixed_saying, SaysIt};
 ghost use Rattle.poke_batch.specs.TypeRuns.{EndsRun, run_saying};
 ghost use Rattle.text_output.specs.Written.{AppendsPart};
 ghost use Rattle.value_store.specs.Slots.{levels};
 
-use crate::resolve::resolve;
+use crate::resolve::{resolve, resolve_requested};
 use crate::type_run::TypeRun;
 use bit_space::{Memory, Meter, Space};
 use command_line::ask::Ask;
@@ -123,7 +123,8 @@ pub fn run_map<S: Space, O: Write, E: Write>(
 ///
 /// The terms are tested in this order:
 /// 1. `whole`: a value that ends before the file's last bit is the fault `Left`, at the first bit after the value.
-/// 2. `part`: a value without the requested part is the fault `NoSuchPart`.
+/// 2. `part`: a value without the requested part is the fault `NoSuchPart`. Where no value of the type has it, nothing is
+///    mapped: the run is refused as `NoSuchPart`.
 /// 3. `most_output`: a printed value, or part, of more bytes is the fault `Output`, at the first bit of the mapping.
 ///
 /// A mapping that ends with a fault reports that fault.
@@ -136,7 +137,7 @@ pub fn run_map_under<S: Space, O: Write, E: Write>(
     out: &mut O,
     err: &mut E,
 ) -> Status
-    ensures says { Says (MapsUnder pickle.now ask.now terms.now (S.view space.old) (S.view space.new)) result
+    ensures says { Says (MapsRequested pickle.now ask.now terms.now (S.view space.old) (S.view space.new)) result
         (O.contents out.old) (O.contents out.new) (E.contents err.old) (E.contents err.new) }
     ensures keeps { Keeps (S.view space.old) (S.view space.new) }
 {
@@ -152,11 +153,11 @@ pub fn map_outcome<S: Space, O: Write>(
     space: &mut S,
     out: &mut O,
 ) -> Outcome
-    ensures ends { EndsAs (MapsUnder pickle.now ask.now terms.now (S.view space.old) (S.view space.new)) result
+    ensures ends { EndsAs (MapsRequested pickle.now ask.now terms.now (S.view space.old) (S.view space.new)) result
         (O.contents out.old) (O.contents out.new) }
     ensures keeps { Keeps (S.view space.old) (S.view space.new) }
 {
-    let (table, id) = match resolve(alloc, pickle, ask.name) {
+    let (table, id) = match resolve_requested(alloc, pickle, ask.name, terms) {
         Ok(found) => found,
         Err(outcome) => return outcome,
     };

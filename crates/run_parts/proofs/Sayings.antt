@@ -52,6 +52,7 @@ pub outcome_lines : (ended : Outcome) → outcome_saying ended ≡ Line (outcome
 outcome_lines outcome.Done = refl
 outcome_lines (outcome.Refused why) = refusal_lines why
 outcome_lines outcome.NoSuchType = refl
+outcome_lines outcome.ImpossiblePart = refl
 outcome_lines outcome.Offset = refl
 outcome_lines (outcome.Fault why) = fault_lines why.kind why.at
 outcome_lines (outcome.Slots at) = refl
@@ -66,6 +67,7 @@ pub object_made : (ended : Outcome) → ended ≢ outcome.Done →
 object_made outcome.Done other = absurd (other refl)
 object_made (outcome.Refused why) other = refl
 object_made outcome.NoSuchType other = refl
+object_made outcome.ImpossiblePart other = refl
 object_made outcome.Offset other = refl
 object_made (outcome.Fault why) other = refl
 object_made (outcome.Slots at) other = refl
@@ -79,6 +81,7 @@ pub members_made : (ended : Outcome) → ended ≢ outcome.Done →
 members_made outcome.Done other = absurd (other refl)
 members_made (outcome.Refused why) other = refl
 members_made outcome.NoSuchType other = refl
+members_made outcome.ImpossiblePart other = refl
 members_made outcome.Offset other = refl
 members_made (outcome.Fault why) other = refl
 members_made (outcome.Slots at) other = refl

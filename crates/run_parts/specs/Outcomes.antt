@@ -35,6 +35,7 @@ abbrev pub outcome_saying : Outcome → Saying
 outcome_saying outcome.Done = Line Done []
 outcome_saying (outcome.Refused why) = refusal_saying why
 outcome_saying outcome.NoSuchType = Line Refused (refused_line (codes "NoSuchType"))
+outcome_saying outcome.ImpossiblePart = Line Refused (refused_line (codes "NoSuchPart"))
 outcome_saying outcome.Offset = Line Refused (refused_line (codes "offset"))
 outcome_saying (outcome.Fault why) = fault_saying why.kind why.at
 outcome_saying (outcome.Slots at) = Line Fault (fault_at_line (codes "Slots") at)
@@ -63,6 +64,7 @@ abbrev pub outcome_kind : Outcome → List ℕ
 outcome_kind outcome.Done = codes "Done"
 outcome_kind (outcome.Refused why) = refusal_kind why
 outcome_kind outcome.NoSuchType = codes "NoSuchType"
+outcome_kind outcome.ImpossiblePart = codes "NoSuchPart"
 outcome_kind outcome.Offset = codes "offset"
 outcome_kind (outcome.Fault why) = fault_kind why.kind
 outcome_kind (outcome.Slots at) = codes "Slots"
@@ -95,6 +97,7 @@ abbrev pub outcome_place : Outcome → RunEnd
 outcome_place outcome.Done = Nowhere
 outcome_place (outcome.Refused why) = refusal_place why
 outcome_place outcome.NoSuchType = Nowhere
+outcome_place outcome.ImpossiblePart = Nowhere
 outcome_place outcome.Offset = Nowhere
 outcome_place (outcome.Fault why) = fault_place why.kind why.at
 outcome_place (outcome.Slots at) = Bit at

@@ -55,6 +55,8 @@ pub enum Outcome {
     Refused(Refusal),
     /// The pickle declares no type of the requested name.
     NoSuchType,
+    /// No value of the type has a requested part.
+    ImpossiblePart,
     /// The mapping would start before the file's first byte.
     Offset,
     /// The mapping has a fault, or the environment failed under it.
@@ -85,7 +87,10 @@ impl Outcome {
         match self {
             Outcome::Done => Status::Done,
             Outcome::Refused(Refusal::Memory) | Outcome::Failed(_) => Status::Outside,
-            Outcome::Refused(_) | Outcome::NoSuchType | Outcome::Offset => Status::Refused,
+            Outcome::Refused(_)
+            | Outcome::NoSuchType
+            | Outcome::ImpossiblePart
+            | Outcome::Offset => Status::Refused,
             Outcome::Fault(fault) => fault_status(fault.kind),
             Outcome::Slots(_) | Outcome::Left(_) | Outcome::NoSuchPart | Outcome::Output(_) => {
                 Status::Fault
@@ -105,7 +110,7 @@ impl Outcome {
             Outcome::Fault(fault) => fault.kind.name(),
             Outcome::Slots(_) => "Slots",
             Outcome::Left(_) => "Left",
-            Outcome::NoSuchPart => "NoSuchPart",
+            Outcome::ImpossiblePart | Outcome::NoSuchPart => "NoSuchPart",
             Outcome::Output(_) => "Output",
             Outcome::Failed(failure) => failure.name(),
         }
@@ -122,6 +127,7 @@ impl Outcome {
             Outcome::Left(at) => RunEnd::Bit(at),
             Outcome::Done
             | Outcome::NoSuchType
+            | Outcome::ImpossiblePart
             | Outcome::Offset
             | Outcome::NoSuchPart
             | Outcome::Failed(_) => RunEnd::Nowhere,

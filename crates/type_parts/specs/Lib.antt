@@ -1,0 +1,2 @@
+pub mod CanHave
+pub mod Laws
