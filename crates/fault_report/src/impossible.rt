@@ -71,7 +71,7 @@ impl Search<'_> {
     /// Where the requested part is.
     fn part(&self) -> Result<Reach, AllocError> {
         let mut at = no_types(self.alloc, self.table.nodes())?;
-        mark(&mut at, self.id.node);
+        mark(&mut at, self.id.node());
         let root = Reach {
             at,
             path: Vec::new(self.alloc),

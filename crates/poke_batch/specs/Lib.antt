@@ -13,6 +13,7 @@ pub use Rattle.run_parts.specs.TypesText
 pub mod Runs
 pub mod RunsUnder
 pub mod TypeRuns
+pub mod Ready
 pub use Rattle.run_parts.specs.Accepted
 pub mod RunLaws
 pub use Rattle.text_output.specs.HexDigits

@@ -1,12 +1,14 @@
 //! A type of a pickle, mapped over one file after another, with a line or a JSON object for each.
 
-ghost use Rattle.std.specs.Prelude.{◌≡◌, IfOk, OnOk, OnErr};
+ghost use Rattle.std.specs.Prelude.{◌≡◌, List, IfOk, OnOk, OnErr};
 ghost use Rattle.std.specs.Io.KnownBytes.{Appends};
 ghost use Rattle.bit_space.specs.SpaceView.{Keeps};
 ghost use Rattle.poke_batch.specs.FileLine.{TellsFile, TellsKept, in_memory};
 ghost use Rattle.poke_batch.specs.FileObject.{HoldsRun, kept_object};
 ghost use Rattle.run_parts.specs.Outcomes.{outcome_status};
-ghost use Rattle.poke_batch.specs.RunsUnder.{IsStoreOf};
+ghost use Rattle.pickle_types.specs.TypeTable.{nodes_of};
+ghost use Rattle.pickle_types.specs.declared.node.Node.{Node};
+ghost use Rattle.poke_batch.specs.Ready.{IsReady};
 ghost use Rattle.poke_batch.specs.TypeRuns.{ForPickles};
 ghost use Rattle.text_output.specs.Written.{AppendsPart};
 ghost use Rattle.run_parts.specs.declared.status.Status.{Status};
@@ -18,16 +20,19 @@ use crate::type_run::TypeRun;
 use bit_space::{Memory, Space};
 use command_line::fault_form::FaultForm;
 use pickle_map::Store;
+use pickle_map::mapper::findings::Findings;
 use run_parts::outcome::{Failure, Outcome};
 use run_parts::status::Status;
 use std::alloc::Global;
 use std::io::Write;
 use text_output::write::WriteFault;
 
-/// What is stored from file to file: the values, and what a run wrote. The next file uses the same memory.
+/// What is stored from file to file: the values, what was found of the table's types, and what a run wrote. The next file
+/// uses the same memory.
 #[derive(Drop)]
 pub struct Kept {
     store: Store,
+    findings: Findings,
     text: Vec<u8>,
     outcome: Outcome,
 }
@@ -36,10 +41,11 @@ impl Kept {
     /// Nothing yet. With `most_slots`, the store reserves that many slots of each kind. `Memory` is returned if an
     /// allocation fails.
     pub fn new(alloc: Global, most_slots: Option<u64>) -> Result<Kept, Memory>
-        ensures { IfOk result (λ kept. IsStoreOf most_slots kept.store) }
+        ensures { IfOk result (λ kept. (nodes : List Node) → IsReady nodes most_slots kept) }
     {
         Ok(Kept {
             store: store_of(alloc, most_slots)?,
+            findings: Findings::new(),
             text: Vec::new(alloc),
             outcome: Outcome::Done,
         })
@@ -74,13 +80,13 @@ impl Kept {
 /// Maps the type of a run over a file, and stores how the run ended, and what
 /// [`run_map_under`](crate::run::run_map_under) writes to standard output for it.
 pub fn map_file<S: Space>(run: &TypeRun<'_>, kept: &mut Kept, space: &mut S)
-    requires store { IsStoreOf run.now.terms.now.most_slots kept.old.store }
-    ensures store { IsStoreOf run.now.terms.now.most_slots kept.new.store }
+    requires ready { IsReady (nodes_of run.now.table.now) run.now.terms.now.most_slots kept.old }
+    ensures ready { IsReady (nodes_of run.now.table.now) run.now.terms.now.most_slots kept.new }
     ensures holds { ForPickles run.now (S.view space.old) (S.view space.new) (λ IsRight. HoldsRun IsRight kept.new) }
     ensures keeps { Keeps (S.view space.old) (S.view space.new) }
 {
     kept.text.clear();
-    let ended = map_stored(run, &mut kept.store, space, &mut kept.text);
+    let ended = map_stored(run, &mut kept.store, &mut kept.findings, space, &mut kept.text);
     kept.outcome = in_memory(ended);
 }
 
@@ -95,8 +101,8 @@ pub fn run_file<S: Space, W: Write>(
     space: &mut S,
     w: &mut W,
 ) -> Result<Status, WriteFault>
-    requires store { IsStoreOf run.now.terms.now.most_slots kept.old.store }
-    ensures store { IsStoreOf run.now.terms.now.most_slots kept.new.store }
+    requires ready { IsReady (nodes_of run.now.table.now) run.now.terms.now.most_slots kept.old }
+    ensures ready { IsReady (nodes_of run.now.table.now) run.now.terms.now.most_slots kept.new }
     ensures ok { ForPickles run.now (S.view space.old) (S.view space.new) (λ IsRight. IfOk result (λ status.
         TellsFile faults IsRight Appends name.now status (W.contents w.old) (W.contents w.new))) }
     ensures err { ForPickles run.now (S.view space.old) (S.view space.new) (λ IsRight. OnErr result ((status : Status)

@@ -3,6 +3,7 @@
 ghost use Rattle.std.specs.Prelude.{◌≡◌, ◌*◌, ◌≤◌, Some, IsSome, OnOk, OnErr, IfOk, Option};
 ghost use Rattle.std.specs.Io.KnownBytes.{Appends};
 ghost use Rattle.bit_space.specs.SpaceView.{Keeps};
+ghost use Rattle.pickle_map.specs.Findings.{AreFound};
 ghost use Rattle.pickle_types.specs.TypeTable.{nodes_of};
 ghost use Rattle.pickle_meaning.specs.Values.{Value, value_at, start_of, end_of};
 ghost use Rattle.run_parts.specs.Outcomes.{EndsAs, outcome_saying};
@@ -18,7 +19,10 @@ use crate::type_run::TypeRun;
 use bit_space::{Memory, Meter, Space};
 use command_line::ask::Ask;
 use command_line::terms::Terms;
-use pickle_map::{MapFault, MapFaultKind, Store, map};
+use pickle_map::mapper::findings::Findings;
+use pickle_map::mapper::map_with;
+use pickle_map::mapper::watch::Unwatched;
+use pickle_map::{MapFault, MapFaultKind, Store};
 use run_parts::accept::accept;
 use run_parts::bound::{put_bounds, put_line};
 use run_parts::outcome::{Failure, Outcome};
@@ -179,7 +183,7 @@ impl TypeRun<'_> {
         ensures keeps { Keeps (S.view space.old) (S.view space.new) }
     {
         match store_of(self.alloc, self.terms.most_slots) {
-            Ok(mut store) => map_stored(self, &mut store, space, out),
+            Ok(mut store) => map_stored(self, &mut store, &mut Findings::new(), space, out),
             Err(Memory) => Outcome::Failed(Failure::Memory),
         }
     }
@@ -214,15 +218,18 @@ pub fn store_of(alloc: Global, most: Option<u64>) -> Result<Store, Memory>
 }
 
 /// Maps the type of a run into a store, which is emptied first. Writes the printed value to `out`, if the mapping has
-/// no fault.
+/// no fault. What mappings find of the table's types is kept for the next ones.
 pub fn map_stored<S: Space, O: Write>(
     run: &TypeRun<'_>,
     store: &mut Store,
+    findings: &mut Findings,
     space: &mut S,
     out: &mut O,
 ) -> Outcome
     requires store { IsStoreOf run.now.terms.now.most_slots store.old }
+    requires found { AreFound (nodes_of run.now.table.now) findings.old }
     ensures store { IsStoreOf run.now.terms.now.most_slots store.new }
+    ensures found { AreFound (nodes_of run.now.table.now) findings.new }
     ensures ends { EndsRun run.now (S.view space.old) (S.view space.new) result
         (O.contents out.old) (O.contents out.new) }
     ensures keeps { Keeps (S.view space.old) (S.view space.new) }
@@ -237,7 +244,8 @@ pub fn map_stored<S: Space, O: Write>(
     store.clear();
     let bytes = space.len();
     let mut meter = Meter::new(ask.limit);
-    match map(table, id, ask.order, ask.start, space, &mut meter, store) {
+    let watch = &mut Unwatched;
+    match map_with(table, id, ask.order, ask.start, space, &mut meter, store, watch, findings) {
         Ok(()) => run.tell_root(store, bytes, out),
         Err(fault) => end_outcome(fault, terms.most_slots, ask.start),
     }

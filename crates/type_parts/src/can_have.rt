@@ -160,7 +160,7 @@ pub fn can_have_requested(
         nodes: table.nodes(),
     };
     let known = finder.requested(terms)?;
-    Ok(known[id.node])
+    Ok(known[id.node()])
 }
 
 /// What parts are looked for among: the nodes of a table.
