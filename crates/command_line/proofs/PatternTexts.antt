@@ -7,6 +7,7 @@ use Rattle.std.proofs.lemmas.Fmt.{decimal_is_IsNumeral}
 use Rattle.std.proofs.lemmas.Str.Parse.{digit_from_value}
 use Rattle.std.proofs.lemmas.List.{append_cancel_right, map-append, drop_more}
 use Rattle.std.proofs.lemmas.Bool.Decides.{nat_tests}
+use Rattle.std.specs.List.{list_all}
 use Rattle.command_line.specs.declared.path.Step.{Step}
 use Rattle.command_line.specs.declared.pattern.PatternStep.{PatternStep}
 use Rattle.command_line.specs.declared.pattern.PatternStep.TheVariants.{Exact, Elements, Fields}
@@ -464,3 +465,22 @@ exact_same (s ∷ a) (t ∷ b) e =
 pub one_path : HasOnePath
 one_path text a b h k = exact_same a b
     (one_pattern text (exact_parts a) (exact_parts b) (pattern_from_path text a h) (pattern_from_path text b k))
+
+-- the steps that those of a pattern are that leads to one part
+abbrev steps_in : List PatternStep → List PathStep
+steps_in [] = []
+steps_in (Exact step ∷ steps) = step_of step ∷ steps_in steps
+steps_in (Elements span ∷ steps) = steps_in steps
+steps_in (Fields ∷ steps) = steps_in steps
+
+steps_same : (steps : List PatternStep) → list_all is_exact steps ≡ true → exact_parts (steps_in steps) ≡ parts_of steps
+steps_same [] h = refl
+steps_same (Exact step ∷ steps) h = ap (λ parts. ToOne (step_of step) ∷ parts) (steps_same steps h)
+steps_same (Elements span ∷ steps) h = cc
+steps_same (Fields ∷ steps) h = cc
+
+-- the text of such a pattern is a path
+pub path_of_exact : (text : List ℕ) (steps : List PatternStep) → list_all is_exact steps ≡ true
+    → IsPattern text (parts_of steps) → (path : List PathStep) × IsPath text path
+path_of_exact text steps exact h =
+    (steps_in steps, path_from_pattern text (steps_in steps) (parts_of steps) (steps_same steps exact) h)

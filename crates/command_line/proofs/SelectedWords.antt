@@ -1,11 +1,25 @@
 -- Laws of the patterns and columns that arguments are.
-use Rattle.std.proofs.Common.{◌≡◌, ◌∙◌, ℕ, ◌+◌, ◌<◌, List, [], ◌∷◌, ◌++◌, length, map, take, get_or, sym, ap, subst}
+use Rattle.std.proofs.Common.{◌≡◌, ◌∙◌, ℕ, ◌+◌, ◌<◌, true, List, [], ◌∷◌, ◌++◌, Option, Some, None, inl, inr, length, map, take, get_or, codes, refl, sym, ap, subst}
+use Rattle.std.specs.Prelude.{slice_get, option_map, option_and_then}
+use Rattle.std.specs.Option.{option_map_or}
 use Rattle.std.specs.Borrow.{Bor}
 use Rattle.std.proofs.lemmas.List.{take_more, map-append}
 use Rattle.command_line.specs.declared.pattern.Pattern.{Pattern}
+use Rattle.clap.specs.Matches.{first_value, matched_of, raw_values}
+use Rattle.clap.specs.declared.parser.matches.Found.{Found}
+use Rattle.clap.specs.declared.parser.matches.MatchedArg.{MatchedArg}
+use Rattle.command_line.specs.declared.selection.Absent.{Absent}
+use Rattle.command_line.specs.declared.selection.Absent.TheVariants as absent
+use Rattle.command_line.specs.declared.selection.Choice.{Choice}
+use Rattle.command_line.specs.declared.selection.Choice.TheVariants as choice
 use Rattle.command_line.specs.declared.selection.Column.{Column}
+use Rattle.command_line.specs.declared.selection.Selection.{Selection}
+use Rattle.command_line.specs.Misread.{AnyWord, IsNoPath, IsNoPathIfAny, MisreadRequest}
+use Rattle.command_line.specs.Misread.MisreadColumns.{path_wrong}
+use Rattle.command_line.specs.Misread.MisreadRequest.{selection_wrong, part_wrong}
 use Rattle.command_line.specs.Patterns.{parts_of, IsPattern}
-use Rattle.command_line.specs.Selects.{ArePatterns, IsColumn, AreColumns}
+use Rattle.command_line.specs.Selects.{ArePatterns, IsColumn, AreColumns, ArePaths, IsOneAtMost, SelectsAny, Selects, is_one_path, words_in}
+use Rattle.command_line.proofs.PatternTexts.{path_of_exact}
 
 -- one more pattern
 pub patterns_more : (words : List (List ℕ)) (patterns : List Pattern) (word : List ℕ) (pattern : Pattern)
@@ -51,3 +65,48 @@ columns_step words i default columns more column lt so_far next all =
     subst (AreColumns (map (λ word. word.now) (take (i + 1) words))) (sym all)
     (subst (λ texts. AreColumns texts (columns ++ column ∷ [])) (word_more words i default lt)
     (columns_more _ columns _ column so_far next))
+
+-- one pattern that leads to one part is a path
+pub one_is_path : (words : List (List ℕ)) (patterns : List Pattern) → ArePatterns words patterns
+    → is_one_path patterns ≡ true → (given : Absent) → given ≡ absent.Fault
+    → IsOneAtMost words given × ArePaths words
+one_is_path [] [] h one given is = cc
+one_is_path [] (p ∷ patterns) h one given is = absurd h
+one_is_path (w ∷ words) [] h one given is = absurd h
+one_is_path (w ∷ []) (p ∷ []) h one given is = (is, (path_of_exact w p.steps.items one h.0, tt))
+one_is_path (w ∷ v ∷ words) (p ∷ []) h one given is = absurd h.1
+one_is_path (w ∷ words) (p ∷ q ∷ patterns) h one given is = cc
+
+-- the first of some texts is among them
+first_wrong : (words : List (Bor (List ℕ))) → IsNoPathIfAny (option_map (λ word. word.now) (slice_get words 0))
+    → AnyWord IsNoPath (map (λ word. word.now) words)
+first_wrong [] wrong = absurd wrong
+first_wrong (word ∷ words) wrong = inl wrong
+
+given_wrong : (given : Option MatchedArg)
+    → IsNoPathIfAny (option_and_then (λ a. option_map (λ s. s.now) (slice_get a.vals.items 0)) given)
+    → AnyWord IsNoPath (option_map_or raw_values given [])
+given_wrong None wrong = absurd wrong
+given_wrong (Some a) wrong = first_wrong a.vals.items wrong
+
+none_wrong : (words : List (List ℕ)) → ArePaths words → AnyWord IsNoPath words → ⊥
+none_wrong [] paths wrong = wrong
+none_wrong (word ∷ words) paths (inl wrong) = wrong paths.0.0 paths.0.1
+none_wrong (word ∷ words) paths (inr wrong) = none_wrong words paths.1 wrong
+
+parts_wrong : (found : Found) (rows : Option (List ℕ)) (given : Absent)
+    → SelectsAny found rows given None → AnyWord IsNoPath (words_in found (codes "get")) → ⊥
+parts_wrong found None given selects wrong = none_wrong _ selects.1 wrong
+parts_wrong found (Some pattern) given selects wrong = selects
+
+-- where nothing is selected, a text that is no path is the only reason of `show`, a wrong column of `each`, and none of
+-- `map`, whose texts were read as patterns
+pub beside_wrong : (found : Found) (offered : Choice) (selection : Option Selection) → Selects found offered selection
+    → (selection ≡ None) × IsNoPathIfAny (first_value found (codes "get")) → MisreadRequest found offered
+beside_wrong found choice.Part selection selects wrong = part_wrong refl wrong.1
+beside_wrong found choice.Parts selection selects wrong =
+    let Any : Option Selection → Type 0 = SelectsAny found (first_value found (codes "rows")) selects.absent in
+    absurd (parts_wrong found (first_value found (codes "rows")) selects.absent
+    (subst Any wrong.0 selects.selected) (given_wrong (matched_of found (codes "get")) wrong.1))
+beside_wrong found choice.Columns selection selects wrong =
+    selection_wrong (path_wrong (given_wrong (matched_of found (codes "get")) wrong.1))

@@ -64,16 +64,16 @@ MisreadSelection found choice.Parts =
     MisreadParts found (first_value found (codes "rows")) (words_in found (codes "get"))
 MisreadSelection found choice.Columns = MisreadColumns (words_in found (codes "get"))
 
--- an option of a mapping is wrong
-pub data MisreadRequest (found : Found) (choice : Choice) : Type 0 where
-  selection_wrong : MisreadSelection found choice → MisreadRequest found choice
-  part_wrong : IsNoPathIfAny (first_value found (codes "get")) → MisreadRequest found choice
-  most_output_wrong : IsNoNumberIfAny (first_value found (codes "max-output")) → MisreadRequest found choice
-  most_slots_wrong : IsNoNumberIfAny (first_value found (codes "slots")) → MisreadRequest found choice
-  spool_wrong : IsNoNumberIfAny (first_value found (codes "spool")) → MisreadRequest found choice
-  limit_wrong : IsNoNumberIfAny (first_value found (codes "limit")) → MisreadRequest found choice
-  elements_wrong : IsNoElementsIfAny (first_value found (codes "elements")) → MisreadRequest found choice
-  depth_wrong : IsNoElementsIfAny (first_value found (codes "depth")) → MisreadRequest found choice
+-- an option of a mapping is wrong: a part has to be a path where a command offers nothing else
+pub data MisreadRequest (found : Found) (offered : Choice) : Type 0 where
+  selection_wrong : MisreadSelection found offered → MisreadRequest found offered
+  part_wrong : offered ≡ choice.Part → IsNoPathIfAny (first_value found (codes "get")) → MisreadRequest found offered
+  most_output_wrong : IsNoNumberIfAny (first_value found (codes "max-output")) → MisreadRequest found offered
+  most_slots_wrong : IsNoNumberIfAny (first_value found (codes "slots")) → MisreadRequest found offered
+  spool_wrong : IsNoNumberIfAny (first_value found (codes "spool")) → MisreadRequest found offered
+  limit_wrong : IsNoNumberIfAny (first_value found (codes "limit")) → MisreadRequest found offered
+  elements_wrong : IsNoElementsIfAny (first_value found (codes "elements")) → MisreadRequest found offered
+  depth_wrong : IsNoElementsIfAny (first_value found (codes "depth")) → MisreadRequest found offered
 
 -- the arguments of the command of this name are wrong
 pub data Misread (command : List ℕ) (found : Found) : Type 0 where

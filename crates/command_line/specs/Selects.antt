@@ -5,7 +5,7 @@ use Rattle.std.specs.List.{list_all}
 use Rattle.clap.specs.Matches.{first_value, one_text, matched_of, raw_values}
 use Rattle.clap.specs.declared.parser.matches.Found.{Found}
 use Rattle.command_line.specs.Flags.{FlagIn}
-use Rattle.command_line.specs.Paths.{steps_of, IsPath}
+use Rattle.command_line.specs.Paths.{PathStep, steps_of, IsPath}
 use Rattle.command_line.specs.Patterns.{parts_of, is_exact, IsPattern}
 use Rattle.command_line.specs.declared.path.Path.{Path}
 use Rattle.command_line.specs.declared.pattern.Pattern.{Pattern}
@@ -66,7 +66,12 @@ pub record NamesRows (found : Found) (pattern : List ℕ) (words : List (List �
   pub header : FlagIn (one_text found (codes "header")) rows.header
   pub mode : HasRows (unwrap_or (first_value found (codes "mode")) []) rows.header
 
--- no part or one is requested, and that by a path, whose absence is a fault
+-- each text is a path
+abbrev pub ArePaths : List (List ℕ) → Type 0
+ArePaths [] = Unit {0}
+ArePaths (word ∷ words) = ((steps : List PathStep) × IsPath word steps) × ArePaths words
+
+-- no part or one is requested, whose absence is a fault
 abbrev pub IsOneAtMost : List (List ℕ) → Absent → Type 0
 IsOneAtMost [] given = Unit {0}
 IsOneAtMost (word ∷ []) given = given ≡ absent.Fault
@@ -84,7 +89,7 @@ IsShapeOfParts words absent (shape.Parts patterns) =
 IsShapeOfParts words absent (shape.Rows rows) = ⊥
 
 abbrev pub SelectsParts : List (List ℕ) → Absent → Option Selection → Type 0
-SelectsParts words absent None = IsOneAtMost words absent
+SelectsParts words absent None = IsOneAtMost words absent × ArePaths words
 SelectsParts words absent (Some selection) = (selection.absent ≡ absent) × IsShapeOfParts words absent selection.shape
 
 -- what `each` prints: the columns of the value, or one part whose absence is no fault

@@ -1,5 +1,5 @@
 //! The parts of a value that arguments request.
-ghost use Rattle.std.specs.Prelude.{◌≡◌, ◌≢◌, map, codes, IfOk, IfErr, OnOk};
+ghost use Rattle.std.specs.Prelude.{◌≡◌, ◌≢◌, None, map, codes, IfOk, IfErr, OnOk};
 ghost use Rattle.clap.specs.Matches.{found_of, first_value};
 ghost use Rattle.command_line.specs.Paths.{steps_of, IsPath};
 ghost use Rattle.command_line.specs.Patterns.{parts_of, IsPattern};
@@ -57,7 +57,8 @@ pub fn part_beside(
 ) -> Result<Option<Path>, WordFault>
     ensures part { IfOk result (PartBeside (first_value (found_of found.now) (codes "get")) selection.now) }
     ensures fault { IfErr result (λ fault. fault ≢ Offset) }
-    ensures misread { IfErr result (FailsFor (IsNoPathIfAny (first_value (found_of found.now) (codes "get"))) ⊥) }
+    ensures misread { IfErr result
+        (FailsFor ((selection.now ≡ None) × IsNoPathIfAny (first_value (found_of found.now) (codes "get"))) ⊥) }
 {
     match (selection, found.get_str("get")) {
         (None, Some(word)) => Ok(Some(path_of(alloc, word)?)),
