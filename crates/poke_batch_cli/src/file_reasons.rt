@@ -1,4 +1,5 @@
 //! Why a file couldn't be opened, as the system reports it.
+use crate::own_streams::OwnStreams;
 use crate::reason_text::{add, add_word};
 use jobs::Lengthless;
 use std::alloc::AllocError;
@@ -8,15 +9,15 @@ use std::os::unix::fs::FileTypeExt;
 use std::rt::Files;
 
 /// Adds why the file at a path couldn't be opened to a text, on a line that begins with the path.
-pub fn tell_unopened<R: Files<File = File>>(
-    rt: &R,
+pub fn tell_unopened(
     path: &str,
+    reason: &str,
     lengthless: Lengthless,
     text: &mut Vec<u8>,
 ) -> Result<(), AllocError> {
     add(text, &["  "])?;
     add_word(text, path)?;
-    add(text, &[": ", reason_of(rt, path, lengthless), "\n"])?;
+    add(text, &[": ", reason, "\n"])?;
     match (path, lengthless) {
         ("-", Lengthless::Refuses) => Ok(()),
         ("-", _) => add(
@@ -30,6 +31,21 @@ pub fn tell_unopened<R: Files<File = File>>(
 /// Whether there is a file of any kind at a path.
 pub fn is_there<R: Files<File = File>>(rt: &R, path: &str) -> bool {
     fs::metadata(rt, path).is_ok()
+}
+
+/// What is wrong with the FILE at a path that couldn't be opened, in a run with these streams of its own.
+pub fn file_reason<R: Files<File = File>>(
+    rt: &R,
+    own: &OwnStreams,
+    path: &str,
+    lengthless: Lengthless,
+) -> &'static str {
+    match lengthless {
+        Lengthless::Reads | Lengthless::NeedsSpool if own.has_at(rt, path) => {
+            "it is the list, the pickle or an output of this run"
+        }
+        _ => reason_of(rt, path, lengthless),
+    }
 }
 
 /// What is wrong with the file at a path that couldn't be opened.
@@ -55,6 +71,9 @@ fn error_of<R: Files<File = File>>(rt: &R, path: &str) -> Option<&'static str> {
     };
     if kind.is_dir() {
         return Some("it is a folder");
+    }
+    if kind.is_socket() {
+        return Some("it is a socket");
     }
     if !kind.is_file() && !kind.is_block_device() {
         return None;

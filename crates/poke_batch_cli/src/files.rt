@@ -1,9 +1,10 @@
 //! The files that a job names, from the system.
 ghost use Rattle.jobs.specs.Gives.{anything};
 
-use crate::file_reasons::reason_of;
+use crate::file_reasons::file_reason;
 use crate::given::{argument, stands_for};
 use crate::installed::pickle_path;
+use crate::own_streams::OwnStreams;
 use crate::with_progress::ShownSpace;
 use bit_space::{FileSpace, MemSpace, OpenFault, Space};
 use jobs::{FileFault, Lengthless, NamedPickle, Opener};
@@ -20,11 +21,12 @@ use std::rt::{Clock, Env, Files};
 pub struct SystemFiles<R: Drop, E: Drop> {
     rt: R,
     err: E,
+    own: OwnStreams,
 }
 
 impl<R: Drop, E: Drop> SystemFiles<R, E> {
-    pub fn new(rt: R, err: E) -> SystemFiles<R, E> {
-        SystemFiles { rt, err }
+    pub fn new(rt: R, err: E, own: OwnStreams) -> SystemFiles<R, E> {
+        SystemFiles { rt, err, own }
     }
 }
 
@@ -67,7 +69,7 @@ impl<
         spool: Option<u64>,
         shows: bool,
     ) -> Result<ShownSpace<Source, R, E>, FileFault> {
-        let source = open_source(&self.rt, path, spool)?;
+        let source = open_source(&self.rt, &self.own, path, spool)?;
         Ok(ShownSpace::new(source, self.rt.clone()?, self.err, shows))
     }
 
@@ -89,7 +91,7 @@ impl<
     }
 
     fn reason(&self, path: &str, lengthless: Lengthless) -> &'static str {
-        reason_of(&self.rt, path, lengthless)
+        file_reason(&self.rt, &self.own, path, lengthless)
     }
 }
 
@@ -111,13 +113,14 @@ pub fn read_pickle_of<R: Files + Input + AllocGlobal>(
 // it such a file isn't opened.
 fn open_source<R: Files<File = File> + AllocGlobal>(
     rt: &R,
+    own: &OwnStreams,
     path: &str,
     spool: Option<u64>,
 ) -> Result<Source, FileFault> {
     match (open_file(rt, path), spool) {
         (Ok(space), _) => Ok(Source::File(space)),
         (Err(OpenFault::NotOpened), Some(most)) => {
-            Ok(Source::Memory(open_stream(rt, path, most)?))
+            Ok(Source::Memory(open_stream(rt, own, path, most)?))
         }
         (Err(fault), _) => Err(fault.into()),
     }
@@ -135,17 +138,28 @@ fn open_file<R: Files<File = File>>(rt: &R, path: &str) -> Result<FileSpace, Ope
 // Reads a file that has no length into memory. That of a FIFO waits for a writer.
 fn open_stream<R: Files<File = File> + AllocGlobal>(
     rt: &R,
+    own: &OwnStreams,
     path: &str,
     most: u64,
 ) -> Result<MemSpace, FileFault> {
-    let mut file = open_readable(rt, path)?;
+    let mut file = open_readable(rt, own, path)?;
     Ok(read_stream(rt.alloc(), &mut file, most)?)
 }
 
-// Opens a file that can be read, whatever its kind. A directory can't.
-fn open_readable<R: Files<File = File>>(rt: &R, path: &str) -> Result<File, OpenFault> {
+// Opens a file that can be read, whatever its kind. A directory can't, and the run's own streams aren't.
+fn open_readable<R: Files<File = File>>(
+    rt: &R,
+    own: &OwnStreams,
+    path: &str,
+) -> Result<File, OpenFault> {
+    // Opening a FIFO waits for its writer, so this is looked up first.
+    if own.has_at(rt, path) {
+        return Err(OpenFault::NotOpened);
+    }
     let file = File::open(rt, path)?;
-    if file.metadata()?.file_type().is_dir() {
+    let metadata = file.metadata()?;
+    // The path may name another file by now.
+    if metadata.file_type().is_dir() || own.has(&metadata) {
         return Err(OpenFault::NotOpened);
     }
     Ok(file)

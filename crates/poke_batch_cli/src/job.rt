@@ -1,9 +1,10 @@
 //! Each job, over its files and a writer for its answer.
 use crate::aside::StandardError;
-use crate::file_reasons::{is_there, tell_unopened};
+use crate::file_reasons::{file_reason, is_there, reason_of, tell_unopened};
 use crate::files::SystemFiles;
 use crate::formats::list_formats;
 use crate::installed::{names_installed, tell_installed, tell_missing, tell_unlisted};
+use crate::own_streams::OwnStreams;
 use crate::reason_text::{add, add_word};
 use crate::with_progress::ClearedWriter;
 use bit_space::OpenFault;
@@ -113,7 +114,9 @@ fn tell_file<R: Files<File = File>>(
     path: &str,
     text: &mut Vec<u8>,
 ) -> Result<(), AllocError> {
-    tell_unopened(rt, path, lengthless_of(job), text)?;
+    let lengthless = lengthless_of(job);
+    let reason = file_reason(rt, &OwnStreams::of(rt, job), path, lengthless);
+    tell_unopened(path, reason, lengthless, text)?;
     match type_of(job) {
         Some(name) if is_there(rt, name) && !is_there(rt, path) => {
             add(text, &["  "])?;
@@ -134,7 +137,8 @@ fn tell_unread<R: Files<File = File> + Env + AllocGlobal + Clone + Drop>(
         Some("-") | None => Ok(()),
         Some(word) if names_installed(word) => tell_missing(rt, word, text),
         Some(word) => {
-            tell_unopened(rt, word, Lengthless::Reads, text)?;
+            let reason = reason_of(rt, word, Lengthless::Reads);
+            tell_unopened(word, reason, Lengthless::Reads, text)?;
             tell_installed(rt, word, text)
         }
     }
@@ -199,7 +203,7 @@ fn run_any<
     O: Write,
     A: Write + Copy,
 >(rt: &R, asked: &Asked, out: &mut O, aside: A, why: &mut Why<'_>) -> Result<Ending, FileFault> {
-    let opener = SystemFiles::new(rt.clone()?, aside);
+    let opener = SystemFiles::new(rt.clone()?, aside, OwnStreams::of(rt, &asked.job));
     let mut aside = StandardError::new(rt.clone()?, aside, &asked.job);
     match run_job(rt.alloc(), &opener, asked, out, &mut aside, why)? {
         Some(ending) => Ok(ending),

@@ -11,6 +11,7 @@ mod installed;
 mod job;
 mod looks;
 mod offset_reasons;
+mod own_streams;
 mod progress;
 mod reason_text;
 mod usage_reasons;
