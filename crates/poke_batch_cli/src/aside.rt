@@ -13,6 +13,7 @@ pub struct StandardError<C: Clock + Drop, E: Write + Drop> {
     clock: C,
     err: E,
     progress: Option<Progress>,
+    has_failed: bool,
 }
 
 impl<C: Clock + Drop, E: Write + Drop> StandardError<C, E> {
@@ -21,7 +22,13 @@ impl<C: Clock + Drop, E: Write + Drop> StandardError<C, E> {
             clock,
             err,
             progress: progress_of(job),
+            has_failed: false,
         }
+    }
+
+    /// Whether the reasons of a file couldn't be written.
+    pub fn has_failed(&self) -> bool {
+        self.has_failed
     }
 }
 
@@ -45,8 +52,7 @@ impl<C: Clock + Drop, E: Write + Drop> Aside for StandardError<C, E> {
     }
 
     fn tell(&mut self, reasons: &[u8]) {
-        // What can't be written is left out.
-        let _told = put(&mut self.err, reasons);
+        self.has_failed |= put(&mut self.err, reasons).is_err();
     }
 }
 

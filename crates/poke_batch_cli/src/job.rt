@@ -206,6 +206,8 @@ fn run_any<
     let opener = SystemFiles::new(rt.clone()?, aside, OwnStreams::of(rt, &asked.job));
     let mut aside = StandardError::new(rt.clone()?, aside, &asked.job);
     match run_job(rt.alloc(), &opener, asked, out, &mut aside, why)? {
+        // Reasons that can't be written are an output that failed.
+        Some(Ending::Silent(_)) if aside.has_failed() => Ok(Ending::Silent(Status::Outside)),
         Some(ending) => Ok(ending),
         None => Ok(Ending::Run(list_formats(rt, out)?)),
     }

@@ -31,7 +31,7 @@ use poke_batch::outcome::{Failure, Outcome};
 use poke_batch::status::Status;
 use poke_batch::tell::answer;
 use poke_batch::words::{Asked, Job, WordFault, read_asked, read_words};
-use poke_batch::write::put;
+use poke_batch::write::{WriteFault, put};
 use std::alloc::{AllocError, Global};
 use std::env;
 use std::io::{IsTerminal, Write};
@@ -81,17 +81,17 @@ fn main(rt: HostRuntime) -> ExitCode {
     // The line is written by one call, so that those of parallel runs don't mix.
     let mut line = ErrorLine::new();
     let status = ending.tell(faults, &mut line);
-    let told = put(&mut rt.stderr(), line.as_slice());
-    let status = if told.is_ok() {
-        status
-    } else {
-        Status::Outside
+    let status = match put_both(&mut rt.stderr(), &line, &reason) {
+        Ok(()) => status,
+        Err(WriteFault) => Status::Outside,
     };
-    // The exit status is that of the line, even if its reason can't be written.
-    if told.is_ok() {
-        let _ = put(&mut rt.stderr(), reason.as_slice());
-    }
     ExitCode::from(status as u8)
+}
+
+// Writes the line of an ending, and then its reason. A reason that can't be written is an output that failed.
+fn put_both<E: Write>(err: &mut E, line: &[u8], reason: &[u8]) -> Result<(), WriteFault> {
+    put(err, line)?;
+    put(err, reason)
 }
 
 fn read_job(rt: &HostRuntime) -> Result<Asked, WordFault> {
