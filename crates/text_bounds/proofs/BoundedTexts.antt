@@ -4,14 +4,12 @@ use Rattle.bit_space.specs.SpaceView.{SpaceView}
 use Rattle.mapping_plans.proofs.OnBits.{outcomes_fit}
 use Rattle.run_parts.specs.declared.outcome.Outcome.TheVariants.{Refused}
 use Rattle.command_line.specs.declared.ask.Ask.{Ask}
-use Rattle.text_output.specs.declared.mode.Mode.TheVariants.{Flat, Tree, Json, Lines}
 use Rattle.run_parts.specs.declared.status.Status.{Status}
 use Rattle.text_output.specs.Styles.{plain}
 use Rattle.text_bounds.specs.OutputRoom.{GrowsWithin, OutputIsBounded}
 use Rattle.value_text.specs.Printed.{printed}
 use Rattle.poke_batch.specs.Runs.{MapsAs, value, stops, device, unknown, refused_map, no_memory}
-use Rattle.text_bounds.specs.TextLaws.{TextsAreBounded, MeantTextsAreBounded, AnyModeIsBounded, OutputsAreBounded}
-use Rattle.text_bounds.specs.TextRoom.{most_text_in_any}
+use Rattle.text_bounds.specs.TextLaws.{TextsAreBounded, MeantTextsAreBounded, OutputsAreBounded}
 use Rattle.run_parts.specs.Told.{Saying, IsSaid, IsWritten}
 use Rattle.run_parts.proofs.Sayings.{outcome_lines}
 use Rattle.text_bounds.proofs.BoundedParts.{part_text_bounded}
@@ -23,13 +21,6 @@ pub meant_text_bounded : MeantTextsAreBounded
 meant_text_bounded mode bytes ty order levels s v k j means =
     text_bounded mode (length (Rattle.bit_space.specs.Bits.bits_of bytes)) ty levels s v
     (outcomes_fit bytes ty order levels s (Ok v) k j means)
-
-pub any_mode_bounded : AnyModeIsBounded
-unfolding most_text_in_any
-any_mode_bounded style Flat ty m = omega arith
-any_mode_bounded style Tree ty m = omega arith
-any_mode_bounded style Json ty m = omega arith
-any_mode_bounded style Lines ty m = omega arith
 
 pub written_within : (text : List ℕ) (status : Status) (out out' err err' : Option (List ℕ)) (most : ℕ) →
     length text ≤ most → IsWritten text status out out' err err' → GrowsWithin out out' most

@@ -1,6 +1,8 @@
 pub mod NumberLengths
 pub mod Within
+pub mod StringLengths
 pub mod Sizes
+pub mod ModeRooms
 pub mod TextSizes
 pub mod SizesFit
 pub mod PartSizes

@@ -1,5 +1,5 @@
 -- A value that fits a type is no larger than the type's size.
-use Rattle.std.proofs.Common.{◌≡◌, ℕ, suc, ◌+◌, ◌-◌, ◌*◌, ◌/◌, ◌^◌, ◌<◌, ◌≤◌, max, Bool, true, false, List, [], ◌∷◌, ◌++◌, Option, Some, None, length, codes, decimal, refl, sym, ap, ◌∙◌, inl, inr, arith, length-append, get_or}
+use Rattle.std.proofs.Common.{◌≡◌, ℕ, suc, ◌+◌, ◌-◌, ◌*◌, ◌/◌, ◌<◌, ◌≤◌, max, Bool, true, false, List, [], ◌∷◌, ◌++◌, Option, Some, None, length, codes, refl, sym, ap, subst, ◌∙◌, inl, inr, arith, length-append, get_or}
 use Rattle.std.proofs.Math.Nat.{add-mul, mul-le-mul_left, le-div_iff_mul-le}
 use Rattle.std.proofs.Math.Seq.{get_or-append_seam}
 use Rattle.std.proofs.lemmas.Nat.{mul-le}
@@ -7,61 +7,32 @@ use Rattle.std.proofs.lemmas.List.{append_assoc, append-nil}
 use Rattle.std.proofs.lemmas.Option.{unwrap_or-slice_get}
 use Rattle.std.proofs.lemmas.Bool.{cases_Bool}
 use Rattle.std.specs.Prelude.{min}
-use Rattle.pickle_types.specs.declared.integer.IntegerType.{IntegerType}
 use Rattle.pickle_types.specs.Types.{PokeType, IntegerOf, OffsetOf, StringOf, ArrayOf, StructOf, IntegralOf, UnionOf, Fields, NoFields, FieldThen, Parts, NoParts, PartThen}
 use Rattle.pickle_types.specs.Bounds.{least_width, count_of}
-use Rattle.pickle_meaning.specs.Values.{Naming, Label, IntegerLabel, OffsetLabel, TextLabel, ArrayLabel, StructLabel, UnionLabel, Value, Members, member_count, start_of, end_of, Levels, pushed, opened, top_of, gathered}
+use Rattle.pickle_meaning.specs.Values.{Naming, Label, ArrayLabel, StructLabel, Value, Members, member_count, start_of, end_of, Levels, pushed, opened, top_of, gathered}
 use Rattle.value_store.specs.Labels.{member_name}
-use Rattle.pickle_meaning.specs.Arithmetic.{with_sign}
 use Rattle.pickle_meaning.specs.Means.{field_names, part_names, array_value, struct_value, Taken, union_value}
 use Rattle.pickle_meaning.specs.Fits.{ElementsFit, no_more_fit, one_more_fits, FitsNumber, DigitsFit, Fits, FieldsFit, AlternativeFits}
 use Rattle.mapping_plans.proofs.Fitting.{fits_wide, fits_inside}
-use Rattle.text_output.specs.declared.mode.Mode.{Mode}
-use Rattle.text_output.specs.declared.mode.Mode.TheVariants.{Flat, Tree, Json, Lines}
 use Rattle.text_output.specs.declared.style.Style.{Style}
 use Rattle.poke_batch.proofs.UnderTerms.{fits_start}
-use Rattle.value_text.specs.CutArrays.{is_past, more_text}
-use Rattle.value_text.specs.TreeText.{indent_text}
-use Rattle.text_output.specs.Brackets.{in_brackets}
+use Rattle.value_text.specs.CutArrays.{is_past}
 use Rattle.text_bounds.specs.declared.form.Form.{Form}
-use Rattle.text_bounds.specs.TextRoom.{Size, joined, integer_room, offset_room, escape_room, string_room, array_room, titled_room, line_room, element_before, element_moves, field_before, field_moves, with_parts, moved, no_size, both, repeated, more_size, elements_size, text_size, array_size, size_of, fields_size, parts_size, greatest_size}
-use Rattle.text_bounds.proofs.NumberLengths.{decimal_longer, integer_longest, json_longest, offset_longest, json_offset_longest}
-use Rattle.text_bounds.proofs.Within.{Within, parts_within, moved_within, both_within, same_within, then_within, later_within, first_within, rest_within, array_within, or_within}
-use Rattle.text_bounds.proofs.TextSizes.{text_short}
+use Rattle.text_bounds.specs.TextRoom.{Size, Rooms, rooms_in, integer_room, offset_room, string_room, with_parts, moved, no_size, both, repeated, more_size, elements_size, text_size, array_size, size_of, fields_size, parts_size, greatest_size}
+use Rattle.text_bounds.proofs.ModeRooms.{are_rooms}
+use Rattle.text_bounds.proofs.Within.{Within, AreRooms, quoted_short, parts_within, moved_within, both_within, same_within, then_within, later_within, first_within, rest_within, array_within, or_within}
 use Rattle.text_bounds.proofs.PartSizes.{AllWithin, PartsWithin, all_more, parts_more, IsBounded, all_of}
-use Rattle.text_bounds.proofs.Sizes.{own_room, size_in, members_in}
+use Rattle.text_bounds.proofs.Sizes.{size_by, members_by, size_in, members_in}
 
 -- ---- scalars
-
-integer_within : (style : Style) (mode : Mode) (type : IntegerType) (n count : ℕ) → n < 2 ^ type.width →
-    own_room style mode (IntegerLabel (with_sign type n) type) count ≤ integer_room style.numbers mode type
-integer_within style Flat type n count lt = integer_longest style.numbers type n lt
-integer_within style Tree type n count lt = integer_longest style.numbers type n lt
-integer_within style Lines type n count lt = integer_longest style.numbers type n lt
-integer_within style Json type n count lt = json_longest style.numbers type n lt
-
-offset_within : (style : Style) (mode : Mode) (type : IntegerType) (unit n count : ℕ) → n < 2 ^ type.width →
-    own_room style mode (OffsetLabel (with_sign type n) type unit) count ≤ offset_room style.numbers mode type unit
-offset_within style Flat type unit n count lt = offset_longest style.numbers type unit n lt
-offset_within style Tree type unit n count lt = offset_longest style.numbers type unit n lt
-offset_within style Lines type unit n count lt = offset_longest style.numbers type unit n lt
-offset_within style Json type unit n count lt = json_offset_longest style.numbers type n unit lt
 
 -- a string's bytes, and the 0 after them, end in the file
 few_bytes : (m s n : ℕ) → s + 8 * (n + 1) ≤ m → n ≤ m / 8 - 1
 few_bytes m s n le = omega (arith, le)
 
-text_within : (style : Style) (mode : Mode) (m s count : ℕ) (bytes : List ℕ) → s + 8 * (length bytes + 1) ≤ m →
-    own_room style mode (TextLabel bytes) count ≤ string_room mode m
-text_within style mode m s count bytes le =
-    text_short style mode bytes count (m / 8 - 1) (few_bytes m s (length bytes) le)
-
-line_within : (mode : Mode) (start size m widest : ℕ) → start ≤ m → size ≤ widest →
-    line_room mode start size ≤ line_room mode m widest
-line_within Flat start size m widest le lt = omega arith
-line_within Tree start size m widest le lt = omega arith
-line_within Json start size m widest le lt = omega arith
-line_within Lines start size m widest le lt = omega (arith, decimal_longer start m le, decimal_longer size widest lt)
+text_within : {rooms : Rooms} → AreRooms rooms → (m s : ℕ) (bytes : List ℕ) → s + 8 * (length bytes + 1) ≤ m →
+    length (rooms.notation.string bytes) ≤ string_room rooms m
+text_within known m s bytes le = quoted_short known bytes (m / 8 - 1) (few_bytes m s (length bytes) le)
 
 -- ---- members
 
@@ -117,18 +88,32 @@ record AreBounded (form : Form) (limit : Option ℕ) (label : Label) (start end 
   size : Within (members_in form limit label start end place members) room
   parts : PartsWithin form room.text members
 
+-- a field of this name, and those after it
+field_within : (style : Style) (rooms : Rooms) (title : Naming) (all : List Naming) (start end place : ℕ)
+    (name : Naming) (v : Value) (more : List (Option Value)) {one rest : Size}
+    → member_name (StructLabel title all) place ≡ name → Within (size_by style rooms v) one
+    → Within (members_by style rooms None (StructLabel title all) start end (place + 1) (gathered more)) rest
+    → Within (members_by style rooms None (StructLabel title all) start end place (gathered (Some v ∷ more)))
+    (both (moved (rooms.field_before name place) (rooms.field_moves name place) one) rest)
+field_within style rooms title all start end place name v more {one} {rest} named fit later =
+    let after = members_by style rooms None (StructLabel title all) start end (suc place) (gathered more) in
+    let more_fits : Within after rest = rw (suc_place place) later in
+    subst (λ n. Within
+    (both (moved (rooms.field_before n place) (rooms.field_moves n place) (size_by style rooms v)) after)
+    (both (moved (rooms.field_before name place) (rooms.field_moves name place) one) rest)) (sym named)
+    (both_within (moved_within _ _ _ _ (omega arith) (omega arith) fit) more_fits)
+
 module _ (form : Form) where
   field_bounded : (title : Naming) (all : List Naming) (start end place : ℕ) (name : Naming) (names : List Naming)
       (v : Value) (more : List (Option Value)) {one rest : Size}
       → NamesFrom all place (name ∷ names) → IsBounded form v one
       → AreBounded form None (StructLabel title all) start end (place + 1) (gathered more) rest
       → AreBounded form None (StructLabel title all) start end place (gathered (Some v ∷ more))
-      (both (moved (field_before form.mode name place) (field_moves form.mode name place) one) rest)
+      (both (moved ((rooms_in form).field_before name place) ((rooms_in form).field_moves name place) one) rest)
   field_bounded title all start end place name names v more {one} {rest} h fit later =
       let named = name_there title name names h in
       record {
-        size = rw (named, suc_place place)
-            (both_within (moved_within _ _ _ _ (omega arith) (omega arith) fit.size) later.size);
+        size = field_within form.style (rooms_in form) title all start end place name v more named fit.size later.size;
         parts = (
           all_more form one.text _ (omega arith) v (all_of form v fit),
           parts_more form rest.text _ (omega arith) (gathered more) later.parts,
@@ -143,39 +128,19 @@ module _ (form : Form) where
     parts = parts_more form rest.text _ (omega arith) (gathered more) later.parts;
   }
 
-parts_inside : (mode : Mode) (own parts : ℕ) → parts ≤ joined mode own parts
-parts_inside Flat own parts = omega arith
-parts_inside Tree own parts = omega arith
-parts_inside Json own parts = omega arith
-parts_inside Lines own parts = omega arith
-
-own_struct : (style : Style) (mode : Mode) (name : Naming) (fields : List Naming) (count : ℕ) →
-    own_room style mode (StructLabel name fields) count ≡ titled_room mode (codes "struct") name
-own_struct style Flat name fields count = refl
-own_struct style Tree name fields count = refl
-own_struct style Json name fields count = refl
-own_struct style Lines name fields count = refl
-
-own_union : (style : Style) (mode : Mode) (name : Naming) (index : ℕ) (alternative : Naming) (count : ℕ) →
-    own_room style mode (UnionLabel name index alternative) count ≡ titled_room mode (codes "union") name
-own_union style Flat name index alternative count = refl
-own_union style Tree name index alternative count = refl
-own_union style Json name index alternative count = refl
-own_union style Lines name index alternative count = refl
-
 -- a frame begins empty: what it has gained since then is all that it has
 struct_bounded : (form : Form) (m widest : ℕ) (name : Naming) (names : List Naming) (s end : ℕ) (levels inside : Levels)
     {size : Size} → s ≤ m → end - s ≤ widest
     → Gains (opened levels) inside (λ more. AreBounded form None (StructLabel name names) s end 0 (gathered more) size)
     → IsBounded form (struct_value name names s end inside)
-    (with_parts form.mode (titled_room form.mode (codes "struct") name + line_room form.mode m widest) size)
+    (with_parts (rooms_in form) ((rooms_in form).titled (codes "struct") name + (rooms_in form).line m widest) size)
 struct_bounded form m widest name names s end levels inside {size} le wide g =
     let is = g.is in
-    let e = own_struct form.style form.mode name names (member_count (gathered g.more)) in
-    let line = line_within form.mode s (end - s) m widest le wide in
+    let known = are_rooms form.mode in
+    let line = known.line s (end - s) m widest le wide in
     rw is (record {
-      size = parts_within form.mode _ _ (omega (arith, e, line)) g.holds.size;
-      parts = parts_more form size.text _ (parts_inside form.mode _ size.text) (gathered g.more) g.holds.parts;
+      size = parts_within known _ _ (omega (arith, line)) g.holds.size;
+      parts = parts_more form size.text _ (known.parts _ size.text) (gathered g.more) g.holds.parts;
     })
 
 -- ---- elements
@@ -194,68 +159,10 @@ repeated_within n count a le = record {
   lines = mul-le n a.lines count a.lines le (omega arith);
 }
 
-brackets_longer : (i count : ℕ) → i ≤ count → length (in_brackets i) ≤ length (in_brackets count)
-brackets_longer i count le = omega
-    (arith, decimal_longer i count le, length-append (decimal i) (codes "]"), length-append (decimal count) (codes "]"))
-
-before_more : (mode : Mode) (i count : ℕ) → i ≤ count → element_before mode i ≤ element_before mode count
-before_more Flat i count le = omega arith
-before_more Tree i count le = omega (arith, brackets_longer i count le)
-before_more Json i count le = omega arith
-before_more Lines i count le = omega arith
-
-moves_more : (mode : Mode) (i count : ℕ) → i ≤ count → element_moves mode i ≤ element_moves mode count
-moves_more Flat i count le = omega arith
-moves_more Tree i count le = omega arith
-moves_more Json i count le = omega arith
-moves_more Lines i count le = brackets_longer i count le
-
-array_more : (style : Style) (mode : Mode) (i count : ℕ) → i ≤ count →
-    own_room style mode ArrayLabel i ≤ array_room mode count
-array_more style Flat i count le = omega arith
-array_more style Tree i count le = brackets_longer i count le
-array_more style Json i count le = omega arith
-array_more style Lines i count le = omega arith
-
--- what stands for elements that are left out
-more_longer : (left count : ℕ) → left ≤ count → length (more_text left) ≤ length (more_text count)
-more_longer left count le = omega (arith, decimal_longer left count le)
-
-more_within : (mode : Mode) (left place from bits count m : ℕ) → left ≤ count → place ≤ count → from ≤ m → bits ≤ m →
-    Within (more_size mode left place from bits) (more_size mode count count m m)
-more_within Flat left place from bits count m l p f b =
-    record { text = omega (arith, more_longer left count l); lines = omega arith }
-more_within Tree left place from bits count m l p f b = record {
-  text = omega (
-    arith,
-    more_longer left count l,
-    length-append (indent_text 1) (more_text left ++ codes "\n"),
-    length-append (indent_text 1) (more_text count ++ codes "\n"),
-    length-append (more_text left) (codes "\n"),
-    length-append (more_text count) (codes "\n"),
-  );
-  lines = omega arith;
-}
-more_within Json left place from bits count m l p f b = record {
-  text = omega (
-    arith,
-    decimal_longer left count l,
-    length-append (decimal left) (codes "}"),
-    length-append (decimal count) (codes "}"),
-  );
-  lines = omega arith;
-}
-more_within Lines left place from bits count m l p f b = record {
-  text = omega (
-    arith,
-    more_longer left count l,
-    decimal_longer place count p,
-    line_within Lines from bits m m f b,
-    length-append (decimal place) (codes "..]"),
-    length-append (decimal count) (codes "..]"),
-  );
-  lines = omega arith;
-}
+more_within : {rooms : Rooms} → AreRooms rooms → (left place from bits count m : ℕ) → left ≤ count → place ≤ count
+    → from ≤ m → bits ≤ m → Within (more_size rooms left place from bits) (more_size rooms count count m m)
+more_within known left place from bits count m l p f b =
+    record { text = known.more left place from bits count m l p f b; lines = omega arith }
 
 -- the size of so many elements from a place on
 abbrev left_size : (limit : Option ℕ) → (i n : ℕ) → (each more : Size) → Size
@@ -286,13 +193,13 @@ one_left (Some most) i n more {a} {each} {rest} before h g =
       lines = omega (arith, h.lines, g.lines, add-mul 1 k each.lines);
     })
 
-left_within : (mode : Mode) (limit : Option ℕ) (m n count : ℕ) (each : Size) → n ≤ count →
-    Within (left_size limit 0 n each (more_size mode count count m m)) (elements_size mode limit m count each)
-left_within mode None m n count each le = repeated_within n count each le
-left_within mode (Some most) m n count each le =
+left_within : (rooms : Rooms) (limit : Option ℕ) (m n count : ℕ) (each : Size) → n ≤ count →
+    Within (left_size limit 0 n each (more_size rooms count count m m)) (elements_size rooms limit m count each)
+left_within rooms None m n count each le = repeated_within n count each le
+left_within rooms (Some most) m n count each le =
     let all : most - 0 ≡ most = omega arith in
     rw all (both_within (repeated_within (min most n) (min (max 1 most) count) each (omega (arith, le)))
-    (same_within {a = more_size mode count count m m}))
+    (same_within {a = more_size rooms count count m m}))
 
 -- elements from a number on of an array: how many there are, the least bits that they take, and their size
 record AreElements (form : Form) (limit : Option ℕ) (m width count from to i place end : ℕ) (element : Size)
@@ -301,8 +208,8 @@ record AreElements (form : Form) (limit : Option ℕ) (m width count from to i p
   counted : member_count (gathered more) ≡ n
   wide : place + n * width ≤ end
   size : Within (members_in form limit ArrayLabel from to i (gathered more))
-      (left_size limit i n (moved (element_before form.mode count) (element_moves form.mode count) element)
-      (more_size form.mode count count m m))
+      (left_size limit i n (moved ((rooms_in form).element_before count) ((rooms_in form).element_moves count) element)
+      (more_size (rooms_in form) count count m m))
   parts : PartsWithin form element.text (gathered more)
 
 -- n elements, each of at least so many bits
@@ -316,27 +223,28 @@ record IsElement (form : Form) (least at : ℕ) (v : Value) (element : Size) : T
   bounded : IsBounded form v element
 
 abbrev each_size : Form → (count : ℕ) → Size → Size
-each_size form count element = moved (element_before form.mode count) (element_moves form.mode count) element
+each_size form count element =
+    moved ((rooms_in form).element_before count) ((rooms_in form).element_moves count) element
 
 -- an element at a place and those after it
 element_then : (form : Form) (limit : Option ℕ) (m count from to i n : ℕ) (v : Value) (more : List (Option Value))
     {element : Size}
     → member_count (gathered more) ≡ n → i + suc n ≤ count → start_of v ≤ m → to ≤ m → Within (size_in form v) element
     → Within (members_in form limit ArrayLabel from to (i + 1) (gathered more))
-    (left_size limit (i + 1) n (each_size form count element) (more_size form.mode count count m m))
+    (left_size limit (i + 1) n (each_size form count element) (more_size (rooms_in form) count count m m))
     → Within (members_in form limit ArrayLabel from to i (gathered (Some v ∷ more)))
-    (left_size limit i (suc n) (each_size form count element) (more_size form.mode count count m m))
+    (left_size limit i (suc n) (each_size form count element) (more_size (rooms_in form) count count m m))
 element_then form limit m count from to i n v more {element} counted few starts short size later =
     elim (cases_Bool (is_past limit i)) [
       | inl past ↦ rw past (past_left limit i (suc n) (each_size form count element) past
-          (more_within form.mode (suc (member_count (gathered more))) i (start_of v)
+          (more_within (are_rooms form.mode) (suc (member_count (gathered more))) i (start_of v)
           (to - from - (start_of v - from)) count m
           (omega (arith, counted, few)) (omega (arith, few)) starts (omega (arith, short))))
       | inr miss ↦
-          let one = moved_within _ _ _ _ (before_more form.mode i count (omega (arith, few)))
-          (moves_more form.mode i count (omega (arith, few))) size in
+          let one = moved_within _ _ _ _ ((are_rooms form.mode).before i count (omega (arith, few)))
+          ((are_rooms form.mode).moves i count (omega (arith, few))) size in
           let same = suc_place i in
-          rw (miss, same) (one_left limit i n (more_size form.mode count count m m) miss one later)
+          rw (miss, same) (one_left limit i n (more_size (rooms_in form) count count m m) miss one later)
     ]
 
 elements_within : (form : Form) (limit : Option ℕ) (m least width count from to : ℕ) (element : Size)
@@ -380,56 +288,63 @@ elements_within form limit m least width count from to element Fit is most short
 -- ---- the types
 
 scalar_bounded : (form : Form) (m widest own room : ℕ) {size : Size} → room ≤ own →
-    Within size (with_parts form.mode (room + line_room form.mode m widest) no_size) →
-    Within size (with_parts form.mode (own + line_room form.mode m widest) no_size)
-scalar_bounded form m widest own room le h = then_within h (parts_within form.mode _ _ (omega (arith, le)) same_within)
+    Within size (with_parts (rooms_in form) (room + (rooms_in form).line m widest) no_size) →
+    Within size (with_parts (rooms_in form) (own + (rooms_in form).line m widest) no_size)
+scalar_bounded form m widest own room le h =
+    then_within h (parts_within (are_rooms form.mode) _ _ (omega (arith, le)) same_within)
 
 scalar_line : (form : Form) (m widest room start end : ℕ) → start ≤ m → end - start ≤ widest
-    → Within (with_parts form.mode (room + line_room form.mode start (end - start)) no_size)
-    (with_parts form.mode (room + line_room form.mode m widest) no_size)
+    → Within (with_parts (rooms_in form) (room + (rooms_in form).line start (end - start)) no_size)
+    (with_parts (rooms_in form) (room + (rooms_in form).line m widest) no_size)
 scalar_line form m widest room start end le wide =
-    parts_within form.mode _ _ (omega (arith, line_within form.mode start (end - start) m widest le wide)) same_within
+    let known = are_rooms form.mode in
+    parts_within known _ _ (omega (arith, known.line start (end - start) m widest le wide)) same_within
 
 -- a union with the alternative that matched
 union_bounded : (form : Form) (m : ℕ) (title : Naming) (s : ℕ) (t : Taken) {size : Size} → s ≤ m → end_of t.value ≤ m
-    → Within (moved (field_before form.mode t.name 0) (field_moves form.mode t.name 0) (size_in form t.value)) size
+    → Within
+    (moved ((rooms_in form).field_before t.name 0) ((rooms_in form).field_moves t.name 0) (size_in form t.value)) size
     → AllWithin form size.text t.value
     → IsBounded form (union_value title s t)
-    (with_parts form.mode (titled_room form.mode (codes "union") title + line_room form.mode m m) size)
+    (with_parts (rooms_in form) ((rooms_in form).titled (codes "union") title + (rooms_in form).line m m) size)
 union_bounded form m title s t {size} le lt h all =
-    let e = own_union form.style form.mode title t.index t.name 1 in
-    let line = line_within form.mode s (end_of t.value - s) m m le (omega (arith, lt)) in
+    let known = are_rooms form.mode in
+    let line = known.line s (end_of t.value - s) m m le (omega (arith, lt)) in
     record {
-      size = parts_within form.mode _ _ (omega (arith, e, line))
+      size = parts_within known _ _ (omega (arith, line))
           (record { text = omega (arith, h.text); lines = omega (arith, h.lines) });
-      parts = (all_more form size.text _ (parts_inside form.mode _ size.text) t.value all, tt);
+      parts = (all_more form size.text _ (known.parts _ size.text) t.value all, tt);
     }
 
 texts_longer : (form : Form) (n count s bits m : ℕ) → n ≤ count → s ≤ m → bits ≤ m →
-    Within (text_size form.mode n s bits) (text_size form.mode count m m)
+    Within (text_size (rooms_in form) n s bits) (text_size (rooms_in form) count m m)
 texts_longer form n count s bits m le from wide =
-    parts_within form.mode _ _ (omega
-    (arith, mul-le-mul_left {m = n} {n = count} (escape_room form.mode) le, line_within form.mode s bits m m from wide))
-    same_within
+    let known = are_rooms form.mode in
+    parts_within known _ _ (omega (
+      arith,
+      mul-le-mul_left {m = n} {n = count} (rooms_in form).escape le,
+      known.line s bits m m from wide,
+    )) same_within
 
 -- an array has at least as many bytes as an element
-some_element : (mode : Mode) (limit : Option ℕ) (m count : ℕ) (each : Size) → 1 ≤ count →
-    each.text ≤ (elements_size mode limit m count each).text
-some_element mode None m count each some = omega (arith, (repeated_within 1 count each some).text)
-some_element mode (Some most) m count each some =
+some_element : (rooms : Rooms) (limit : Option ℕ) (m count : ℕ) (each : Size) → 1 ≤ count →
+    each.text ≤ (elements_size rooms limit m count each).text
+some_element rooms None m count each some = omega (arith, (repeated_within 1 count each some).text)
+some_element rooms (Some most) m count each some =
     omega (arith, (repeated_within 1 (min (max 1 most) count) each (omega (arith, some))).text)
 
 element_inside : (form : Form) (m count : ℕ) (element : Size) → 1 ≤ count →
     element.text ≤ (array_size form m count element).text
 element_inside form m count element some =
-    let each = moved (element_before form.mode count) (element_moves form.mode count) element in
-    let all = elements_size form.mode form.style.elements m count each in
-    let own = array_room form.mode count + line_room form.mode m m in
-    let array = array_within form.style.chars (text_size form.mode count m m) (with_parts form.mode own all) in
+    let rooms = rooms_in form in
+    let each = each_size form count element in
+    let all = elements_size rooms form.style.elements m count each in
+    let own = rooms.array count + rooms.line m m in
+    let array = array_within form.style.chars (text_size rooms count m m) (with_parts rooms own all) in
     omega (
       arith,
-      some_element form.mode form.style.elements m count each some,
-      parts_inside form.mode own all.text,
+      some_element rooms form.style.elements m count each some,
+      (are_rooms form.mode).parts own all.text,
       array.text,
     )
 
@@ -442,13 +357,14 @@ array_bounded form m width s end element levels inside from le g =
     let h = g.holds in
     let few : h.n ≤ m / max 1 width = few_elements m (max 1 width) h.n s (omega arith) (omega (arith, h.wide, le)) in
     let count : member_count (gathered g.more) ≤ count_of m width = omega (arith, few, h.counted) in
-    let own = array_more form.style form.mode (member_count (gathered g.more)) (count_of m width) count in
-    let line = line_within form.mode s (end - s) m m from (omega (arith, le)) in
+    let known = are_rooms form.mode in
+    let own = known.array (member_count (gathered g.more)) (count_of m width) count in
+    let line = known.line s (end - s) m m from (omega (arith, le)) in
     rw is (record {
       size = or_within form.style.chars (texts_longer form (member_count (gathered g.more)) (count_of m width) s
           (end - s) m count from (omega (arith, le)))
-          (parts_within form.mode _ _ (omega (arith, own, line)) (then_within h.size
-          (left_within form.mode form.style.elements m h.n (count_of m width) _ (omega (arith, few)))));
+          (parts_within known _ _ (omega (arith, own, line)) (then_within h.size
+          (left_within (rooms_in form) form.style.elements m h.n (count_of m width) _ (omega (arith, few)))));
       parts = parts_more form element.text _ (element_inside form m (count_of m width) element (omega arith))
           (gathered g.more) h.parts;
     })
@@ -460,17 +376,17 @@ mutual
       FitsNumber ty levels s v → IsBounded form v (size_of form ty m)
   number_bounded form m (IntegerOf type) levels s v le h =
       let is = h.2 in
-      let own = integer_within form.style form.mode type h.0 0 h.1 in
+      let own = (are_rooms form.mode).texts.integer form.style.numbers type h.0 h.1 in
       rw is (record {
-        size = scalar_bounded form m type.width (integer_room form.style.numbers form.mode type) _ own
+        size = scalar_bounded form m type.width (integer_room form.style.numbers (rooms_in form) type) _ own
             (scalar_line form m type.width _ s (s + type.width) le (omega arith));
         parts = tt;
       })
   number_bounded form m (OffsetOf type unit) levels s v le h =
       let is = h.2 in
-      let own = offset_within form.style form.mode type unit h.0 0 h.1 in
+      let own = (are_rooms form.mode).texts.offset form.style.numbers type unit h.0 h.1 in
       rw is (record {
-        size = scalar_bounded form m type.width (offset_room form.style.numbers form.mode type unit) _ own
+        size = scalar_bounded form m type.width (offset_room form.style.numbers (rooms_in form) type unit) _ own
             (scalar_line form m type.width _ s (s + type.width) le (omega arith));
         parts = tt;
       })
@@ -512,9 +428,9 @@ mutual
       number_bounded form m (OffsetOf type unit) levels s v (omega (arith, h.1)) h.0
   value_bounded form m StringOf levels s v h =
       let is = h.2 in
-      let own = text_within form.style form.mode m s 0 h.0 h.3 in
+      let own = text_within (are_rooms form.mode) m s h.0 h.3 in
       rw is (record {
-        size = scalar_bounded form m m (string_room form.mode m) _ own
+        size = scalar_bounded form m m (string_room (rooms_in form) m) _ own
             (scalar_line form m m _ s (s + 8 * (length h.0 + 1)) (omega (arith, h.3)) (omega (arith, h.3)));
         parts = tt;
       })
@@ -575,7 +491,8 @@ mutual
 
   alternative_bounded : (form : Form) (m : ℕ) (parts : Parts) (index : ℕ) (levels : Levels) (s : ℕ) (t : Taken)
       → AlternativeFits m parts index levels s t
-      → Within (moved (field_before form.mode t.name 0) (field_moves form.mode t.name 0) (size_in form t.value))
+      → Within
+      (moved ((rooms_in form).field_before t.name 0) ((rooms_in form).field_moves t.name 0) (size_in form t.value))
       (greatest_size form parts m) × AllWithin form (greatest_size form parts m).text t.value
   alternative_bounded form m NoParts index levels s t h = absurd h
   alternative_bounded form m (PartThen name order ty c rest) index levels s t (inl h) =

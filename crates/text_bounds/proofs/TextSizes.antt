@@ -1,81 +1,24 @@
 -- A value in which arrays of chars are texts is no larger than the value.
-use Rattle.std.proofs.Common.{◌≡◌, ℕ, suc, ◌+◌, ◌*◌, ◌≤◌, Bool, true, false, List, [], ◌∷◌, Option, length, codes, refl, inl, inr, arith, length-append}
-use Rattle.std.proofs.Math.Nat.{mul-add}
+use Rattle.std.proofs.Common.{◌≡◌, ℕ, suc, ◌+◌, ◌≤◌, true, false, List, [], ◌∷◌, Option, length, refl, inl, inr, arith}
 use Rattle.std.proofs.lemmas.Bool.{cases_Bool}
-use Rattle.std.specs.Prelude.{if◌then◌else◌, ◌==◌}
+use Rattle.std.specs.Prelude.{◌==◌}
 use Rattle.pickle_types.specs.declared.node.Node.{Node}
 use Rattle.pickle_meaning.specs.Values.{Label, IntegerLabel, OffsetLabel, TextLabel, ArrayLabel, StructLabel, UnionLabel, Value, Mapped, Members, NoMembers, MemberThen, AbsentThen, member_count}
-use Rattle.text_output.specs.declared.mode.Mode.{Mode}
-use Rattle.text_output.specs.declared.mode.Mode.TheVariants.{Flat, Tree, Json, Lines}
-use Rattle.text_output.specs.declared.style.Style.{Style}
 use Rattle.text_output.specs.declared.style.Chars.{Chars}
 use Rattle.text_output.specs.declared.style.Chars.TheVariants.{Numbers, Text}
-use Rattle.value_text.specs.ValueText.{spelled_byte, spelled, escape_text, is_plain, string_text}
-use Rattle.value_text.specs.JsonText.{json_escape, json_string}
 use Rattle.value_text.specs.CharTexts.{has_chars, chars_in, kept_before, trimmed, with_texts, parts_with_texts}
 use Rattle.value_text.specs.CutArrays.{limit_of, is_past}
 use Rattle.value_text.specs.PartTypes.{part_node}
 use Rattle.value_text.specs.Styled.{with_chars}
 use Rattle.value_text.proofs.CharTexts.{seen_start, parts_count, chars_count}
 use Rattle.text_bounds.specs.declared.form.Form.{Form}
-use Rattle.text_bounds.specs.TextRoom.{Size, quoted_room}
-use Rattle.text_bounds.proofs.Within.{Within, parts_within, moved_within, both_within, same_within, first_within, or_within}
-use Rattle.text_bounds.proofs.Sizes.{own_room, or_chars, size_in, members_in}
+use Rattle.text_bounds.specs.TextRoom.{Size, rooms_in}
+use Rattle.text_bounds.proofs.ModeRooms.{are_rooms}
+use Rattle.text_bounds.proofs.StringLengths.{if_short}
+use Rattle.text_bounds.proofs.Within.{Within, quoted_short, parts_within, moved_within, both_within, same_within, first_within, or_within}
+use Rattle.text_bounds.proofs.Sizes.{or_chars, size_in, members_in}
 
 -- ---- texts
-
-if_short : (b : Bool) (x y : List ℕ) (n : ℕ) → length x ≤ n → length y ≤ n → length (if b then x else y) ≤ n
-if_short true x y n h g = h
-if_short false x y n h g = g
-
-escape_short : (byte : ℕ) → length (escape_text byte) ≤ 4
-escape_short byte =
-    if_short (byte == 92) _ _ 4 (omega arith)
-    (if_short (byte == 34) _ _ 4 (omega arith)
-    (if_short (byte == 10) _ _ 4 (omega arith)
-    (if_short (byte == 9) _ _ 4 (omega arith) (omega arith))))
-
-json_escape_short : (byte : ℕ) → length (json_escape byte) ≤ 6
-json_escape_short byte =
-    if_short (byte == 92) _ _ 6 (omega arith)
-    (if_short (byte == 34) _ _ 6 (omega arith)
-    (if_short (byte == 9) _ _ 6 (omega arith)
-    (if_short (byte == 10) _ _ 6 (omega arith) (omega arith))))
-
-spelled_short : (escape : ℕ → List ℕ) (n : ℕ) → 1 ≤ n → ((byte : ℕ) → length (escape byte) ≤ n) → (bytes : List ℕ) →
-    length (spelled escape bytes) ≤ n * length bytes
-spelled_short escape n some h [] = omega arith
-spelled_short escape n some h (b ∷ bytes) =
-    omega (
-      arith,
-      if_short (is_plain b) (b ∷ []) (escape b) n some (h b),
-      spelled_short escape n some h bytes,
-      mul-add n 1 (length bytes),
-      length-append (spelled_byte escape b) (spelled escape bytes),
-    )
-
-string_short : (bytes : List ℕ) → length (string_text bytes) ≤ 2 + 4 * length bytes
-unfolding string_text
-string_short bytes = omega (
-  arith,
-  spelled_short escape_text 4 (omega arith) escape_short bytes,
-  length-append (spelled escape_text bytes) (codes "\""),
-)
-
-json_string_short : (bytes : List ℕ) → length (json_string bytes) ≤ 2 + 6 * length bytes
-unfolding json_string
-json_string_short bytes = omega (
-  arith,
-  spelled_short json_escape 6 (omega arith) json_escape_short bytes,
-  length-append (spelled json_escape bytes) (codes "\""),
-)
-
-pub text_short : (style : Style) (mode : Mode) (bytes : List ℕ) (count most : ℕ) → length bytes ≤ most →
-    own_room style mode (TextLabel bytes) count ≤ quoted_room mode most
-text_short style Flat bytes count most le = omega (arith, le, string_short bytes)
-text_short style Tree bytes count most le = omega (arith, le, string_short bytes)
-text_short style Lines bytes count most le = omega (arith, le, string_short bytes)
-text_short style Json bytes count most le = omega (arith, le, json_string_short bytes)
 
 kept_short : (byte : ℕ) (bytes : List ℕ) → length (kept_before byte bytes) ≤ 1 + length bytes
 kept_short byte [] = if_short (byte == 0) [] (byte ∷ []) 1 (omega arith) (omega arith)
@@ -89,7 +32,8 @@ trimmed_short (byte ∷ bytes) = omega (arith, kept_short byte (trimmed bytes), 
 
 module _ (form : Form) (nodes : List Node) (chars : Option ℕ) where
   chars_or : (label : Label) (count start end : ℕ) {a b : Size} → Within a b →
-      Within (or_chars form label count start end a) (or_chars form label count start end b)
+      Within (or_chars form.style (rooms_in form) label count start end a)
+      (or_chars form.style (rooms_in form) label count start end b)
   chars_or (IntegerLabel number type) count start end h = h
   chars_or (OffsetLabel magnitude type unit) count start end h = h
   chars_or (TextLabel bytes) count start end h = h
@@ -104,7 +48,7 @@ module _ (form : Form) (nodes : List Node) (chars : Option ℕ) where
   text_there : (label : Label) (start end : ℕ) (members : Members) (size : Size) (element : Option ℕ)
       → form.style.chars ≡ Text → has_chars chars element label ≡ true
       → Within (size_in form (Mapped (TextLabel (trimmed (chars_in members))) start end NoMembers))
-      (or_chars form label (member_count members) start end size)
+      (or_chars form.style (rooms_in form) label (member_count members) start end size)
   text_there (IntegerLabel number type) start end members size element is hit = absurd (clash hit)
   text_there (OffsetLabel magnitude type unit) start end members size element is hit = absurd (clash hit)
   text_there (TextLabel bytes) start end members size element is hit = absurd (clash hit)
@@ -113,8 +57,8 @@ module _ (form : Form) (nodes : List Node) (chars : Option ℕ) where
   text_there ArrayLabel start end members size element is hit =
       let few : length (trimmed (chars_in members)) ≤ member_count members =
       omega (arith, trimmed_short (chars_in members), chars_count members) in
-      let own = text_short form.style form.mode (trimmed (chars_in members)) 0 (member_count members) few in
-      rw is (first_within size (parts_within form.mode _ _ (omega (arith, own)) same_within))
+      let own = quoted_short (are_rooms form.mode) (trimmed (chars_in members)) (member_count members) few in
+      rw is (first_within size (parts_within (are_rooms form.mode) _ _ (omega (arith, own)) same_within))
 
   mutual
     texts_within : (of : Option ℕ) (value : Value) → form.style.chars ≡ Text →
@@ -123,7 +67,7 @@ module _ (form : Form) (nodes : List Node) (chars : Option ℕ) where
         elim (cases_Bool (has_chars chars (part_node nodes of label 0) label)) [
           | inl hit ↦ rw hit (text_there label start end members _ (part_node nodes of label 0) is hit)
           | inr miss ↦ rw (miss, parts_count nodes chars of label 0 members)
-              (chars_or label (member_count members) start end (parts_within form.mode _ _ (omega arith)
+              (chars_or label (member_count members) start end (parts_within (are_rooms form.mode) _ _ (omega arith)
               (parts_texts_within (limit_of form.style label) of label start end 0 members is)))
         ]
 

@@ -4,7 +4,7 @@ ghost use Rattle.pickle_types.specs.Sound.{IsWidth};
 ghost use Rattle.pickle_types.specs.Table.{name_of, optional_term};
 ghost use Rattle.pickle_types.specs.Types.{Bound, PokeType, IntegerOf, OffsetOf, StringOf, ArrayOf, StructOf, IntegralOf, UnionOf, Fields, NoFields, Parts, NoParts};
 ghost use Rattle.pickle_types.specs.Bounds.{is_some};
-ghost use Rattle.text_bounds.specs.TextRoom.{Size, moved, field_before, field_moves, more_size, elements_size, or_text, text_size};
+ghost use Rattle.text_bounds.specs.TextRoom.{Size, rooms_of, rooms_in, moved, more_size, elements_size, or_text, text_size};
 ghost use Rattle.text_bounds.specs.TextHeld.{HoldsSize, AreSizes, AreFieldSizes, ArePartSizes, JoinsField, JoinsPart, HoldsLeast};
 
 use super::form::Form;
@@ -145,7 +145,8 @@ pub fn part_and_rest(
 /// The size of a part with what is before it.
 fn place_part(mode: Mode, place: usize, name: &Option<Name>, part: TextSize) -> TextSize
     ensures { let name = name_of name.now in (size : Size) → HoldsSize part size
-        → HoldsSize result (moved (field_before mode name place) (field_moves mode name place) size) }
+        → HoldsSize result
+        (moved ((rooms_of mode).field_before name place) ((rooms_of mode).field_moves name place) size) }
 {
     let before = field_before(mode, name, place);
     let moves = field_moves(mode, name, place);
@@ -215,7 +216,7 @@ pub fn array_size(form: Form, bits: u64, element: NodeSize) -> NodeSize
 /// requested.
 fn elements_size(form: Form, bits: u64, count: u128, each: TextSize) -> TextSize
     ensures { (n : ℕ) (size : Size) → count ≡ n → HoldsSize each size
-        → HoldsSize result (elements_size form.mode form.style.elements bits n size) }
+        → HoldsSize result (elements_size (rooms_in form) form.style.elements bits n size) }
 {
     match form.style.elements {
         None => repeat(count, each),
@@ -228,7 +229,7 @@ fn elements_size(form: Form, bits: u64, count: u128, each: TextSize) -> TextSize
 
 /// The size of what represents elements that are left out.
 fn more_size(mode: Mode, bits: u64, count: u128) -> TextSize
-    ensures { HoldsSize result (more_size mode count count bits bits) }
+    ensures { HoldsSize result (more_size (rooms_of mode) count count bits bits) }
 {
     TextSize {
         text: Some(more_room(mode, bits, count)),
@@ -239,7 +240,7 @@ fn more_size(mode: Mode, bits: u64, count: u128) -> TextSize
 /// The size of an array that is a text if its elements are chars. A type doesn't say whether they are.
 fn or_text(form: Form, bits: u64, count: u128, array: TextSize) -> TextSize
     ensures { (n : ℕ) (size : Size) → count ≡ n → HoldsSize array size
-        → HoldsSize result (or_text form.style.chars (text_size form.mode n bits bits) size) }
+        → HoldsSize result (or_text form.style.chars (text_size (rooms_in form) n bits bits) size) }
 {
     match form.style.chars {
         Chars::Numbers => array,
@@ -249,7 +250,7 @@ fn or_text(form: Form, bits: u64, count: u128, array: TextSize) -> TextSize
 
 /// The size of a text of so many bytes.
 fn text_size(mode: Mode, bits: u64, count: u128) -> TextSize
-    ensures { HoldsSize result (text_size mode count bits bits) }
+    ensures { HoldsSize result (text_size (rooms_of mode) count bits bits) }
 {
     let around = 2 + line_room(mode, bits, bits);
     let own = sum_of(Some(around), times(escape_room(mode), Some(count)));

@@ -1,19 +1,22 @@
 //! How many bytes the pieces of a printed value take.
-ghost use Rattle.std.specs.Prelude.{◌≡◌, ℤ, ◌+◌, ◌*◌, ◌^◌, ◌<◌, ◌≤◌, None, length, decimal};
+ghost use Rattle.std.specs.Prelude.{◌≡◌, ℕ, ℤ, ◌+◌, ◌*◌, ◌^◌, ◌<◌, ◌≤◌, None, length, decimal};
 ghost use Rattle.std.specs.Fmt.{signed_decimal};
+ghost use Rattle.pickle_types.specs.Bounds.{IsBound};
 ghost use Rattle.pickle_types.specs.Sound.{IsWidth};
 ghost use Rattle.pickle_types.specs.Table.{name_of};
 ghost use Rattle.poke_batch.specs.Suffixes.{suffix_text};
 ghost use Rattle.poke_batch.specs.PathText.{field_step};
-ghost use Rattle.poke_batch.specs.JsonText.{json_escape, key_text};
+ghost use Rattle.poke_batch.specs.JsonText.{json_escape};
 ghost use Rattle.poke_batch.specs.ValueText.{spelled, spelled_byte, integer_text, typed_text, suffix_of, unit_text, title_text, name_text};
 ghost use Rattle.value_text.specs.StyledNumbers.{unit_in, hex_digits, hexadecimal, signed_hex, hex_suffix, typed_hex};
 ghost use Rattle.text_output.specs.declared.style.Numbers.TheVariants.{Decimal, Hexadecimal, Digits};
 ghost use Rattle.text_output.specs.Brackets.{in_brackets};
-ghost use Rattle.text_bounds.specs.TextRoom.{longest_number, integer_room, offset_room, escape_room, string_room, array_room, more_room, titled_room, line_room, element_before, element_moves, field_before, field_moves, end_room};
+ghost use Rattle.value_text.specs.Notation.{json};
+ghost use Rattle.text_bounds.specs.TextRoom.{longest_number, rooms_of, rooms_in, integer_room, offset_room, string_room};
 
 use crate::form::Form;
 use itoa::Buffer;
+use pickle_types::bounds::{greater_of, sum_of};
 use pickle_types::integer::IntegerType;
 use pickle_types::view::Name;
 use poke_batch::mode::Mode;
@@ -82,7 +85,7 @@ fn typed_room(ty: IntegerType) -> u128
 /// The longest decimal integer.
 fn decimal_room(mode: Mode, ty: IntegerType) -> u128
     requires width { IsWidth ty }
-    ensures count { result ≡ integer_room Decimal mode ty }
+    ensures count { result ≡ integer_room Decimal (rooms_of mode) ty }
     ensures few { result ≤ 101 }
 {
     match mode {
@@ -144,7 +147,7 @@ fn hex_type_room(ty: IntegerType) -> u128
 #[tactic(auto, using(crate::proofs::NumberLengths::quoted_length), unfolding(value_text::specs::StyledNumbers::hex_integer))]
 fn hex_room(mode: Mode, ty: IntegerType) -> u128
     requires width { IsWidth ty }
-    ensures count { result ≡ integer_room Hexadecimal mode ty }
+    ensures count { result ≡ integer_room Hexadecimal (rooms_of mode) ty }
     ensures few { result ≤ 101 }
 {
     match mode {
@@ -156,7 +159,7 @@ fn hex_room(mode: Mode, ty: IntegerType) -> u128
 /// The longest integer without its type.
 fn digits_room(mode: Mode, ty: IntegerType) -> u128
     requires width { IsWidth ty }
-    ensures count { result ≡ integer_room Digits mode ty }
+    ensures count { result ≡ integer_room Digits (rooms_of mode) ty }
     ensures few { result ≤ 41 }
 {
     match mode {
@@ -167,7 +170,7 @@ fn digits_room(mode: Mode, ty: IntegerType) -> u128
 /// The longest printed integer.
 pub fn integer_room(form: Form, ty: IntegerType) -> u128
     requires width { IsWidth ty }
-    ensures count { result ≡ integer_room form.style.numbers form.mode ty }
+    ensures count { result ≡ integer_room form.style.numbers (rooms_in form) ty }
     ensures few { result ≤ 101 }
 {
     match form.style.numbers {
@@ -204,7 +207,7 @@ fn unit_room_in(numbers: Numbers, unit: u32) -> u128
 #[tactic(auto, using(crate::proofs::NumberLengths::offset_length, crate::proofs::NumberLengths::json_offset_length))]
 pub fn offset_room(form: Form, ty: IntegerType, unit: u32) -> u128
     requires width { IsWidth ty }
-    ensures count { result ≡ offset_room form.style.numbers form.mode ty unit }
+    ensures count { result ≡ offset_room form.style.numbers (rooms_in form) ty unit }
     ensures few { result ≤ 163 }
 {
     let number = integer_room(form, ty);
@@ -216,7 +219,7 @@ pub fn offset_room(form: Form, ty: IntegerType, unit: u32) -> u128
 
 /// The longest escape of a byte.
 pub fn escape_room(mode: Mode) -> u128
-    ensures count { result ≡ escape_room mode }
+    ensures count { result ≡ (rooms_of mode).escape }
     ensures few { result ≤ 6 }
 {
     match mode {
@@ -227,7 +230,7 @@ pub fn escape_room(mode: Mode) -> u128
 
 /// Quotes, and the longest escape for each byte that fits into so many bits. The last byte is 0, which isn't printed.
 pub fn string_room(mode: Mode, bits: u64) -> u128
-    ensures count { result ≡ string_room mode bits }
+    ensures count { result ≡ string_room (rooms_of mode) bits }
     ensures few { result < 2 ^ 65 }
 {
     let most = u128::from((bits / 8).saturating_sub(1));
@@ -243,7 +246,7 @@ fn brackets_room(number: u128) -> u128
 
 /// What an array of so many elements has beside them.
 pub fn array_room(mode: Mode, count: u128) -> u128
-    ensures count { result ≡ array_room mode count }
+    ensures count { result ≡ (rooms_of mode).array count }
     ensures few { result ≤ 42 }
 {
     match mode {
@@ -264,7 +267,7 @@ fn title_room(sort: &[u8], name: &Option<Name>) -> u128
 
 /// What a struct or a union has beside its members.
 pub fn titled_room(mode: Mode, sort: &[u8], name: &Option<Name>) -> u128
-    ensures count { result ≡ titled_room mode sort.now (name_of name.now) }
+    ensures count { result ≡ (rooms_of mode).titled sort.now (name_of name.now) }
     ensures few { result < 2 ^ 65 }
 {
     match mode {
@@ -277,7 +280,7 @@ pub fn titled_room(mode: Mode, sort: &[u8], name: &Option<Name>) -> u128
 /// What is around a printed value on a line. In the mode `lines` that is its start, at most `bits`, and its size, at
 /// most `widest`.
 pub fn line_room(mode: Mode, bits: u64, widest: u64) -> u128
-    ensures count { result ≡ line_room mode bits widest }
+    ensures count { result ≡ (rooms_of mode).line bits widest }
     ensures few { result ≤ 88 }
 {
     match mode {
@@ -289,7 +292,7 @@ pub fn line_room(mode: Mode, bits: u64, widest: u64) -> u128
 
 /// What represents elements that are left out, of so many on so many bits.
 pub fn more_room(mode: Mode, bits: u64, count: u128) -> u128
-    ensures { result ≡ more_room mode count count bits bits }
+    ensures { result ≡ (rooms_of mode).more count count bits bits }
 {
     let left = digits(count);
     match mode {
@@ -302,7 +305,7 @@ pub fn more_room(mode: Mode, bits: u64, count: u128) -> u128
 
 /// What is before an element.
 pub fn element_before(mode: Mode, place: u128) -> u128
-    ensures count { result ≡ element_before mode place }
+    ensures count { result ≡ (rooms_of mode).element_before place }
 {
     match mode {
         Mode::Flat | Mode::Json => 1,
@@ -313,7 +316,7 @@ pub fn element_before(mode: Mode, place: u128) -> u128
 
 /// What is before each line of an element.
 pub fn element_moves(mode: Mode, place: u128) -> u128
-    ensures count { result ≡ element_moves mode place }
+    ensures count { result ≡ (rooms_of mode).element_moves place }
 {
     match mode {
         Mode::Flat | Mode::Json => 0,
@@ -355,26 +358,26 @@ fn json_bytes_room(bytes: &[u8]) -> u128
     room
 }
 
-/// The key of a field or an alternative.
+/// The key of a field or an alternative, and the colon after it.
 #[tactic(auto, unfolding(value_text::specs::JsonText::json_string))]
 fn key_room(name: &Option<Name>, place: usize) -> u128
-    ensures count { result ≡ length (key_text (name_of name.now) place) }
+    ensures count { result ≡ length (json.key (name_of name.now) place) }
     ensures few { result < 2 ^ 68 }
 {
     match name {
-        Some(name) => 2 + json_bytes_room(name.as_slice()),
-        None => 2 + digits(place as u128),
+        Some(name) => 3 + json_bytes_room(name.as_slice()),
+        None => 3 + digits(place as u128),
     }
 }
 
 /// What is before a field or an alternative.
 pub fn field_before(mode: Mode, name: &Option<Name>, place: usize) -> u128
-    ensures count { result ≡ field_before mode (name_of name.now) place }
+    ensures count { result ≡ (rooms_of mode).field_before (name_of name.now) place }
 {
     match mode {
         Mode::Flat => 1 + name_room(name),
         Mode::Tree => name_room(name),
-        Mode::Json => 2 + key_room(name, place),
+        Mode::Json => 1 + key_room(name, place),
         Mode::Lines => 0,
     }
 }
@@ -391,7 +394,7 @@ fn step_room(name: &Option<Name>, place: usize) -> u128
 
 /// What is before each line of a field or an alternative.
 pub fn field_moves(mode: Mode, name: &Option<Name>, place: usize) -> u128
-    ensures count { result ≡ field_moves mode (name_of name.now) place }
+    ensures count { result ≡ (rooms_of mode).field_moves (name_of name.now) place }
 {
     match mode {
         Mode::Flat | Mode::Json => 0,
@@ -402,10 +405,20 @@ pub fn field_moves(mode: Mode, name: &Option<Name>, place: usize) -> u128
 
 /// The line feed after a text of one line, and the dot that is the path of a value without parts.
 pub fn end_room(mode: Mode) -> u128
-    ensures count { result ≡ end_room mode }
+    ensures count { result ≡ (rooms_of mode).end }
 {
     match mode {
         Mode::Flat | Mode::Json | Mode::Lines => 1,
         Mode::Tree => 0,
+    }
+}
+
+/// The sum of what a value has itself and what its parts have. In the mode `lines` it is the greater of the two.
+pub fn join(mode: Mode, own: Option<u128>, parts: Option<u128>) -> Option<u128>
+    ensures { (x y : ℕ) → IsBound own x → IsBound parts y → IsBound result ((rooms_of mode).joined x y) }
+{
+    match mode {
+        Mode::Flat | Mode::Tree | Mode::Json => sum_of(own, parts),
+        Mode::Lines => greater_of(own, parts),
     }
 }

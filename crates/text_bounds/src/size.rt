@@ -2,8 +2,9 @@
 ghost use Rattle.std.specs.Prelude.{◌≡◌, ℕ, ◌+◌, ◌*◌, max};
 ghost use Rattle.pickle_types.specs.Bounds.{IsBound};
 ghost use Rattle.text_bounds.specs.TextHeld.{HoldsSize};
-ghost use Rattle.text_bounds.specs.TextRoom.{Size, joined, with_parts, moved, no_size, both, greater, repeated};
+ghost use Rattle.text_bounds.specs.TextRoom.{Size, rooms_of, with_parts, moved, no_size, both, greater, repeated};
 
+use crate::room::join;
 use pickle_types::bounds::{greater_of, sum_of};
 use poke_batch::mode::Mode;
 
@@ -30,16 +31,6 @@ pub fn times(count: u128, each: Option<u128>) -> Option<u128>
     }
 }
 
-/// The sum of what a value has itself and what its parts have. In the mode `lines` it is the greater of the two.
-fn join(mode: Mode, own: Option<u128>, parts: Option<u128>) -> Option<u128>
-    ensures { (x y : ℕ) → IsBound own x → IsBound parts y → IsBound result (joined mode x y) }
-{
-    match mode {
-        Mode::Flat | Mode::Tree | Mode::Json => sum_of(own, parts),
-        Mode::Lines => greater_of(own, parts),
-    }
-}
-
 /// The size of an empty text.
 pub fn no_size() -> TextSize
     ensures { HoldsSize result no_size }
@@ -53,7 +44,7 @@ pub fn no_size() -> TextSize
 /// The size of a value that has so many bytes beside its parts.
 pub fn with_parts(mode: Mode, own: Option<u128>, parts: TextSize) -> TextSize
     ensures { (room : ℕ) (size : Size) → IsBound own room → HoldsSize parts size
-        → HoldsSize result (with_parts mode room size) }
+        → HoldsSize result (with_parts (rooms_of mode) room size) }
 {
     let text = join(mode, own, parts.text);
     let lines = join(mode, Some(1), parts.lines);

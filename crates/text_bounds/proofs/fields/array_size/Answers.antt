@@ -1,15 +1,15 @@
 use Rattle.std.proofs.Common.{refl, ap, ◌∙◌, arith}
 use Rattle.pickle_types.specs.Bounds.{least_width}
-use Rattle.text_bounds.specs.TextRoom.{size_of, array_room, element_before, element_moves}
+use Rattle.text_bounds.specs.TextRoom.{size_of, rooms_in}
 use Rattle.text_bounds.proofs.fields.array_size.Goals as goal
 
 pub returns : goal.returns
 unfolding least_width size_of
 returns c type bound h =
     let count = c.elements-count.ensures.count _ h.least in
-    let own = c.array_room.ensures.count ∙ ap (array_room c.args.form.mode) count in
-    let before = c.element_before-before.ensures.count ∙ ap (element_before c.args.form.mode) count in
-    let moves = c.element_moves-moves.ensures.count ∙ ap (element_moves c.args.form.mode) count in
+    let own = c.array_room.ensures.count ∙ ap (rooms_in c.args.form).array count in
+    let before = c.element_before-before.ensures.count ∙ ap (rooms_in c.args.form).element_before count in
+    let moves = c.element_moves-moves.ensures.count ∙ ap (rooms_in c.args.form).element_moves count in
     record {
       least = refl;
       size = c.or_text.ensures _ _ count
