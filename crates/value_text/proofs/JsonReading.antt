@@ -4,7 +4,7 @@ use Rattle.std.specs.Prelude.{◌==◌, ◌&&◌, ◌||◌, nat_le, nat_lt, if�
 use Rattle.std.specs.Str.Parse.{digits_value}
 use Rattle.std.proofs.lemmas.List.{append_assoc}
 use Rattle.value_text.specs.Json as json
-use Rattle.value_text.specs.Json.{signed, IsDigit, IsDigits, IsWhole, IsMinus, IsFraction, IsExponentSign, IsExponent, ReadsNumber}
+use Rattle.value_text.specs.Json.{signed, IsDigit, IsDigits, IsWhole, IsFraction, IsExponentSign, IsExponent, ReadsNumber}
 use Rattle.value_text.specs.Laws.{HasOneReading}
 use Rattle.value_text.specs.JsonValue.{Json, JsonFalse, JsonTrue, JsonNull, JsonNumber, JsonString, JsonList, JsonObject, Elements, NoElements, ElementThen, Entries, NoEntries, EntryThen}
 

@@ -1,5 +1,5 @@
 -- The lines of a value: one for each part that has no parts itself, in order, each under a path that leads to its part.
-use Rattle.std.proofs.Common.{◌≡◌, ◌∙◌, ℕ, zero, suc, ◌+◌, ◌<◌, ◌≤◌, true, false, List, [], ◌∷◌, ◌++◌, Some, None, length, get_or, refl, inl, inr, sym, ap, subst, arith}
+use Rattle.std.proofs.Common.{◌≡◌, ◌∙◌, ℕ, zero, suc, ◌+◌, ◌≤◌, true, false, List, [], ◌∷◌, ◌++◌, Some, None, refl, inl, inr, sym, ap, subst, arith}
 use Rattle.std.specs.Prelude.{Contains, if◌then◌else◌}
 use Rattle.std.proofs.lemmas.Bool.{cases_Bool}
 use Rattle.std.proofs.lemmas.List.{append-nil, append_assoc}
@@ -10,7 +10,7 @@ use Rattle.text_output.specs.Styles.{plain}
 use Rattle.value_text.specs.LinesText.{is_parted}
 use Rattle.value_text.specs.StyledLeaves.{styled_leaf, styled_leaves, styled_branches}
 use Rattle.value_text.proofs.Cuts.{plain_limit}
-use Rattle.value_text.specs.LineParts.{LeadsBy, here, further, Line, IsLineOf, IsBefore, lower, deeper, IsBeforeAll, AreInOrder, AreLinesOf, lines_text, NamesParts}
+use Rattle.value_text.specs.LineParts.{LeadsBy, here, further, Line, IsBefore, lower, deeper, IsBeforeAll, AreInOrder, AreLinesOf, lines_text}
 use Rattle.value_text.specs.Laws.{LinesNameParts}
 
 -- ---- the lines as data

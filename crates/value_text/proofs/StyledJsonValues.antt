@@ -1,5 +1,5 @@
 -- Values printed in JSON read back as the values.
-use Rattle.std.proofs.Common.{◌≡◌, ◌≢◌, ℕ, zero, suc, ℤ, pos, negsuc, ◌+◌, ◌/◌, ◌%◌, ◌^◌, ◌<◌, ◌≤◌, Bool, true, false, inl, inr, List, [], ◌∷◌, ◌++◌, Option, Some, None, codes, decimal, refl, sym, ap, subst, arith}
+use Rattle.std.proofs.Common.{◌≡◌, ℕ, zero, suc, ℤ, pos, negsuc, ◌+◌, ◌/◌, ◌%◌, ◌^◌, ◌<◌, ◌≤◌, true, false, inl, inr, List, [], ◌∷◌, ◌++◌, Option, Some, None, codes, decimal, refl, sym, ap, subst, arith}
 use Rattle.std.specs.Prelude.{unsigned_abs, nat_lt, ◌==◌, IfSome}
 use Rattle.std.proofs.lemmas.Bool.{cases_Bool}
 use Rattle.std.proofs.lemmas.List.{append-nil, append_assoc}
@@ -10,12 +10,12 @@ use Rattle.text_output.specs.declared.style.Numbers.TheVariants.{Decimal, Hexade
 use Rattle.text_output.specs.declared.style.Style.{Style}
 use Rattle.text_output.specs.declared.style.Chars.{Chars}
 use Rattle.text_output.specs.declared.style.Chars.TheVariants as form
-use Rattle.pickle_meaning.specs.Values.{Naming, Label, IntegerLabel, OffsetLabel, TextLabel, ArrayLabel, StructLabel, UnionLabel, Value, Mapped, Members, NoMembers, MemberThen, AbsentThen, member_count}
+use Rattle.pickle_meaning.specs.Values.{Label, IntegerLabel, OffsetLabel, TextLabel, ArrayLabel, StructLabel, UnionLabel, Value, Mapped, Members, NoMembers, MemberThen, AbsentThen, member_count}
 use Rattle.value_store.specs.Labels.{member_name}
 use Rattle.value_text.specs.JsonText.{json_string}
 use Rattle.value_text.specs.Notation.{json, keys, no_key}
-use Rattle.value_text.specs.Json.{no_blank, one_blank, line_feed, ReadsCharacters, plain_character, no_character, ReadsString, string, ReadsValue, number_value, string_value, object, Reads, json as read, ReadsElements, last_element, ReadsEntry, last_entry, one_entry}
-use Rattle.value_text.specs.JsonValue.{ElementThen, NoElements, whole_number}
+use Rattle.value_text.specs.Json.{no_blank, one_blank, line_feed, ReadsCharacters, plain_character, no_character, ReadsString, string, ReadsValue, number_value, string_value, object, Reads, json as read, last_element, ReadsEntry, last_entry, one_entry}
+use Rattle.value_text.specs.JsonValue.{whole_number}
 use Rattle.value_text.specs.SmallParts.{AreBytes, IsSmallLabel, HasSmallParts, AreSmallParts, HasFewMembers, HaveFewMembers}
 use Rattle.value_text.specs.CutArrays.{is_past, more_object}
 use Rattle.value_text.specs.CharTexts.{has_chars, chars_in, kept_before, trimmed, with_texts, parts_with_texts}

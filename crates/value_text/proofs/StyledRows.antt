@@ -1,14 +1,13 @@
 -- Values and their printed forms in styles, worked out by hand, against the definitions.
-use Rattle.std.proofs.Common.{◌≡◌, ◌+◌, ℕ, pos, negsuc, refl, true, false, codes, List, [], ◌∷◌, Option, Some, None}
+use Rattle.std.proofs.Common.{◌≡◌, ◌+◌, ℕ, pos, negsuc, refl, true, false, codes, List, [], ◌∷◌, Some, None}
 use Rattle.std.specs.Fmt.{digits}
 use Rattle.pickle_types.specs.declared.integer.IntegerType.{IntegerType}
-use Rattle.pickle_meaning.specs.Values.{Value, Mapped, Label, IntegerLabel, OffsetLabel, TextLabel, ArrayLabel, StructLabel, UnionLabel, Members, NoMembers, MemberThen, AbsentThen}
+use Rattle.pickle_meaning.specs.Values.{Value, Mapped, Label, IntegerLabel, OffsetLabel, ArrayLabel, StructLabel, NoMembers, MemberThen}
 use Rattle.text_output.specs.declared.mode.Mode.TheVariants.{Flat, Tree, Json, Lines}
 use Rattle.text_output.specs.declared.style.Style.{Style}
 use Rattle.text_output.specs.declared.style.Numbers.TheVariants.{Decimal, Hexadecimal, Digits}
 use Rattle.text_output.specs.declared.style.Chars.TheVariants as char_form
-use Rattle.value_text.specs.ValueText.{integer_text, string_text}
-use Rattle.value_text.specs.JsonText.{json_string}
+use Rattle.value_text.specs.ValueText.{integer_text}
 use Rattle.value_text.specs.CharTexts.{trimmed, chars_in, has_chars}
 use Rattle.value_text.specs.StyledNumbers.{hex_integer, hexadecimal, integer_in, unit_in, offset_in, quoted_hex, json_offset_in}
 use Rattle.value_text.specs.Styled.{styled}

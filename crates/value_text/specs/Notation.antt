@@ -1,5 +1,5 @@
 -- How values are written on one line.
-use Rattle.std.specs.Prelude.{ℕ, ℤ, List, [], ◌++◌, codes, decimal}
+use Rattle.std.specs.Prelude.{ℕ, ℤ, List, [], ◌++◌, codes}
 use Rattle.pickle_types.specs.declared.integer.IntegerType.{IntegerType}
 use Rattle.text_output.specs.declared.style.Numbers.{Numbers}
 use Rattle.pickle_meaning.specs.Values.{Naming, Label}

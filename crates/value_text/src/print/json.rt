@@ -4,8 +4,7 @@ ghost use Rattle.std.specs.Fmt.{signed_decimal};
 ghost use Rattle.std.specs.List.{prefix_len};
 ghost use Rattle.value_text.specs.Puts.{Puts};
 ghost use Rattle.value_text.specs.ValueText.{is_plain};
-ghost use Rattle.value_text.specs.StyledNumbers.{json_number, json_offset_in, quoted_hex};
-ghost use Rattle.value_text.specs.CutArrays.{more_object};
+ghost use Rattle.value_text.specs.StyledNumbers.{json_number, quoted_hex};
 ghost use Rattle.value_text.specs.JsonParts.{name_start, place_start};
 
 use super::bytes::SHORT;
@@ -36,18 +35,26 @@ impl Form for Json {
         _ty: IntegerType,
         number: i128,
     ) {
-        printer.put_json_number(numbers, number)
+        match numbers {
+            Numbers::Decimal | Numbers::Digits => printer.put_number(number),
+            Numbers::Hexadecimal => printer.put_quoted_hex(number),
+        }
     }
 
-    #[inline(always)]
+    #[tactic(auto, using(crate::proofs::Puts::puts), unfolding(crate::specs::StyledNumbers::json_offset_in))]
+    #[inline(never)]
     fn put_offset<W: Write>(
         printer: &mut Printer<'_, W>,
         numbers: Numbers,
-        _ty: IntegerType,
+        ty: IntegerType,
         unit: u32,
         magnitude: i128,
     ) {
-        printer.put_json_offset(numbers, magnitude, unit)
+        printer.put(b"{\"magnitude\":");
+        Self::put_integer(printer, numbers, ty, magnitude);
+        printer.put(b",\"unit\":");
+        printer.put_digits(unit);
+        printer.put(b"}");
     }
 
     #[inline(always)]
@@ -78,9 +85,12 @@ impl Form for Json {
         }
     }
 
-    #[inline(always)]
+    #[tactic(auto, using(crate::proofs::Puts::puts))]
+    #[inline(never)]
     fn put_more<W: Write>(printer: &mut Printer<'_, W>, left: usize) {
-        printer.put_more_object(left)
+        printer.put(b"{\"..\":");
+        printer.put_count(left);
+        printer.put(b"}");
     }
 
     #[inline(always)]
@@ -95,16 +105,6 @@ impl Form for Json {
 }
 
 impl<W: Write> Printer<'_, W> {
-    #[inline(always)]
-    fn put_json_number(&mut self, numbers: Numbers, number: i128)
-        ensures { Puts W.contents self.old self.new (json_number numbers number) }
-    {
-        match numbers {
-            Numbers::Decimal | Numbers::Digits => self.put_number(number),
-            Numbers::Hexadecimal => self.put_quoted_hex(number),
-        }
-    }
-
     // Writes a number as a string of hexadecimal digits.
     #[tactic(auto, using(crate::proofs::Puts::puts), unfolding(crate::specs::StyledNumbers::quoted_hex))]
     #[inline(never)]
@@ -114,29 +114,6 @@ impl<W: Write> Printer<'_, W> {
         self.put(b"\"");
         self.put_signed_hex(number);
         self.put(b"\"");
-    }
-
-    // Writes an offset of so many units, of a number of bits each.
-    #[tactic(auto, using(crate::proofs::Puts::puts), unfolding(crate::specs::StyledNumbers::json_offset_in))]
-    #[inline(never)]
-    fn put_json_offset(&mut self, numbers: Numbers, magnitude: i128, unit: u32)
-        ensures { Puts W.contents self.old self.new (json_offset_in numbers magnitude unit) }
-    {
-        self.put(b"{\"magnitude\":");
-        self.put_json_number(numbers, magnitude);
-        self.put(b",\"unit\":");
-        self.put_digits(unit);
-        self.put(b"}");
-    }
-
-    #[tactic(auto, using(crate::proofs::Puts::puts))]
-    #[inline(never)]
-    fn put_more_object(&mut self, left: usize)
-        ensures { Puts W.contents self.old self.new (more_object left) }
-    {
-        self.put(b"{\"..\":");
-        self.put_count(left);
-        self.put(b"}");
     }
 
     #[inline(always)]

@@ -2,11 +2,11 @@ use Rattle.std.proofs.Common.{◌≡◌, rules, to_z, of_z}
 use mir.Syntax.{w128}
 use Rattle.value_text.specs.StyledNumbers.{json_offset_in}
 use Rattle.value_text.proofs.Puts.{puts_next}
-use Rattle.value_text.proofs.print.printer.Printer.put_json_offset.Goals as goal
+use Rattle.value_text.proofs.print.json.JsonForm.put_offset.Goals as goal
 
 pub returns : goal.returns
 unfolding json_offset_in
 returns g c =
     let n : to_z w128 (of_z w128 c.args.magnitude) ≡ c.args.magnitude = search rules in
-    puts_next c.put.ensures (puts_next (rw n at c.put_json_number.ensures)
+    puts_next c.put.ensures (puts_next (rw n at c.put_integer.ensures)
     (puts_next c.put-2.ensures (puts_next c.put_digits.ensures c.put-3.ensures)))
