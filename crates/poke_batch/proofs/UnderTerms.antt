@@ -6,7 +6,8 @@ use Rattle.pickle_types.specs.Types.{PokeType, IntegerOf, OffsetOf, StringOf, Ar
 use Rattle.pickle_meaning.specs.Fits.{ElementsFit, no_more_fit, one_more_fits, Fits, FitsNumber, FieldsFit, AlternativeFits}
 use Rattle.pickle_meaning.specs.Means.{Taken}
 use Rattle.value_store.specs.Moves.{IsWithin, no_state}
-use Rattle.value_store.specs.Slots.{Held, KeepsRoom, packs, emptied, fixed, each_of}
+use Rattle.value_store.specs.Promises.{least_capacity}
+use Rattle.value_store.specs.Slots.{Held, KeepsRoom, packs, packs_as, emptied, fixed, each_of}
 use Rattle.value_store.specs.declared.store.room.Growth.TheVariants.{Never}
 use Rattle.bit_space.specs.Bits.{bits_of}
 use Rattle.mapping_plans.specs.Kept.{KeepsBy}
@@ -213,33 +214,49 @@ store_stays None old cleared new is same keeps =
     let room = keeps.room ∙ ap (λ (h : Held). h.room) same in ap (λ (r : Room). r.growth) room ∙ is
 store_stays (Some m) old cleared new is same keeps = keeps.room ∙ ap (λ (h : Held). h.room) same ∙ is
 
--- a store of the most slots has exactly these
-pub least_of : (most : Option ℕ) (old cleared : Held) {bound : ℕ} → IsStoreOf most old → cleared ≡ emptied old →
-    cleared.room.least < bound → (n : ℕ) → most ≡ Some n → n < bound
-least_of None old cleared is same less n e = absurd cc
-least_of (Some m) old cleared {bound} is same less n e =
-    subst (λ x. x < bound) (ap (λ (h : Held). h.room.least) same ∙ ap (λ (r : Room). r.least) is ∙ same_Some m n e) less
+-- the least of the same capacity of each vector
+least_of_each : (n : ℕ) → least_capacity (each_of n) ≡ n
+least_of_each n = omega arith
 
--- what is too much for a store of the most slots is so for slots of that number
-pub few_of : (most : Option ℕ) (old cleared : Held) (type : PokeType) (ask : Ask) (before : SpaceView) (left : ℕ)
-    → IsStoreOf most old → cleared ≡ emptied old
+never_packs : (room : Room) → room.growth ≡ Never → packs room ≡ false
+never_packs room never = ap (λ g. packs_as g room.least) never
+
+-- a store of the most slots has exactly these
+module _ (m n : ℕ) (old cleared : Held) (is : IsStoreOf (Some m) old) (same : cleared ≡ emptied old)
+    (exact : cleared.room.growth ≡ Never → cleared.capacity ≡ each_of cleared.room.least) (e : Some m ≡ Some n) where
+  made : cleared.room ≡ fixed n
+  made = ap (λ (h : Held). h.room) same ∙ is ∙ ap fixed (same_Some m n e)
+
+  each : cleared.capacity ≡ each_of n
+  each = exact (ap (λ (r : Room). r.growth) made) ∙ ap (λ (r : Room). each_of r.least) made
+
+-- so a store that has too little capacity for a bound was made with fewer
+pub least_of : (most : Option ℕ) (old cleared : Held) {bound : ℕ} → IsStoreOf most old → cleared ≡ emptied old
+    → (cleared.room.growth ≡ Never → cleared.capacity ≡ each_of cleared.room.least)
+    → least_capacity cleared.capacity < bound → (n : ℕ) → most ≡ Some n → n < bound
+least_of None old cleared is same exact less n e = absurd cc
+least_of (Some m) old cleared {bound} is same exact less n e =
+    subst (λ x. x < bound) (ap least_capacity (each m n old cleared is same exact e) ∙ least_of_each n) less
+
+-- and as such a store packs nothing, its slots are too few where memory didn't suffice
+pub few_of : (most : Option ℕ) (old cleared : Held) (room : Room) (type : PokeType) (ask : Ask) (before : SpaceView)
+    (left : ℕ) → IsStoreOf most old → cleared ≡ emptied old → room.growth ≡ cleared.room.growth
     → (cleared.room.growth ≡ Never → cleared.capacity ≡ each_of cleared.room.least) → left ≡ ask.limit
     → ((bytes : List ℕ) → before.bytes ≡ Some bytes
-    → KeepsBy (λ state. IsWithin state cleared.capacity) (packs cleared.room) (bits_of bytes)
+    → KeepsBy (λ state. IsWithin state cleared.capacity) (packs room) (bits_of bytes)
     (plan (8 * before.len) type ask.order no_values ask.start) left no_state → ⊥)
     → (n : ℕ) → most ≡ Some n → AreTooFew n type ask before
-few_of None old cleared type ask before left is same exact full wants n e = absurd cc
-few_of (Some m) old cleared type ask before left is same exact full wants n e =
-    let made : cleared.room ≡ fixed n = ap (λ (h : Held). h.room) same ∙ is ∙ ap fixed (same_Some m n e) in
-    let each : cleared.capacity ≡ each_of n =
-    exact (ap (λ (r : Room). r.growth) made) ∙ ap (λ (r : Room). each_of r.least) made in
+few_of None old cleared room type ask before left is same alike exact full wants n e = absurd cc
+few_of (Some m) old cleared room type ask before left is same alike exact full wants n e =
+    let never = alike ∙ ap (λ (r : Room). r.growth) (made m n old cleared is same exact e) in
     let planned = plan (8 * before.len) type ask.order no_values ask.start in
     record {
       lack = λ bytes known kept.
           wants bytes known
-          (subst (λ (r : Room).
-          KeepsBy (λ state. IsWithin state cleared.capacity) (packs r) (bits_of bytes) planned left no_state) (sym made)
-          (subst (λ k. KeepsBy (λ state. IsWithin state k) false (bits_of bytes) planned left no_state) (sym each)
+          (subst (λ b. KeepsBy (λ state. IsWithin state cleared.capacity) b (bits_of bytes) planned left no_state)
+          (sym (never_packs room never))
+          (subst (λ k. KeepsBy (λ state. IsWithin state k) false (bits_of bytes) planned left no_state)
+          (sym (each m n old cleared is same exact e))
           (subst (λ steps. KeepsBy (λ state. IsWithin state (each_of n)) false (bits_of bytes) planned steps no_state)
           (sym full) kept)));
     }

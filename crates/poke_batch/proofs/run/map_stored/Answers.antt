@@ -3,6 +3,7 @@ use Rattle.std.proofs.lemmas.Option.{same_Some}
 use Rattle.pickle_types.specs.TypeTable.{nodes_of}
 use Rattle.pickle_meaning.specs.Values.{start_of, end_of, no_values}
 use Rattle.poke_batch.specs.RunsUnder.{MapsUnder, mapped_under}
+use Rattle.pickle_map.specs.Mapped.{prepared}
 use Rattle.poke_batch.specs.TypeRuns.{run_type}
 use Rattle.poke_batch.proofs.Mappings.{fault_says, run_to_fault, value_answers, root_given}
 use Rattle.run_parts.proofs.Sayings.{ends_more, line_ends}
@@ -12,7 +13,7 @@ use Rattle.poke_batch.proofs.run.map_stored.Goals as goal
 pub tell_root-requires-clause-forward : goal.tell_root-requires-clause-forward
 tell_root-requires-clause-forward g c =
     let run = c.args.run.now in
-    let given = c.in-Ok.ensures.fits in
+    let given = c.in-Ok.ensures.is.fits in
     λ value found.
     subst (λ v. start_of v ≤ end_of v) (same_Some given.value value (sym (root_given given) ∙ found))
     (starts_before_end _ (run_type run) no_values run.ask.now.start given.value given.holds)
@@ -21,20 +22,20 @@ pub returns-in-Ok-clause-ends : goal.returns-in-Ok-clause-ends
 returns-in-Ok-clause-ends g c =
     let run = c.args.run.now in
     let ask = run.ask.now in
-    let given = c.in-Ok.ensures.fits in
+    let given = c.in-Ok.ensures.is.fits in
     let told = rw c.len-bytes.ensures at c.tell_root.ensures given.value (root_given given) in
     λ pickle asked.
     ends_more (said_under run.table.now run.id pickle ask run.terms.now _ _ given.value
     (mapped_under run.table.now run.id refl asked
     (value_answers (run_type run) ask.order ask.start ask.limit c.new-meter.result.limit c.new-meter.result.steps _ _ _
-    (nodes_of run.table.now) c.map.new.store given.value c.new-meter.ensures.limit c.new-meter.ensures.steps
-    c.in-Ok.ensures.value (root_given given))
+    (nodes_of run.table.now) c.map_with.new.store given.value c.new-meter.ensures.limit c.new-meter.ensures.steps
+    c.in-Ok.ensures.is.value (root_given given))
     given.holds))
     told
 
 pub returns-in-Err-clause-store : goal.returns-in-Err-clause-store
 returns-in-Err-clause-store g c =
-    store_stays c.args.run.now.terms.now.most_slots _ _ _ c.requires.store c.clear.ensures.empty c.map.ensures.room
+    store_stays c.args.run.now.terms.now.most_slots _ _ _ c.requires.store c.clear.ensures.empty c.map_with.ensures.is.room
 
 pub returns-in-Err-clause-ends : goal.returns-in-Err-clause-ends
 returns-in-Err-clause-ends g c =
@@ -49,13 +50,14 @@ returns-in-Err-clause-ends g c =
     line_ends _ c.end_outcome.result _
     (subst (MapsUnder pickle ask run.terms.now _ _) (sym c.end_outcome.ensures)
     (end_under pickle ask run.terms.now _ _ fault.kind fault.at asked
-    (λ memory. least_of most _ _ c.requires.store c.clear.ensures.empty (c.in-Err.ensures.memory memory))
-    (λ memory. few_of most _ _ (run_type run) ask _ (meter.limit - meter.steps) c.requires.store c.clear.ensures.empty
-    c.clear.ensures.fixed (omega (arith, limit, unused))
-    (λ bytes known kept. c.in-Err.ensures.asked bytes known memory kept))
+    (λ memory. least_of most _ _ c.requires.store c.clear.ensures.empty c.clear.ensures.fixed (c.in-Err.ensures.is.memory memory))
+    (λ memory. few_of most _ _ (prepared (run_type run) _ c.clear.new.self).room (run_type run) ask _
+    (meter.limit - meter.steps) c.requires.store c.clear.ensures.empty refl c.clear.ensures.fixed (omega (arith, limit, unused))
+    (λ bytes known kept. c.in-Err.ensures.is.asked bytes known memory kept))
     (fault_under pickle ask run.terms.now _ _ fault.kind fault.at
     (fault_says pickle ask _ _ (run_type run) fault.at meter.limit meter.steps _ _ _ limit unused asked fault.kind
-    c.in-Err.ensures.fault
-    (run_to_fault _ (run_type run) ask.order ask.start ask.limit meter c.map.new.meter c.clear.new.self c.map.new.store
-    fault.kind fault.at limit unused c.new-meter.ensures.made c.in-Err.ensures.counts)
-    c.in-Err.ensures.limit c.in-Err.ensures.place c.in-Err.ensures.device))))
+    c.in-Err.ensures.is.fault
+    (run_to_fault _ (run_type run) ask.order ask.start ask.limit meter c.map_with.new.meter (prepared (run_type run) _ c.clear.new.self)
+    c.map_with.new.store
+    fault.kind fault.at limit unused c.new-meter.ensures.made c.in-Err.ensures.is.counts)
+    c.in-Err.ensures.is.limit c.in-Err.ensures.is.place c.in-Err.ensures.is.device))))
