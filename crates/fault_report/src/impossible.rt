@@ -164,7 +164,7 @@ impl Search<'_> {
             return text.say(b"is .")?.say(near)?.say(b" meant?");
         }
         let path: &[u8] = match reach.path.as_slice() {
-            [] => b".",
+            [] => b"it",
             path => path,
         };
         let text = text.say(path)?;
