@@ -13,7 +13,7 @@ use Rattle.pickle_meaning.specs.declared.faults.MapFaultKind.TheVariants as faul
 use Rattle.pickle_meaning.specs.Values.{Value, Levels}
 use Rattle.pickle_meaning.specs.Means.{Means}
 use Rattle.pickle_meaning.specs.Room.{Slot, value_slots}
-use Rattle.pickle_map.specs.Mapped.{RunsNamed}
+use Rattle.pickle_map.specs.Mapped.{prepared, RunsNamed}
 use Rattle.value_store.specs.Slots.{Held, packs, marks_of}
 use Rattle.value_store.specs.Takes.{Vector, of_vector, value_takes}
 use Rattle.type_soundness.specs.Capacity.{capacity_bound, slot_takes}
@@ -26,14 +26,16 @@ MemoryLacksCapacity = (table : Table) (id : TypeId) (order : Order) (start : ℕ
     IfErr result (λ f. f.kind ≡ faults.Memory → (vector : Vector) × (of_vector vector store.capacity
     < capacity_bound (packs store.room) vector (type_named table id) (8 * space.len)))
 
--- where `map` returned without a fault, each vector of the store has at most the type's bound
+-- Where `map` returned without a fault, each vector of the store has at most the type's bound, by whether the store
+-- packs during the mapping.
 abbrev pub StoresTakeBound : Type 0
 StoresTakeBound = (table : Table) (id : TypeId) (order : Order) (start : ℕ) (space : SpaceView) (meter meter' : Meter)
     (store store' : Held) (result : Result (Unit {0}) MapFault) →
     RunsNamed table id order start space meter meter' store store' result →
     OnOk result ((vector : Vector) →
     of_vector vector (marks_of store'.slots)
-    ≤ capacity_bound (packs store.room) vector (type_named table id) (8 * space.len))
+    ≤ capacity_bound (packs (prepared (type_named table id) space store).room) vector (type_named table id)
+    (8 * space.len))
 
 -- the bound of a type of a table is at most what `room` slots take
 abbrev pub BoundsAreSlots : Type 0

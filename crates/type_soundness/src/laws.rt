@@ -51,7 +51,8 @@ pub fn memory_lacks_capacity()
 {}
 
 /// Where `map` returns without a fault, whatever the space gives, each vector of the store has at most as many entries as
-/// `capacity_bound` of the type says.
+/// `capacity_bound` of the type says. A store that has capacity for `room` of the type in each vector packs no arrays
+/// during the mapping, so its bound is that of a store that packs none.
 pub fn stores_take_bound()
     ensures law { StoresTakeBound }
 {}
