@@ -189,7 +189,8 @@ impl Kind {
     fn or(self, shape: &Shape) -> Kind {
         match (self, shape) {
             (Kind::Struct, _) => Kind::Struct,
-            (_, Shape::Struct { .. } | Shape::Integral { .. } | Shape::Union { .. }) => Kind::Struct,
+            (_, Shape::Struct { .. } | Shape::Integral { .. } | Shape::Union { .. }) =>
+                Kind::Struct,
             (_, Shape::Array(_, _)) => Kind::Array,
             (kind, Shape::Integer(_) | Shape::Offset(_, _) | Shape::String) => kind,
         }

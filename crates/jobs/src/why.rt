@@ -1,13 +1,13 @@
 //! The reasons of a job, which are printed after its line.
 use crate::opener::NamedPickle;
 use bit_space::Space;
-use fault_report::mapping::{Pickle, TypeMapping};
 use fault_report::impossible::impossible_text;
+use fault_report::mapping::{Pickle, TypeMapping};
 use fault_report::{Explained, reasons_in};
 use pickle_reasons::{explanation, refusal_explanation};
+use pickle_types::table::{Table, TypeId};
 use pickle_warnings::accepted_warnings;
 use poke_batch::outcome::Outcome;
-use pickle_types::table::{Table, TypeId};
 use poke_batch::status::Status;
 use poke_batch::terms::Terms;
 use poke_batch::type_run::TypeRun;

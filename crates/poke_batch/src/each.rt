@@ -86,7 +86,13 @@ pub fn map_file<S: Space>(run: &TypeRun<'_>, kept: &mut Kept, space: &mut S)
     ensures keeps { Keeps (S.view space.old) (S.view space.new) }
 {
     kept.text.clear();
-    let ended = map_stored(run, &mut kept.store, &mut kept.findings, space, &mut kept.text);
+    let ended = map_stored(
+        run,
+        &mut kept.store,
+        &mut kept.findings,
+        space,
+        &mut kept.text,
+    );
     kept.outcome = in_memory(ended);
 }
 

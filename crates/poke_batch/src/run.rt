@@ -245,7 +245,9 @@ pub fn map_stored<S: Space, O: Write>(
     let bytes = space.len();
     let mut meter = Meter::new(ask.limit);
     let watch = &mut Unwatched;
-    match map_with(table, id, ask.order, ask.start, space, &mut meter, store, watch, findings) {
+    match map_with(
+        table, id, ask.order, ask.start, space, &mut meter, store, watch, findings,
+    ) {
         Ok(()) => run.tell_root(store, bytes, out),
         Err(fault) => end_outcome(fault, terms.most_slots, ask.start),
     }

@@ -87,10 +87,8 @@ impl Outcome {
         match self {
             Outcome::Done => Status::Done,
             Outcome::Refused(Refusal::Memory) | Outcome::Failed(_) => Status::Outside,
-            Outcome::Refused(_)
-            | Outcome::NoSuchType
-            | Outcome::ImpossiblePart
-            | Outcome::Offset => Status::Refused,
+            Outcome::Refused(_) | Outcome::NoSuchType | Outcome::ImpossiblePart | Outcome::Offset =>
+                Status::Refused,
             Outcome::Fault(fault) => fault_status(fault.kind),
             Outcome::Slots(_) | Outcome::Left(_) | Outcome::NoSuchPart | Outcome::Output(_) => {
                 Status::Fault

@@ -83,12 +83,14 @@ pub known_count : (nodes : List Node) (known : List Bool) (goal : PokeType → B
 known_count nodes known goal are = ap length are ∙ same_length (goal_at nodes goal) nodes
 
 -- a fact of a result that is a value
-pub ok_more : {T E : Type 0} {P Q : T → Type 0} (result : Result T E) → ((x : T) → P x → Q x) → IfOk result P → IfOk result Q
+pub ok_more : {T E : Type 0} {P Q : T → Type 0} (result : Result T E) → ((x : T) → P x → Q x) →
+    IfOk result P → IfOk result Q
 ok_more (Ok x) more h = more x h
 ok_more (Err e) more h = tt
 
 -- what is known of two questions is known of both, node by node
-pub both_more : (nodes : List Node) (first second : List Bool) (one other : PokeType → Bool) → AreKnown nodes first one →
+pub both_more : (nodes : List Node) (first second : List Bool) (one other : PokeType → Bool) →
+    AreKnown nodes first one →
     AreKnown nodes second other → (at : ℕ) → at < length nodes → (all : List Bool) →
     all ≡ map (goal_at nodes (λ type. one type && other type)) (take at nodes) →
     (d e : Bool) → all ++ (get_or first at d && get_or second at e) ∷ []

@@ -31,7 +31,8 @@ module _ (step : PatternStep) (goal : PokeType → Bool) (part : Value)
   -- among the fields of a struct, of which the first stands at a place
   field_led : (fields : Fields) (xs : List (Option Value)) (first place at : ℕ) → AreOfFields fields xs →
       member_at (gathered xs) place ≡ Some part →
-      at ≡ first + place → (of_pattern_step step).field (unwrap_or (slice_get (field_names fields) place) None) at ≡ true →
+      at ≡ first + place →
+      (of_pattern_step step).field (unwrap_or (slice_get (field_names fields) place) None) at ≡ true →
       some_field (of_pattern_step step) goal fields first ≡ true
   field_led NoFields [] first place at are is sum leads = cc
   field_led NoFields (x ∷ xs) first place at are is sum leads = cc
@@ -48,7 +49,8 @@ module _ (step : PatternStep) (goal : PokeType → Bool) (part : Value)
 
   digit_led : (parts : Parts) (xs : List (Option Value)) (first place at : ℕ) → AreOfDigits parts xs →
       member_at (gathered xs) place ≡ Some part →
-      at ≡ first + place → (of_pattern_step step).field (unwrap_or (slice_get (part_names parts) place) None) at ≡ true →
+      at ≡ first + place →
+      (of_pattern_step step).field (unwrap_or (slice_get (part_names parts) place) None) at ≡ true →
       some_digit (of_pattern_step step) goal parts first ≡ true
   digit_led NoParts [] first place at are is sum leads = cc
   digit_led NoParts (x ∷ xs) first place at are is sum leads = cc

@@ -94,7 +94,8 @@ returns-in-Err-clause-is g c =
     let none = none_kept nodes (promising more store) first in
     let e = c.new-mapper.ensures in
     let left = rw (e.meter, e.store, p) at c.in-Err.ensures.frame.left in
-    let h = rw (e.nodes, e.meter, e.store, p, c.nodes.ensures, c.node.ensures, none, c.from.ensures) at c.in-Err.ensures.is in
+    let h =
+    rw (e.nodes, e.meter, e.store, p, c.nodes.ensures, c.node.ensures, none, c.from.ensures) at c.in-Err.ensures.is in
     let h = from_none (none_stored (promising more store) first) h in
     let order = c.args.order in
     let start = c.args.start in

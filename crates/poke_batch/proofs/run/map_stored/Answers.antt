@@ -35,7 +35,8 @@ returns-in-Ok-clause-ends g c =
 
 pub returns-in-Err-clause-store : goal.returns-in-Err-clause-store
 returns-in-Err-clause-store g c =
-    store_stays c.args.run.now.terms.now.most_slots _ _ _ c.requires.store c.clear.ensures.empty c.map_with.ensures.is.room
+    store_stays c.args.run.now.terms.now.most_slots _ _ _ c.requires.store c.clear.ensures.empty
+    c.map_with.ensures.is.room
 
 pub returns-in-Err-clause-ends : goal.returns-in-Err-clause-ends
 returns-in-Err-clause-ends g c =
@@ -50,14 +51,17 @@ returns-in-Err-clause-ends g c =
     line_ends _ c.end_outcome.result _
     (subst (MapsUnder pickle ask run.terms.now _ _) (sym c.end_outcome.ensures)
     (end_under pickle ask run.terms.now _ _ fault.kind fault.at asked
-    (λ memory. least_of most _ _ c.requires.store c.clear.ensures.empty c.clear.ensures.fixed (c.in-Err.ensures.is.memory memory))
+    (λ memory.
+    least_of most _ _ c.requires.store c.clear.ensures.empty c.clear.ensures.fixed (c.in-Err.ensures.is.memory memory))
     (λ memory. few_of most _ _ (prepared (run_type run) _ c.clear.new.self).room (run_type run) ask _
-    (meter.limit - meter.steps) c.requires.store c.clear.ensures.empty refl c.clear.ensures.fixed (omega (arith, limit, unused))
+    (meter.limit - meter.steps) c.requires.store c.clear.ensures.empty refl c.clear.ensures.fixed
+    (omega (arith, limit, unused))
     (λ bytes known kept. c.in-Err.ensures.is.asked bytes known memory kept))
     (fault_under pickle ask run.terms.now _ _ fault.kind fault.at
     (fault_says pickle ask _ _ (run_type run) fault.at meter.limit meter.steps _ _ _ limit unused asked fault.kind
     c.in-Err.ensures.is.fault
-    (run_to_fault _ (run_type run) ask.order ask.start ask.limit meter c.map_with.new.meter (prepared (run_type run) _ c.clear.new.self)
+    (run_to_fault _ (run_type run) ask.order ask.start ask.limit meter c.map_with.new.meter
+    (prepared (run_type run) _ c.clear.new.self)
     c.map_with.new.store
     fault.kind fault.at limit unused c.new-meter.ensures.made c.in-Err.ensures.is.counts)
     c.in-Err.ensures.is.limit c.in-Err.ensures.is.place c.in-Err.ensures.is.device))))

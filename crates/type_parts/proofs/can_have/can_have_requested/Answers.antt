@@ -10,4 +10,5 @@ returns c =
     let are = rw c.nodes.ensures at c.in_ok-known.ensures in
     rw c.node.ensures at c.index.ensures
     ∙ known_at nodes c.in_ok-known.known.items (can_have_requested c.args.terms.now) c.args.table.now.sound are
-    c.args.id.node c.index.result.now (omega (arith, c.requires, known_count nodes c.in_ok-known.known.items (can_have_requested c.args.terms.now) are))
+    c.args.id.node c.index.result.now
+    (omega (arith, c.requires, known_count nodes c.in_ok-known.known.items (can_have_requested c.args.terms.now) are))

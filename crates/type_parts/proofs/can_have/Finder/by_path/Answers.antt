@@ -9,7 +9,8 @@ loop-at-init c = (
   omega arith,
   c.requires,
   λ goal are.
-      subst (λ ss. AreKnown c.args.self.now.nodes.now c.args.known.items (by_path ss goal)) (sym (drop_all (length c.args.steps.now) c.args.steps.now (omega arith))) are,
+      subst (λ ss. AreKnown c.args.self.now.nodes.now c.args.known.items (by_path ss goal))
+      (sym (drop_all (length c.args.steps.now) c.args.steps.now (omega arith))) are,
 )
 
 pub loop-at-preserved : goal.loop-at-preserved

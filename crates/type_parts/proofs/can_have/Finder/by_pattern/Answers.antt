@@ -9,7 +9,8 @@ loop-at-init c = (
   omega arith,
   c.requires,
   λ goal are.
-      subst (λ ss. AreKnown c.args.self.now.nodes.now c.args.known.items (by_pattern ss goal)) (sym (drop_all (length c.args.steps.now) c.args.steps.now (omega arith))) are,
+      subst (λ ss. AreKnown c.args.self.now.nodes.now c.args.known.items (by_pattern ss goal))
+      (sym (drop_all (length c.args.steps.now) c.args.steps.now (omega arith))) are,
 )
 
 pub loop-at-preserved : goal.loop-at-preserved
@@ -21,7 +22,8 @@ loop-at-preserved c =
       c.in_ok-known.ensures.count,
       λ goal are.
           pattern_before c.args.self.now.nodes.now c.args.steps.now c.loop-at.at c.index-steps-at.result
-          c.in_ok-known.known.items goal (omega arith) next (rw (← c.of.ensures) (c.in_ok-known.ensures.each _ (i.2 goal are))),
+          c.in_ok-known.known.items goal (omega arith) next
+          (rw (← c.of.ensures) (c.in_ok-known.ensures.each _ (i.2 goal are))),
     )
 
 pub returns : goal.returns

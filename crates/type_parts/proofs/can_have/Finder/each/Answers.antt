@@ -19,12 +19,15 @@ loop-at-preserved c =
       omega arith,
       each_before c.args.self.now.nodes.now c.args.patterns.now c.loop-at.at c.index-patterns-at.result
           c.in_ok-all-2.all.items (omega arith) next
-          (c.in_ok-all-2.ensures (can_have c.index-patterns-at.result.steps.items) (can_have_each (drop c.loop-at.at c.args.patterns.now))
-          (rw (c.as_slice.ensures.value, ← c.index-patterns-at.is) at (c.in_ok-own.ensures.each any_type c.in_ok-any.ensures)) i.1),
+          (c.in_ok-all-2.ensures (can_have c.index-patterns-at.result.steps.items)
+          (can_have_each (drop c.loop-at.at c.args.patterns.now))
+          (rw (c.as_slice.ensures.value, ← c.index-patterns-at.is)
+          at (c.in_ok-own.ensures.each any_type c.in_ok-any.ensures)) i.1),
     )
 
 pub returns : goal.returns
 returns c =
     let i = c.loop-at.invariant in
     let none : c.loop-at.at ≡ 0 = omega (arith, c.loop-at-test.false) in
-    subst (λ k. AreKnown c.args.self.now.nodes.now c.loop-at.all.items (can_have_each (drop k c.args.patterns.now))) none i.1
+    subst (λ k. AreKnown c.args.self.now.nodes.now c.loop-at.all.items (can_have_each (drop k c.args.patterns.now)))
+    none i.1

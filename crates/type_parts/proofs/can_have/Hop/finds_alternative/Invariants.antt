@@ -6,6 +6,7 @@ use Rattle.type_parts.specs.CanHave.{of_hop, of_step, of_pattern_step, some_fiel
 use Rattle.type_parts.proofs.can_have.Hop.finds_alternative.Given as goal
 
 abbrev pub invariant-loop-alternative : goal.invariant-loop-alternative
-invariant-loop-alternative l = (nodes : List Node) (goal : PokeType → Bool) → IsTable nodes → AreKnown nodes l.fn.known goal →
+invariant-loop-alternative l =
+    (nodes : List Node) (goal : PokeType → Bool) → IsTable nodes → AreKnown nodes l.fn.known goal →
     some_alternative (of_hop l.self) goal (open_parts (type_of nodes) l.fn.alternatives)
     ≡ some_alternative (of_hop l.self) goal (open_parts (type_of nodes) (drop l.alternative-index l.fn.alternatives))
