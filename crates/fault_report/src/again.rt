@@ -7,17 +7,18 @@ ghost use Rattle.pickle_meaning.specs.declared.faults.MapFaultKind.TheVariants.{
 ghost use Rattle.pickle_meaning.specs.Values.{value_at};
 ghost use Rattle.value_store.specs.Slots.{levels};
 ghost use Rattle.fault_report.specs.Found.{KeepsPart};
-ghost use Rattle.fault_report.specs.Mapped.{EndsWith, IsKnown, mapped_type};
+ghost use Rattle.fault_report.specs.Mapped.{EndsWith};
 ghost use Rattle.fault_report.specs.Meant.{HasValue};
+ghost use Rattle.poke_batch.specs.TypeRuns.{run_type};
 
 use crate::cause::Fault;
 use crate::endings::EarlyEndings;
-use crate::mapping::TypeMapping;
+use crate::part::part_with;
 use crate::watcher::Told;
 use bit_space::{Meter, Space};
 use pickle_map::mapper::map_watched;
 use pickle_map::{MapFault, Store};
-use poke_batch::style::Look;
+use poke_batch::type_run::TypeRun;
 use std::alloc::AllocError;
 
 /// What the watcher stored of a finished mapping.
@@ -35,49 +36,44 @@ pub struct Again {
     pub kept: Kept,
 }
 
-/// Maps a type into a store, which is emptied first, and stores which part has the fault and which arrays ended early.
-/// With a look, what the mapping had met before the fault is shown beside the part.
-impl TypeMapping<'_> {
-    /// Maps the type into a store, which is emptied first, and stores which part has the fault and which arrays ended
-    /// early. With a look, what the mapping had met before the fault is shown beside the part.
-    pub fn again<S: Space>(
-        self,
-        look: Option<Look>,
-        space: &mut S,
-        store: &mut Store,
-    ) -> Result<Again, AllocError>
-        requires known { IsKnown self }
-        ensures fault { IfOk result (λ again. IfErr again.end (EndsWith (S.view space.old) self.entry)) }
-        ensures part { IfOk result
-            (KeepsPart (S.view space.old) (S.view space.new) (mapped_type self.entry) self.entry.ask.now) }
-        ensures value { let has = HasValue (S.view space.old) (mapped_type self.entry) self.entry.ask.now in
-            IfOk result (λ again. OnOk again.end has) }
-        ensures device { let risen = HasRisen (S.view space.old).failures (S.view space.new).failures in
-            IfOk result (λ again. IfErr again.end (λ fault. fault.kind ≡ Device → risen)) }
-        ensures held { let held = IsSome (value_at (levels (nodes_of self.entry.table.now) store.new) 0 0) in
-            IfOk result (λ again. OnOk again.end held) }
-        ensures keeps { Keeps (S.view space.old) (S.view space.new) }
-    {
-        let TypeMapping {
-            alloc,
-            table,
-            id,
-            ask,
-        } = self;
-        store.clear();
-        let mut told = Told::new(alloc, table.nodes());
-        let mut meter = Meter::new(ask.limit);
-        let end = map_watched(
-            table, id, ask.order, ask.start, space, &mut meter, store, &mut told,
-        );
-        let Kept { fault, ended } = told.into_kept()?;
-        let fault = match &end {
-            Ok(()) => None,
-            Err(stopped) => self.part_with(look, *stopped, fault, space, store)?,
-        };
-        Ok(Again {
-            end,
-            kept: Kept { fault, ended },
-        })
-    }
+/// Maps the type of a run into a store, which is emptied first, and stores which part has the fault and which arrays
+/// ended early. If the run's terms have a look, what the mapping had met before the fault is shown beside the part.
+pub fn map_again<S: Space>(
+    run: &TypeRun<'_>,
+    space: &mut S,
+    store: &mut Store,
+) -> Result<Again, AllocError>
+    ensures fault { IfOk result (λ again. IfErr again.end (EndsWith (S.view space.old) run.now)) }
+    ensures part { IfOk result
+        (KeepsPart (S.view space.old) (S.view space.new) (run_type run.now) run.now.ask.now) }
+    ensures value { let has = HasValue (S.view space.old) (run_type run.now) run.now.ask.now in
+        IfOk result (λ again. OnOk again.end has) }
+    ensures device { let risen = HasRisen (S.view space.old).failures (S.view space.new).failures in
+        IfOk result (λ again. IfErr again.end (λ fault. fault.kind ≡ Device → risen)) }
+    ensures held { let held = IsSome (value_at (levels (nodes_of run.now.table.now) store.new) 0 0) in
+        IfOk result (λ again. OnOk again.end held) }
+    ensures keeps { Keeps (S.view space.old) (S.view space.new) }
+{
+    let TypeRun {
+        alloc,
+        table,
+        id,
+        ask,
+        ..
+    } = *run;
+    store.clear();
+    let mut told = Told::new(alloc, table.nodes());
+    let mut meter = Meter::new(ask.limit);
+    let end = map_watched(
+        table, id, ask.order, ask.start, space, &mut meter, store, &mut told,
+    );
+    let Kept { fault, ended } = told.into_kept()?;
+    let fault = match &end {
+        Ok(()) => None,
+        Err(stopped) => part_with(run, *stopped, fault, space, store)?,
+    };
+    Ok(Again {
+        end,
+        kept: Kept { fault, ended },
+    })
 }

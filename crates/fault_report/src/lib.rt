@@ -1,21 +1,20 @@
 //! Why a mapping stops, or an array in it: more lines, after the line of the fault.
 #![tactic(auto)]
 
-ghost use Rattle.std.specs.Prelude.{◌≡◌, ◌≢◌, ◌<◌, ◌++◌, [], length, IfOk, IsTrue, IsFalse, IsSome};
+ghost use Rattle.std.specs.Prelude.{◌≡◌, ◌≢◌, ◌<◌, ◌++◌, [], length, None, IfOk, IsTrue, IsFalse, IsSome};
 ghost use Rattle.pickle_types.specs.Table.{IsTable};
 ghost use Rattle.pickle_types.specs.TypeTable.{nodes_of};
 ghost use Rattle.bit_space.specs.SpaceView.{Keeps, SpaceView};
 ghost use Rattle.command_line.specs.declared.ask.Ask.{Ask};
 ghost use Rattle.poke_batch.specs.RunsUnder.{end_saying};
+ghost use Rattle.poke_batch.specs.TypeRuns.{run_type};
 ghost use Rattle.run_parts.specs.Outcomes.{outcome_saying, outcome_status};
-ghost use Rattle.run_parts.specs.declared.accept.Refusal.TheVariants.{Memory};
 ghost use Rattle.run_parts.specs.declared.status.Status.TheVariants.{Fault as Faulty};
 ghost use Rattle.pickle_meaning.specs.declared.faults.MapFaultKind.TheVariants as faults;
 ghost use Rattle.pickle_meaning.specs.Values.{value_at};
 ghost use Rattle.value_store.specs.Slots.{levels};
 ghost use Rattle.fault_report.specs.Found.{scene_type};
-ghost use Rattle.fault_report.specs.Mapped.{IsKnown, mapped_type};
-ghost use Rattle.fault_report.specs.Why.{run_of, ExplainsRun, IsOutcomeOf, TellsOfFault, TellsOfPart, TellsOfValue, TellsWhy};
+ghost use Rattle.fault_report.specs.Why.{run_of, IsOutcomeOf, TellsOfFault, TellsOfPart, TellsOfValue, TellsWhy};
 
 mod absent;
 mod again;
@@ -30,7 +29,6 @@ pub mod impossible;
 mod indent;
 mod lengths;
 mod lines;
-pub mod mapping;
 mod members;
 mod met;
 mod mismatches;
@@ -38,6 +36,7 @@ mod missing;
 mod names;
 mod other;
 mod part;
+pub mod pickle;
 mod place;
 mod scene;
 mod seen;
@@ -47,10 +46,10 @@ mod value;
 mod watcher;
 mod way;
 
-use crate::again::{Again, Kept};
+use crate::again::{Again, Kept, map_again};
 use crate::cause::Fault;
 use crate::lines::{arrays_text, fault_text};
-use crate::mapping::{Pickle, TypeMapping};
+use crate::pickle::Pickle;
 use crate::scene::Scene;
 use crate::term::term_text;
 use bit_space::Space;
@@ -62,7 +61,7 @@ use poke_batch::ask::Ask;
 use poke_batch::outcome::Outcome;
 use poke_batch::run::store_of;
 use poke_batch::terms::Terms;
-use run_parts::accept::{Refusal, accept};
+use poke_batch::type_run::TypeRun;
 use run_parts::status::Status;
 use std::alloc::{AllocError, Global};
 use text_output::mode::Mode;
@@ -77,86 +76,33 @@ pub struct Explained {
     pub met: Vec<u8>,
 }
 
-impl Explained {
-    /// Nothing.
-    fn none(alloc: Global) -> Explained
-        ensures { result.text.items ≡ [] }
-    {
-        Explained {
-            text: Vec::new(alloc),
-            met: Vec::new(alloc),
-        }
-    }
-}
-
-/// The lines that say why a mapping of a type over a file had its outcome or, if it is done, which arrays ended early.
-/// Bytes outside 0x20 to 0x7e are escaped in these lines.
+/// The lines that say why the run of a type had its outcome or, if it is done, which arrays ended early. Bytes outside
+/// 0x20 to 0x7e are escaped in these lines.
 ///
 /// The type is mapped again. If that mapping doesn't have the same outcome, the result is empty.
 pub fn reasons<S: Space>(
-    alloc: Global,
+    run: &TypeRun<'_>,
     pickle: Pickle<'_>,
-    ask: &Ask<'_>,
-    terms: &Terms,
     space: &mut S,
     outcome: Outcome,
 ) -> Result<Explained, AllocError>
-    ensures why { let run = run_of (S.view space.old) (S.view space.new) ask.now terms.now outcome in
-        IfOk result (λ reasons. ExplainsRun pickle.entry.bytes.now run reasons.text.items) }
+    ensures why { let ended = run_of (S.view space.old) (S.view space.new) run.now.ask.now run.now.terms.now outcome in
+        IfOk result (λ reasons. TellsWhy ended (run_type run.now) reasons.text.items) }
+    ensures met { run.now.terms.now.look ≡ None → IfOk result (λ reasons. reasons.met.items ≡ []) }
     ensures keeps { Keeps (S.view space.old) (S.view space.new) }
 {
-    let table = match accept(alloc, pickle.bytes) {
-        Ok(table) => table,
-        Err(refusal) => return none_refused(alloc, refusal),
-    };
-    let Some(id) = table.find(ask.name) else {
-        return Ok(Explained::none(alloc));
-    };
-    let mapping = TypeMapping {
-        alloc,
-        table: &table,
-        id,
-        ask,
-    };
-    let reasons = reasons_in(mapping, pickle, terms, space, outcome)?;
-    Ok(reasons)
-}
-
-/// What is printed about a run with a refused pickle: nothing. An error if the refusal is an allocation failure.
-fn none_refused(alloc: Global, refusal: Refusal) -> Result<Explained, AllocError>
-    ensures text { IfOk result (λ reasons. reasons.text.items ≡ []) }
-    ensures refused { IfOk result (λ _. refusal ≢ Memory) }
-{
-    match refusal {
-        Refusal::Memory => Err(AllocError),
-        _ => Ok(Explained::none(alloc)),
-    }
-}
-
-/// What [`reasons`] returns, from the table of the pickle's types.
-pub fn reasons_in<S: Space>(
-    mapping: TypeMapping<'_>,
-    pickle: Pickle<'_>,
-    terms: &Terms,
-    space: &mut S,
-    outcome: Outcome,
-) -> Result<Explained, AllocError>
-    requires known { IsKnown mapping }
-    ensures why { let run = run_of (S.view space.old) (S.view space.new) mapping.entry.ask.now terms.now outcome in
-        IfOk result (λ reasons. TellsWhy run (mapped_type mapping.entry) reasons.text.items) }
-    ensures keeps { Keeps (S.view space.old) (S.view space.new) }
-{
-    let TypeMapping {
+    let TypeRun {
         alloc,
         table,
         id,
         ask,
-    } = mapping;
+        terms,
+    } = *run;
     let Ok(mut store) = store_of(alloc, terms.most_slots) else {
         return Err(AllocError);
     };
-    let Again { end, kept } = mapping.again(terms.look, space, &mut store)?;
-    let scene = scene_of(mapping, pickle, terms, 8 * space.len())?;
+    let Again { end, kept } = map_again(run, space, &mut store)?;
+    let scene = scene_of(run, pickle, 8 * space.len())?;
     let text = match end {
         Ok(()) => {
             let types = Types::new(table);
@@ -165,19 +111,21 @@ pub fn reasons_in<S: Space>(
         }
         Err(fault) => fault_reasons(&scene, ask, terms, fault, &kept, outcome)?,
     };
-    let met = met_of(alloc, kept, &text);
+    let met = met_of(run, kept, &text);
     Ok(Explained { text, met })
 }
 
-/// The lines on what a mapping had met, if there are lines that say why it stopped.
-fn met_of(alloc: Global, kept: Kept, text: &[u8]) -> Vec<u8> {
-    if text.is_empty() {
-        return Vec::new(alloc);
+/// The lines on what the mapping of a run had met, if the run has a look, and there are lines that say why it stopped.
+fn met_of(run: &TypeRun<'_>, kept: Kept, text: &[u8]) -> Vec<u8>
+    ensures { run.now.terms.now.look ≡ None → result.items ≡ [] }
+{
+    if text.is_empty() || run.terms.look.is_none() {
+        return Vec::new(run.alloc);
     }
     let Kept { fault, ended: _ } = kept;
     match fault {
         Some(fault) => fault.into_met(),
-        None => Vec::new(alloc),
+        None => Vec::new(run.alloc),
     }
 }
 
@@ -193,15 +141,14 @@ fn root_of<'a>(store: &'a Store, table: &'a Table, types: &'a Types<'a>, id: Typ
 
 /// What the reasons are printed from.
 fn scene_of<'p, 't>(
-    mapping: TypeMapping<'t>,
+    run: &TypeRun<'t>,
     pickle: Pickle<'p>,
-    terms: &Terms,
     bits: u64,
 ) -> Result<Scene<'p, 't>, AllocError>
-    ensures nodes { IfOk result (λ scene. scene.nodes.now ≡ nodes_of mapping.entry.table.now) }
-    ensures root { IfOk result (λ scene. scene.root ≡ mapping.entry.id.node) }
+    ensures nodes { IfOk result (λ scene. scene.nodes.now ≡ nodes_of run.now.table.now) }
+    ensures root { IfOk result (λ scene. scene.root ≡ run.now.id.node) }
 {
-    let alloc = mapping.alloc;
+    let alloc = run.alloc;
     let Some(script) = Script::new(alloc, pickle.bytes) else {
         return Err(AllocError);
     };
@@ -209,12 +156,12 @@ fn scene_of<'p, 't>(
         alloc,
         script,
         path: Text::new(alloc).show(pickle.path)?.into_bytes(),
-        name: Vec::from_slice(alloc, mapping.ask.name)?,
-        nodes: mapping.table.nodes(),
-        root: mapping.id.node(),
+        name: Vec::from_slice(alloc, run.ask.name)?,
+        nodes: run.table.nodes(),
+        root: run.id.node(),
         bits,
-        most_steps: mapping.ask.limit,
-        most_slots: terms.most_slots,
+        most_steps: run.ask.limit,
+        most_slots: run.terms.most_slots,
     })
 }
 

@@ -2,13 +2,13 @@
 
 use crate::cause::{Cause, Fault};
 use crate::indent::{Indented, digits_of};
-use crate::mapping::TypeMapping;
 use crate::way::{Joint, WayStep, part_of, say_element};
 use pickle_map::mapper::stop::Stop;
 use pickle_map::{Store, ValueRef};
 use pickle_source::text::Text;
 use pickle_types::view::Shape;
 use poke_batch::style::Look;
+use poke_batch::type_run::TypeRun;
 use std::alloc::{AllocError, Global};
 use value_store::names::title;
 use value_text::print::print_shown;
@@ -40,32 +40,30 @@ struct Frame {
     level: usize,
 }
 
-impl TypeMapping<'_> {
-    /// The lines on what the mapping had met before the part with its fault: a line for each value around that part,
-    /// which says that the value is unfinished, then the lines of the parts of that value that were finished. The last
-    /// line is that of the part with the fault.
-    pub fn met_lines(
-        self,
-        store: &Store,
-        fault: &Fault,
-        look: Look,
-    ) -> Result<Vec<u8>, AllocError> {
-        let types = Types::new(self.table);
-        let stopped = Stopped {
-            alloc: self.alloc,
-            types: &types,
-            root: self.id.node(),
-            start: self.ask.start,
-            store,
-            fault,
-            look,
-        };
-        let mut text = Text::new(self.alloc);
-        for depth in 0..=fault.way.steps().len() {
-            text = stopped.say_value(text, depth)?;
-        }
-        Ok(text.into_bytes())
+/// The lines on what the mapping of a run had met before the part with its fault: a line for each value around that part,
+/// which says that the value is unfinished, then the lines of the parts of that value that were finished. The last
+/// line is that of the part with the fault.
+pub fn met_lines(
+    run: &TypeRun<'_>,
+    store: &Store,
+    fault: &Fault,
+    look: Look,
+) -> Result<Vec<u8>, AllocError> {
+    let types = Types::new(run.table);
+    let stopped = Stopped {
+        alloc: run.alloc,
+        types: &types,
+        root: run.id.node(),
+        start: run.ask.start,
+        store,
+        fault,
+        look,
+    };
+    let mut text = Text::new(run.alloc);
+    for depth in 0..=fault.way.steps().len() {
+        text = stopped.say_value(text, depth)?;
     }
+    Ok(text.into_bytes())
 }
 
 impl Stopped<'_> {

@@ -2,14 +2,13 @@
 
 ghost use Rattle.bit_space.specs.SpaceView.{Keeps};
 ghost use Rattle.value_store.specs.Slots.{emptied};
-ghost use Rattle.fault_report.specs.Mapped.{IsKnown};
 ghost use Rattle.std.specs.Prelude.{◌≡◌};
 
 use crate::cause::{Blamed, Cause, Fault};
-use crate::mapping::TypeMapping;
 use bit_space::{Meter, Order, Space};
 use pickle_map::mapper::watch::Clause;
 use pickle_map::{MapFault, MapFaultKind, Store, map};
+use poke_batch::type_run::TypeRun;
 
 /// The most steps that the mapping in the other byte order takes. They suffice for the first bits.
 const FEW_STEPS: u64 = 4096;
@@ -17,32 +16,29 @@ const FEW_STEPS: u64 = 4096;
 /// How many bits after a mapping's start are its first ones: those of the head of a file or of a file system.
 const FIRST_BITS: u128 = 16_384;
 
-impl TypeMapping<'_> {
-    /// The other byte order, if the type's fault is a constraint in the first bits, and the mapping goes on after it in
-    /// the other one; or if the fault is End, and the mapping has no fault in the other one.
-    pub fn other_order<S: Space>(
-        self,
-        fault: MapFault,
-        part: &Fault,
-        space: &mut S,
-        store: &mut Store,
-    ) -> Option<Order>
-        requires known { IsKnown self }
-        requires empty { store.old ≡ emptied store.old }
-        ensures keeps { Keeps (S.view space.old) (S.view space.new) }
-    {
-        let TypeMapping { table, id, ask, .. } = self;
-        let ends = fault.kind == MapFaultKind::End;
-        if !ends && !(is_early(fault, ask.start) && is_constraint(&part.cause)) {
-            return None;
-        }
-        let order = opposite(ask.order);
-        let mut meter = Meter::new(ask.limit.min(FEW_STEPS));
-        match map(table, id, order, ask.start, space, &mut meter, store) {
-            Ok(()) => Some(order),
-            Err(other) if !ends && is_behind(other, fault) => Some(order),
-            Err(_) => None,
-        }
+/// The other byte order, if the fault of a run's type is a constraint in the first bits, and the mapping goes on after it in
+/// the other one; or if the fault is End, and the mapping has no fault in the other one.
+pub fn other_order<S: Space>(
+    run: &TypeRun<'_>,
+    fault: MapFault,
+    part: &Fault,
+    space: &mut S,
+    store: &mut Store,
+) -> Option<Order>
+    requires empty { store.old ≡ emptied store.old }
+    ensures keeps { Keeps (S.view space.old) (S.view space.new) }
+{
+    let TypeRun { table, id, ask, .. } = *run;
+    let ends = fault.kind == MapFaultKind::End;
+    if !ends && !(is_early(fault, ask.start) && is_constraint(&part.cause)) {
+        return None;
+    }
+    let order = opposite(ask.order);
+    let mut meter = Meter::new(ask.limit.min(FEW_STEPS));
+    match map(table, id, order, ask.start, space, &mut meter, store) {
+        Ok(()) => Some(order),
+        Err(other) if !ends && is_behind(other, fault) => Some(order),
+        Err(_) => None,
     }
 }
 

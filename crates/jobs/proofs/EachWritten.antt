@@ -1,14 +1,25 @@
 -- What is written of many files, one after another.
-use Rattle.std.proofs.Common.{◌≡◌, ◌∙◌, ◌==◌, ℕ, List, [], ◌∷◌, ◌++◌, if◌then◌else◌, Option, Some, None, false, String, string_bytes, refl, ap}
+use Rattle.std.proofs.Common.{◌≡◌, ◌∙◌, ◌==◌, ℕ, zero, suc, List, [], ◌∷◌, ◌++◌, if◌then◌else◌, Option, Some, None, Ok, false, String, string_bytes, take, refl, sym, ap, subst}
 use Rattle.std.specs.Io.Buffered.{reader_remaining, reader_inner, reader_buffer, reader_capacity}
 use Rattle.std.specs.declared.io.buffered.BufReader.{BufReader}
 use Rattle.std.proofs.KnownBytes.{Appends-nil, Appends-trans}
 use Rattle.std.specs.declared.alloc.Global.{Global}
 use Rattle.std.specs.Io.KnownBytes.{Keeps, prepend_known}
-use Rattle.jobs.specs.Every.{AppendsFile, AppendsNamed}
+use Rattle.std.specs.List.{concat}
+use Rattle.std.specs.Io.KnownBytes.{Appends}
+use Rattle.std.proofs.lemmas.List.{append-nil}
+use Rattle.std.proofs.lemmas.List.Folds.{concat-append}
+use Rattle.jobs.specs.Due.{End, Holds, early, output_fails, whole}
+use Rattle.jobs.specs.Jobs.{DueFiles, all_files, files_end, first_files}
+use Rattle.jobs.specs.declared.ending.Ending.TheVariants.{Run, Silent}
+use Rattle.jobs.proofs.Holding.{upto_next, upto_whole}
+use Rattle.run_parts.specs.Told.{AppendsUpTo}
+use Rattle.run_parts.specs.declared.outcome.Failure.{Failure}
+use Rattle.run_parts.specs.declared.outcome.Outcome.TheVariants.{Failed}
+use Rattle.jobs.specs.Every.{AppendsFile, AppendsNamed, CutsFile}
 use Rattle.jobs.specs.Files.{Every, no_files, one_more, greater}
 use Rattle.jobs.specs.Gives.{Gives}
-use Rattle.jobs.specs.Names.{AreNamed}
+use Rattle.jobs.specs.Names.{AreListed, AreListedFirst, AreNamed, AreNamedFirst, first_listed, none_listed}
 use Rattle.run_parts.specs.declared.status.Status.{Status}
 use Rattle.run_parts.specs.declared.status.Status.TheVariants.{Done}
 use Rattle.text_output.proofs.Parts.{Appends-keeps}
@@ -19,6 +30,10 @@ pub none_written : (gives : Gives) (every : Every) (AreNames : List (List ℕ) �
 none_written gives every AreNames out are =
     record { names = []; are = are; lines = []; written = no_files; appends = Appends-nil out }
 
+-- the lines of some files, and one more
+joined : (lines : List (List ℕ)) (line : List ℕ) → concat (lines ++ line ∷ []) ≡ concat lines ++ line
+joined lines line = concat-append lines (line ∷ []) ∙ ap (λ last. concat lines ++ last) (append-nil line)
+
 -- after one more
 pub one_written : (gives : Gives) (every : Every) (AreNames AreMore : List (List ℕ) → Type 0) (name : List ℕ)
     (out out' out'' : Option (List ℕ)) (greatest status : Status)
@@ -28,9 +43,10 @@ pub one_written : (gives : Gives) (every : Every) (AreNames AreMore : List (List
 one_written gives every AreNames AreMore name out out' out'' greatest status more h file = record {
   names = h.names ++ name ∷ [];
   are = more h.names h.are;
-  lines = h.lines ++ file.line;
+  lines = h.lines ++ file.line ∷ [];
   written = one_more h.written file.written;
-  appends = Appends-trans out out' out'' h.lines file.line h.appends file.appends;
+  appends = subst (λ text. Appends out out'' text) (sym (joined h.lines file.line))
+      (Appends-trans out out' out'' (concat h.lines) file.line h.appends file.appends);
 }
 
 -- nothing more is written
@@ -43,16 +59,70 @@ kept_written gives every AreNames out out' out'' greatest h keeps = record {
   are = h.are;
   lines = h.lines;
   written = h.written;
-  appends = Appends-keeps out out' out'' h.lines h.appends keeps;
+  appends = Appends-keeps out out' out'' (concat h.lines) h.appends keeps;
 }
 
--- the same files, whose names are told in another way
-pub named_otherwise : (gives : Gives) (every : Every) (AreNames Are : List (List ℕ) → Type 0)
-    (out out' : Option (List ℕ)) (greatest : Status)
-    → ((names : List (List ℕ)) → AreNames names → Are names) → AppendsNamed gives every AreNames out out' greatest
-    → AppendsNamed gives every Are out out' greatest
-named_otherwise gives every AreNames Are out out' greatest other h =
-    record { names = h.names; are = other h.names h.are; lines = h.lines; written = h.written; appends = h.appends }
+first_otherwise : (IsList Is : Option (List ℕ) → Type 0) → ((bytes : Option (List ℕ)) → IsList bytes → Is bytes)
+    → (names : List (List ℕ)) → AreListedFirst IsList names → AreListedFirst Is names
+first_otherwise IsList Is other _ none_listed = none_listed
+first_otherwise IsList Is other names (first_listed {list = list} is read) = first_listed (other list is) read
+
+-- the same files, of a list that is told in another way
+pub listed_otherwise : (gives : Gives) (every : Every) (IsList Is : Option (List ℕ) → Type 0) (MayEnd : Failure → Type 0)
+    → ((bytes : Option (List ℕ)) → IsList bytes → Is bytes) → (lines : List (List ℕ)) (end : Option End)
+    → DueFiles gives every (AreListed IsList) (AreListedFirst IsList) MayEnd lines end
+    → DueFiles gives every (AreListed Is) (AreListedFirst Is) MayEnd lines end
+listed_otherwise gives every IsList Is MayEnd other lines _ (all_files are written) =
+    all_files (record { list = are.list; rest = are.rest; is = other are.list are.is; read = are.read; end = are.end })
+    written
+listed_otherwise gives every IsList Is MayEnd other lines _ (first_files {names = names} are written) =
+    first_files (first_otherwise IsList Is other names are) written
+listed_otherwise gives every IsList Is MayEnd other lines _ (files_end {names = names} may are written) =
+    files_end may (first_otherwise IsList Is other names are) written
+
+-- all of them are written
+pub all_hold : (gives : Gives) (every : Every) (AreAll AreFirst : List (List ℕ) → Type 0) (MayEnd : Failure → Type 0)
+    (out out' : Option (List ℕ)) (greatest : Status) → AppendsNamed gives every AreAll out out' greatest
+    → Holds (DueFiles gives every AreAll AreFirst MayEnd) out out' (Ok (Silent greatest))
+all_hold gives every AreAll AreFirst MayEnd out out' greatest h = whole (all_files h.are h.written) h.appends
+
+-- the first of them are, and a name is lacking
+pub first_hold : (gives : Gives) (every : Every) (AreAll AreFirst AreSome : List (List ℕ) → Type 0)
+    (MayEnd : Failure → Type 0) (out out' : Option (List ℕ)) (greatest : Status) (why : Failure)
+    → ((names : List (List ℕ)) → AreSome names → AreFirst names) → MayEnd why
+    → AppendsNamed gives every AreSome out out' greatest
+    → Holds (DueFiles gives every AreAll AreFirst MayEnd) out out' (Ok (Run (Failed why)))
+first_hold gives every AreAll AreFirst AreSome MayEnd out out' greatest why first may h =
+    whole (files_end may (first h.names h.are) h.written) h.appends
+
+-- the first of them are, and the output fails
+pub unflushed_hold : (gives : Gives) (every : Every) (AreAll AreFirst AreSome : List (List ℕ) → Type 0)
+    (MayEnd : Failure → Type 0) (out out' : Option (List ℕ)) (greatest : Status)
+    → ((names : List (List ℕ)) → AreSome names → AreFirst names)
+    → AppendsNamed gives every AreSome out out' greatest
+    → Holds (DueFiles gives every AreAll AreFirst MayEnd) out out' output_fails
+unflushed_hold gives every AreAll AreFirst AreSome MayEnd out out' greatest first h =
+    early (first_files (first h.names h.are) h.written) (upto_whole out out' (concat h.lines) h.appends)
+
+-- or it fails at the next of them
+pub cut_hold : (gives : Gives) (every : Every) (AreAll AreFirst AreSome : List (List ℕ) → Type 0)
+    (MayEnd : Failure → Type 0) (name : List ℕ) (out mid out' : Option (List ℕ)) (greatest : Status)
+    → ((names : List (List ℕ)) → AreSome names → AreFirst (names ++ name ∷ []))
+    → AppendsNamed gives every AreSome out mid greatest → CutsFile gives every name mid out'
+    → Holds (DueFiles gives every AreAll AreFirst MayEnd) out out' output_fails
+cut_hold gives every AreAll AreFirst AreSome MayEnd name out mid out' greatest first h file =
+    early (first_files (first h.names h.are) (one_more h.written file.written))
+    (subst (λ text. AppendsUpTo out out' text) (sym (joined h.lines file.line))
+    (upto_next out mid out' (concat h.lines) file.line h.appends file.appends))
+
+-- the names of some arguments are the first of all
+pub named_first : (IsName : (word name : List ℕ) → Type 0) (words : List (String Global)) (count : ℕ)
+    (names : List (List ℕ)) → AreNamed IsName (take count words) names → AreNamedFirst IsName names words
+named_first IsName words count [] h = tt
+named_first IsName [] zero (name ∷ names) h = absurd h
+named_first IsName [] (suc count) (name ∷ names) h = absurd h
+named_first IsName (word ∷ words) zero (name ∷ names) h = absurd h
+named_first IsName (word ∷ words) (suc count) (name ∷ names) h = (h.0, named_first IsName words count names h.1)
 
 -- one more word stands for one more name
 pub word_named : (IsName : (word name : List ℕ) → Type 0) (words : List (String Global)) (names : List (List ℕ))

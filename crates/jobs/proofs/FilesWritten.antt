@@ -1,13 +1,13 @@
 -- What is written about files.
-use Rattle.std.proofs.Common.{◌≡◌, ◌∙◌, ℕ, List, [], Bool, false, Option, Result, Ok, Err, IfOk, OnOk, refl, sym, ap, subst}
+use Rattle.std.proofs.Common.{◌≡◌, ◌∙◌, ℕ, List, [], Bool, false, Option, Result, Ok, Err, IfOk, OnErr, OnOk, refl, sym, ap, subst}
 use Rattle.std.specs.Io.KnownBytes.{Appends, Keeps}
-use Rattle.bit_space.specs.SpaceView.{SpaceView}
+use Rattle.bit_space.specs.SpaceView.{HasRisen, SpaceView}
 use Rattle.command_line.specs.declared.ask.Ask.{Ask}
 use Rattle.command_line.specs.declared.fault_form.FaultForm.{FaultForm}
 use Rattle.jobs.specs.Aims.{IsAskOf}
-use Rattle.jobs.specs.Every.{AppendsFile, unmapped_text}
+use Rattle.jobs.specs.Every.{AppendsFile, CutsFile, unmapped_text}
 use Rattle.jobs.specs.FaultNames.{failure_of}
-use Rattle.jobs.specs.Files.{Every, IsFormed, runs, RunsFile, no_text, unopened, no_cache, opened, AppendsRun, AppendsOver}
+use Rattle.jobs.specs.Files.{Every, IsFormed, RunsOver, runs, starts_nowhere, RunsFile, no_text, unopened, no_cache, opened, WritesRun, AppendsRun, AppendsOver, CutsRun, CutsOver}
 use Rattle.jobs.specs.Gives.{Gives}
 use Rattle.jobs.specs.Opened.{FailsNamed, not_text, not_opened, no_pages}
 use Rattle.jobs.specs.declared.fault.FileFault.{FileFault}
@@ -22,6 +22,8 @@ use Rattle.run_parts.specs.declared.outcome.Outcome.{Outcome}
 use Rattle.run_parts.specs.declared.outcome.Outcome.TheVariants as outcome
 use Rattle.run_parts.specs.declared.status.Status.{Status}
 use Rattle.text_output.proofs.Parts.{Appends-keeps}
+use Rattle.text_output.specs.Written.{AppendsPart}
+use Rattle.jobs.proofs.Holding.{upto_part, upto_whole}
 
 -- what is written of a file that wasn't mapped
 unmapped_formed : (form : FileForm) (why : Bool) (name : List ℕ) (ended : Outcome) (lines : List ℕ) →
@@ -47,47 +49,122 @@ unmapped_written Runs every name ended lines (Ok status) out out' quiet run same
   appends = whole;
 }
 
+-- a part of it
+pub unmapped_cut : {T E : Type 0} (Runs : Outcome → (text : List ℕ) → Type 0) (every : Every) (name : List ℕ)
+    (ended : Outcome) (lines : List ℕ) (r : Result T E) (out out' : Option (List ℕ))
+    → (every.why ≡ false → lines ≡ []) → Runs ended []
+    → OnErr r (AppendsPart out out' (unmapped_text every.form name ended lines))
+    → OnErr r (CutsRun Runs every name out out')
+unmapped_cut Runs every name ended lines (Ok status) out out' quiet run part = tt
+unmapped_cut Runs every name ended lines (Err e) out out' quiet run part = record {
+  status = outcome_status ended;
+  line = unmapped_text every.form name ended lines;
+  written = record {
+    ended = ended;
+    text = [];
+    run = run;
+    status_is = refl;
+    formed = unmapped_formed every.form every.why name ended lines quiet;
+  };
+  appends = upto_part out out' _ part;
+}
+
 -- the line of a file that was mapped
-pub line_written : (every : Every) (file after : SpaceView) (ask : Ask) (faults : FaultForm) (name : List ℕ)
-    (status : Status) (out out' out'' : Option (List ℕ))
-    → every.form ≡ Line faults → IsAskOf every.aim file.len ask
+line_of : {Takes : Option (List ℕ) → Option (List ℕ) → List ℕ → Type 0} (every : Every) (file after : SpaceView)
+    (MayFail : Type 0) (ask : Ask) (faults : FaultForm) (name : List ℕ) (status : Status) (out out' : Option (List ℕ))
+    → every.form ≡ Line faults → IsAskOf every.aim file.len ask → (HasRisen file.failures after.failures → MayFail)
+    → (h : TellsFile faults (MapsUnder every.pickle ask every.terms file after) Takes name status out out')
+    → WritesRun (RunsOver every file MayFail) every name status (file_line faults name (in_memory h.ended) h.text)
+line_of every file after MayFail ask faults name status out out' form is may h = record {
+  ended = in_memory h.ended;
+  text = h.text;
+  run = runs is may h.ends;
+  status_is = h.status_is;
+  formed = subst
+      (λ f. IsFormed f every.why name (in_memory h.ended) h.text (file_line faults name (in_memory h.ended) h.text))
+      (sym form) refl;
+}
+
+pub line_written : (every : Every) (file after : SpaceView) (MayFail : Type 0) (ask : Ask) (faults : FaultForm)
+    (name : List ℕ) (status : Status) (out out' out'' : Option (List ℕ))
+    → every.form ≡ Line faults → IsAskOf every.aim file.len ask → (HasRisen file.failures after.failures → MayFail)
     → TellsFile faults (MapsUnder every.pickle ask every.terms file after) Appends name status out out'
     → Keeps out' out''
-    → AppendsOver file every name out out'' status
-line_written every file after ask faults name status out out' out'' form is h keeps = record {
+    → AppendsOver file MayFail every name out out'' status
+line_written every file after MayFail ask faults name status out out' out'' form is may h keeps = record {
   line = file_line faults name (in_memory h.ended) h.text;
-  written = record {
-    ended = in_memory h.ended;
-    text = h.text;
-    run = runs is h.ends;
-    status_is = h.status_is;
-    formed = subst
-        (λ f. IsFormed f every.why name (in_memory h.ended) h.text (file_line faults name (in_memory h.ended) h.text))
-        (sym form) refl;
-  };
+  written = line_of every file after MayFail ask faults name status out out' form is may h;
   appends = Appends-keeps out out' out'' _ h.takes keeps;
 }
 
+-- that line, and an output that failed after it, or in it
+pub line_unflushed : (every : Every) (file after : SpaceView) (MayFail : Type 0) (ask : Ask) (faults : FaultForm)
+    (name : List ℕ) (status : Status) (out out' out'' : Option (List ℕ))
+    → every.form ≡ Line faults → IsAskOf every.aim file.len ask → (HasRisen file.failures after.failures → MayFail)
+    → TellsFile faults (MapsUnder every.pickle ask every.terms file after) Appends name status out out'
+    → Keeps out' out''
+    → CutsOver file MayFail every name out out''
+line_unflushed every file after MayFail ask faults name status out out' out'' form is may h keeps = record {
+  status = status;
+  line = file_line faults name (in_memory h.ended) h.text;
+  written = line_of every file after MayFail ask faults name status out out' form is may h;
+  appends = upto_whole out out'' _ (Appends-keeps out out' out'' _ h.takes keeps);
+}
+
+pub line_cut : (every : Every) (file after : SpaceView) (MayFail : Type 0) (ask : Ask) (faults : FaultForm)
+    (name : List ℕ) (status : Status) (out out' : Option (List ℕ))
+    → every.form ≡ Line faults → IsAskOf every.aim file.len ask → (HasRisen file.failures after.failures → MayFail)
+    → TellsFile faults (MapsUnder every.pickle ask every.terms file after) AppendsPart name status out out'
+    → CutsOver file MayFail every name out out'
+line_cut every file after MayFail ask faults name status out out' form is may h = record {
+  status = status;
+  line = file_line faults name (in_memory h.ended) h.text;
+  written = line_of every file after MayFail ask faults name status out out' form is may h;
+  appends = upto_part out out' _ h.takes;
+}
+
 -- the object of a file that was mapped
-pub object_written : {E : Type 0} (every : Every) (file after : SpaceView) (ask : Ask) (name lines : List ℕ)
-    (kept : Kept) (r : Result Status E) (out out' : Option (List ℕ))
+object_of : (every : Every) (file after : SpaceView) (MayFail : Type 0) (ask : Ask) (name lines : List ℕ) (kept : Kept)
+    (status : Status) → every.form ≡ Object → (every.why ≡ false → lines ≡ []) → IsAskOf every.aim file.len ask
+    → (HasRisen file.failures after.failures → MayFail)
+    → HoldsRun (MapsUnder every.pickle ask every.terms file after) kept → status ≡ outcome_status kept.outcome
+    → WritesRun (RunsOver every file MayFail) every name status (kept_object kept name lines)
+object_of every file after MayFail ask name lines kept status form quiet is may h same = record {
+  ended = in_memory h.ended;
+  text = kept.text.items;
+  run = runs is may h.ends;
+  status_is = same ∙ ap outcome_status h.outcome_is;
+  formed = subst (λ f. IsFormed f every.why name (in_memory h.ended) kept.text.items (kept_object kept name lines))
+      (sym form) (lines, quiet, ap (λ ended. file_object name ended kept.text.items lines) h.outcome_is);
+}
+
+pub object_written : {E : Type 0} (every : Every) (file after : SpaceView) (MayFail : Type 0) (ask : Ask)
+    (name lines : List ℕ) (kept : Kept) (r : Result Status E) (out out' : Option (List ℕ))
     → every.form ≡ Object → (every.why ≡ false → lines ≡ []) → IsAskOf every.aim file.len ask
+    → (HasRisen file.failures after.failures → MayFail)
     → HoldsRun (MapsUnder every.pickle ask every.terms file after) kept
     → IfOk r (λ status. status ≡ outcome_status kept.outcome) → OnOk r (Appends out out' (kept_object kept name lines))
-    → IfOk r (AppendsOver file every name out out')
-object_written every file after ask name lines kept (Err e) out out' form quiet is h same whole = tt
-object_written every file after ask name lines kept (Ok status) out out' form quiet is h same whole = record {
+    → IfOk r (AppendsOver file MayFail every name out out')
+object_written every file after MayFail ask name lines kept (Err e) out out' form quiet is may h same whole = tt
+object_written every file after MayFail ask name lines kept (Ok status) out out' form quiet is may h same whole = record {
   line = kept_object kept name lines;
-  written = record {
-    ended = in_memory h.ended;
-    text = kept.text.items;
-    run = runs is h.ends;
-    status_is = same ∙ ap outcome_status h.outcome_is;
-    formed = subst (λ f. IsFormed f every.why name (in_memory h.ended) kept.text.items (kept_object kept name lines))
-        (sym form)
-        (lines, quiet, ap (λ ended. file_object name ended kept.text.items lines) h.outcome_is);
-  };
+  written = object_of every file after MayFail ask name lines kept status form quiet is may h same;
   appends = whole;
+}
+
+pub object_cut : {E : Type 0} (every : Every) (file after : SpaceView) (MayFail : Type 0) (ask : Ask)
+    (name lines : List ℕ) (kept : Kept) (r : Result Status E) (out out' : Option (List ℕ))
+    → every.form ≡ Object → (every.why ≡ false → lines ≡ []) → IsAskOf every.aim file.len ask
+    → (HasRisen file.failures after.failures → MayFail)
+    → HoldsRun (MapsUnder every.pickle ask every.terms file after) kept
+    → OnErr r (AppendsPart out out' (kept_object kept name lines))
+    → OnErr r (CutsOver file MayFail every name out out')
+object_cut every file after MayFail ask name lines kept (Ok status) out out' form quiet is may h part = tt
+object_cut every file after MayFail ask name lines kept (Err e) out out' form quiet is may h part = record {
+  status = outcome_status kept.outcome;
+  line = kept_object kept name lines;
+  written = object_of every file after MayFail ask name lines kept (outcome_status kept.outcome) form quiet is may h refl;
+  appends = upto_part out out' _ part;
 }
 
 -- a file that isn't opened
@@ -97,20 +174,43 @@ fails_run gives every name fault (not_text bad) = no_text bad
 fails_run gives every name fault (not_opened h) = unopened h
 fails_run gives every name fault no_pages = no_cache
 
--- a file that is opened
-pub opened_written : (gives : Gives) (every : Every) (name : List ℕ) (file : SpaceView)
+-- a file that is opened, of which a read may fail
+may_more : (every : Every) (file : SpaceView) (A B : Type 0) (ended : Outcome) (text : List ℕ) → (A → B)
+    → RunsOver every file A ended text → RunsOver every file B ended text
+may_more every file A B _ _ more (starts_nowhere none) = starts_nowhere none
+may_more every file A B _ _ more (runs {after = after} is may ends) = runs {after = after} is (λ risen. more (may risen)) ends
+
+opened_run : (gives : Gives) (every : Every) (name line : List ℕ) (file : SpaceView) (MayFail : Type 0) (status : Status)
+    → gives.is_file name every.spool file → (MayFail → gives.is_failing name)
+    → WritesRun (RunsOver every file MayFail) every name status line
+    → WritesRun (RunsFile gives every name) every name status line
+opened_run gives every name line file MayFail status is may written = record {
+  ended = written.ended;
+  text = written.text;
+  run = opened is (may_more every file MayFail (gives.is_failing name) written.ended written.text may written.run);
+  status_is = written.status_is;
+  formed = written.formed;
+}
+
+pub opened_written : (gives : Gives) (every : Every) (name : List ℕ) (file : SpaceView) (MayFail : Type 0)
     (out out' out'' : Option (List ℕ)) (status : Status) → gives.is_file name every.spool file
-    → AppendsOver file every name out out' status → Keeps out' out'' → AppendsFile gives every name out out'' status
-opened_written gives every name file out out' out'' status is h keeps = record {
+    → (MayFail → gives.is_failing name)
+    → AppendsOver file MayFail every name out out' status → Keeps out' out''
+    → AppendsFile gives every name out out'' status
+opened_written gives every name file MayFail out out' out'' status is may h keeps = record {
   line = h.line;
-  written = record {
-    ended = h.written.ended;
-    text = h.written.text;
-    run = opened is h.written.run;
-    status_is = h.written.status_is;
-    formed = h.written.formed;
-  };
+  written = opened_run gives every name h.line file MayFail status is may h.written;
   appends = Appends-keeps out out' out'' h.line h.appends keeps;
+}
+
+pub opened_cut : (gives : Gives) (every : Every) (name : List ℕ) (file : SpaceView) (MayFail : Type 0)
+    (out out' : Option (List ℕ)) → gives.is_file name every.spool file → (MayFail → gives.is_failing name)
+    → CutsOver file MayFail every name out out' → CutsFile gives every name out out'
+opened_cut gives every name file MayFail out out' is may h = record {
+  status = h.status;
+  line = h.line;
+  written = opened_run gives every name h.line file MayFail h.status is may h.written;
+  appends = h.appends;
 }
 
 -- what is written stays where nothing more is written
@@ -119,3 +219,14 @@ pub run_kept : (Runs : Outcome → (text : List ℕ) → Type 0) (every : Every)
     → AppendsRun Runs every name out out'' status
 run_kept Runs every name out out' out'' status h keeps =
     record { line = h.line; written = h.written; appends = Appends-keeps out out' out'' h.line h.appends keeps }
+
+-- an output that failed after it
+pub run_unflushed : (Runs : Outcome → (text : List ℕ) → Type 0) (every : Every) (name : List ℕ)
+    (out out' out'' : Option (List ℕ)) (status : Status) → AppendsRun Runs every name out out' status → Keeps out' out''
+    → CutsRun Runs every name out out''
+run_unflushed Runs every name out out' out'' status h keeps = record {
+  status = status;
+  line = h.line;
+  written = h.written;
+  appends = upto_whole out out'' h.line (Appends-keeps out out' out'' h.line h.appends keeps);
+}

@@ -1,4 +1,7 @@
-mod Written
+mod Holding
 mod Answered
+mod Mapped
+mod Dumped
 mod FilesWritten
 mod EachWritten
+mod Asked

@@ -1,7 +1,7 @@
 -- What is written about many files, by what their runs are given.
 use Rattle.std.specs.Prelude.{ℕ, List, [], Option}
 use Rattle.jobs.specs.Gives.{Gives}
-use Rattle.jobs.specs.Files.{Every, AppendsFiles, AppendsRun, RunsFile, WritesRuns}
+use Rattle.jobs.specs.Files.{Every, AppendsFiles, AppendsRun, CutsRun, RunsFile, WritesRuns}
 use Rattle.jobs.specs.Aims.{aim_of}
 use Rattle.jobs.specs.declared.file_run.FileForm.{FileForm}
 use Rattle.jobs.specs.declared.file_run.FileForm.TheVariants.{Line, Object}
@@ -36,6 +36,10 @@ unmapped_text Object name ended lines = file_object name ended [] lines
 -- the line or object of the file of a name, by what an opener gives
 abbrev pub AppendsFile : Gives → Every → (name : List ℕ) → (out out' : Option (List ℕ)) → Status → Type 0
 AppendsFile gives every name = AppendsRun (RunsFile gives every name) every name
+
+-- the output failed at it
+abbrev pub CutsFile : Gives → Every → (name : List ℕ) → (out out' : Option (List ℕ)) → Type 0
+CutsFile gives every name = CutsRun (RunsFile gives every name) every name
 
 -- those of many files whose names are these
 abbrev pub AppendsNamed : Gives → Every → (AreNames : List (List ℕ) → Type 0) → (out out' : Option (List ℕ)) →

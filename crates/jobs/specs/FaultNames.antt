@@ -1,7 +1,9 @@
--- What failed, by the fault of a file.
+-- What failed, by the fault of a file or of a list.
 use Rattle.bit_space.specs.declared.file.OpenFault.TheVariants as unopened
 use Rattle.jobs.specs.declared.fault.FileFault.{FileFault}
 use Rattle.jobs.specs.declared.fault.FileFault.TheVariants as file
+use Rattle.jobs.specs.declared.names.ListFault.{ListFault}
+use Rattle.jobs.specs.declared.names.ListFault.TheVariants as listed
 use Rattle.run_parts.specs.declared.dump.DumpFault.TheVariants as dump
 use Rattle.run_parts.specs.declared.outcome.Failure.{Failure}
 use Rattle.run_parts.specs.declared.outcome.Failure.TheVariants as failure
@@ -19,3 +21,8 @@ failure_of (file.Stream stream.Memory) = failure.Memory
 failure_of (file.Dump dump.Device) = failure.Device
 failure_of (file.Dump dump.Write) = failure.Write
 failure_of file.Memory = failure.Memory
+
+abbrev pub list_failure : ListFault → Failure
+list_failure listed.Read = failure.Read
+list_failure listed.Memory = failure.Memory
+list_failure listed.Write = failure.Write

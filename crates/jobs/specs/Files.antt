@@ -1,7 +1,8 @@
 -- What is written about many files.
 use Rattle.std.specs.Prelude.{◌≡◌, ℕ, Bool, false, List, [], ◌∷◌, ◌++◌, Option, Some, None, nat_lt, if◌then◌else◌, IsUtf8}
+use Rattle.std.specs.List.{concat}
 use Rattle.std.specs.Io.KnownBytes.{Appends}
-use Rattle.bit_space.specs.SpaceView.{SpaceView}
+use Rattle.bit_space.specs.SpaceView.{HasRisen, SpaceView}
 use Rattle.command_line.specs.Starts.{start_bit}
 use Rattle.command_line.specs.declared.ask.Ask.{Ask}
 use Rattle.command_line.specs.declared.fault_form.FaultForm.{FaultForm}
@@ -21,6 +22,7 @@ use Rattle.run_parts.specs.declared.outcome.Outcome.{Outcome}
 use Rattle.run_parts.specs.declared.outcome.Outcome.TheVariants as outcome
 use Rattle.text_output.specs.declared.mode.Mode.{Mode}
 use Rattle.text_output.specs.declared.mode.Mode.TheVariants.{Flat, Tree, Json, Lines}
+use Rattle.run_parts.specs.Told.{AppendsUpTo}
 use Rattle.run_parts.specs.declared.status.Status.{Status}
 use Rattle.run_parts.specs.declared.status.Status.TheVariants.{Done, Fault, Refused, Outside}
 
@@ -57,12 +59,13 @@ IsFormed (Line faults) why name ended text line = line ≡ file_line faults name
 IsFormed Object why name ended text line =
     (reasons : List ℕ) × (why ≡ false → reasons ≡ []) × (line ≡ file_object name ended text reasons)
 
--- how the run over an open file ends, and the text that it writes
-pub data RunsOver (every : Every) (file : SpaceView) : Outcome → (text : List ℕ) → Type 0 where
-  starts_nowhere : start_bit every.aim.start file.len ≡ None → RunsOver every file outcome.Offset []
+-- how the run over an open file ends, and the text that it writes; whether a read of the file may fail
+pub data RunsOver (every : Every) (file : SpaceView) (MayFail : Type 0) : Outcome → (text : List ℕ) → Type 0 where
+  starts_nowhere : start_bit every.aim.start file.len ≡ None → RunsOver every file MayFail outcome.Offset []
   runs : {after : SpaceView} {ask : Ask} {ended : Outcome} {text : List ℕ} → IsAskOf every.aim file.len ask
+      → (HasRisen file.failures after.failures → MayFail)
       → EndsAs (MapsUnder every.pickle ask every.terms file after) ended (Some []) (Some text)
-      → RunsOver every file (in_memory ended) text
+      → RunsOver every file MayFail (in_memory ended) text
 
 -- a line or an object is written of a run that is like this, with its exit status
 pub record WritesRun (Runs : Outcome → (text : List ℕ) → Type 0) (every : Every) (name : List ℕ) (status : Status)
@@ -81,15 +84,15 @@ module _ (gives : Gives) where
         RunsFile every name (outcome.Failed (failure_of fault)) []
     no_cache : RunsFile every name (outcome.Failed failure.Memory) []
     opened : {file : SpaceView} {ended : Outcome} {text : List ℕ} → gives.is_file name every.spool file →
-        RunsOver every file ended text → RunsFile every name ended text
+        RunsOver every file (gives.is_failing name) ended text → RunsFile every name ended text
 
-  -- what is written of files, one after the other, with the greatest exit status
-  pub data WritesRuns (every : Every) : (names : List (List ℕ)) → Status → (lines : List ℕ) → Type 0 where
+  -- the lines that are written of files, one after the other, with the greatest exit status
+  pub data WritesRuns (every : Every) : (names : List (List ℕ)) → Status → (lines : List (List ℕ)) → Type 0 where
     no_files : WritesRuns every [] Done []
-    one_more : {names : List (List ℕ)} {name lines line : List ℕ} {greatest status : Status}
+    one_more : {names lines : List (List ℕ)} {name line : List ℕ} {greatest status : Status}
         → WritesRuns every names greatest lines
         → WritesRun (RunsFile every name) every name status line
-        → WritesRuns every (names ++ name ∷ []) (greater greatest status) (lines ++ line)
+        → WritesRuns every (names ++ name ∷ []) (greater greatest status) (lines ++ line ∷ [])
 
 -- the run of a file is written after what is there
 pub record AppendsRun (Runs : Outcome → (text : List ℕ) → Type 0) (every : Every) (name : List ℕ)
@@ -98,14 +101,27 @@ pub record AppendsRun (Runs : Outcome → (text : List ℕ) → Type 0) (every :
   pub written : WritesRun Runs every name status line
   pub appends : Appends out out' line
 
-abbrev pub AppendsOver : SpaceView → Every → (name : List ℕ) → (out out' : Option (List ℕ)) → Status → Type 0
-AppendsOver file every = AppendsRun (RunsOver every file) every
+-- the output failed at it: its first bytes are written, or all of them
+pub record CutsRun (Runs : Outcome → (text : List ℕ) → Type 0) (every : Every) (name : List ℕ)
+    (out out' : Option (List ℕ)) : Type 0 where
+  pub status : Status
+  pub line : List ℕ
+  pub written : WritesRun Runs every name status line
+  pub appends : AppendsUpTo out out' line
+
+-- the same over an open file
+abbrev pub AppendsOver : SpaceView → (MayFail : Type 0) → Every → (name : List ℕ) → (out out' : Option (List ℕ)) →
+    Status → Type 0
+AppendsOver file MayFail every = AppendsRun (RunsOver every file MayFail) every
+
+abbrev pub CutsOver : SpaceView → (MayFail : Type 0) → Every → (name : List ℕ) → (out out' : Option (List ℕ)) → Type 0
+CutsOver file MayFail every = CutsRun (RunsOver every file MayFail) every
 
 -- what is written of many files whose names are these, one after the other, with the greatest exit status
-pub record AppendsFiles (Writes : (names : List (List ℕ)) → Status → (lines : List ℕ) → Type 0)
+pub record AppendsFiles (Writes : (names : List (List ℕ)) → Status → (lines : List (List ℕ)) → Type 0)
     (AreNames : List (List ℕ) → Type 0) (out out' : Option (List ℕ)) (greatest : Status) : Type 0 where
   pub names : List (List ℕ)
   pub are : AreNames names
-  pub lines : List ℕ
+  pub lines : List (List ℕ)
   pub written : Writes names greatest lines
-  pub appends : Appends out out' lines
+  pub appends : Appends out out' (concat lines)

@@ -1,24 +1,125 @@
--- What jobs give to their runs.
-use Rattle.std.specs.Prelude.{Bool, ℕ, List, Option}
+-- What jobs give to their runs, and what these write.
+use Rattle.std.specs.Prelude.{◌≡◌, ◌≤◌, Bool, ℕ, List, Option, Some, IsSome, Result, Ok, Err, String, string_bytes}
+use Rattle.std.specs.Borrow.{Bor}
+use Rattle.std.specs.declared.alloc.Global.{Global}
+use Rattle.std.specs.Io.KnownBytes.{Appends, Keeps}
 use Rattle.bit_space.specs.SpaceView.{SpaceView}
 use Rattle.command_line.specs.declared.ask.Ask.{Ask}
 use Rattle.command_line.specs.declared.terms.Terms.{Terms}
-use Rattle.jobs.specs.Jobs.{AddsIf, DumpsOver, StopsDump}
+use Rattle.command_line.specs.declared.answer_form.AnswerForm.{AnswerForm}
+use Rattle.command_line.specs.declared.words.Job.{Job}
+use Rattle.command_line.specs.declared.words.Job.TheVariants as job
+use Rattle.jobs.specs.Due.{DueRun, End, Holds}
+use Rattle.jobs.specs.FaultNames.{list_failure}
+use Rattle.jobs.specs.Gives.{Gives}
+use Rattle.jobs.specs.Files.{Every}
+use Rattle.jobs.specs.Jobs.{DueCheckIn, DueFiles, DueSpace, DueTypesIn, HoldsDump}
+use Rattle.jobs.specs.Names.{AreListed, AreListedFirst, AreNamed, AreNamedFirst, StopsList}
 use Rattle.jobs.specs.declared.dumps.Range.{Range}
-use Rattle.poke_batch.specs.RunsUnder.{MapsUnder}
-use Rattle.run_parts.specs.Outcomes.{EndsAs}
+use Rattle.jobs.specs.declared.ending.Ending.{Ending}
+use Rattle.jobs.specs.declared.ending.Ending.TheVariants.{Run, Silent}
+use Rattle.jobs.specs.declared.fault.FileFault.{FileFault}
+use Rattle.jobs.specs.declared.fault.FileFault.TheVariants as fault
+use Rattle.jobs.specs.declared.names.ListFault.{ListFault}
+use Rattle.jobs.specs.declared.pickles.Question.{Question}
+use Rattle.jobs.specs.declared.pickles.Question.TheVariants as about
+use Rattle.poke_batch.specs.Runs.{BoundsAs}
+use Rattle.run_parts.specs.Outcomes.{outcome_status}
+use Rattle.run_parts.specs.declared.dump.DumpFault.{DumpFault}
+use Rattle.run_parts.specs.declared.dump.DumpFault.TheVariants as dump
+use Rattle.run_parts.specs.declared.outcome.Failure.TheVariants as failure
 use Rattle.run_parts.specs.declared.outcome.Outcome.{Outcome}
+use Rattle.run_parts.specs.declared.outcome.Outcome.TheVariants as outcome
+use Rattle.run_parts.specs.declared.status.Status.{Status}
+use Rattle.run_parts.specs.declared.status.Status.TheVariants.{Fault}
+use Rattle.text_bounds.specs.TextRuns.{TextBoundsAs}
+use Rattle.text_output.specs.Written.{AppendsPart}
+use Rattle.text_output.specs.declared.mode.Mode.{Mode}
+use Rattle.text_output.specs.declared.style.Style.{Style}
+use Rattle.text_output.specs.declared.write.WriteFault.{WriteFault}
 
-abbrev pub DumpsRange : (IsFile : SpaceView → Type 0) → Range → (out out' : Option (List ℕ)) → Type 0
-DumpsRange IsFile range out out' = DumpsOver IsFile range.from range.size range.ruler out out'
+-- what standard output holds of a dump of a range
+abbrev pub HoldsRange : Gives → (path : List ℕ) → Range → (out out' : Option (List ℕ)) → End → Type 0
+HoldsRange gives path range out out' = HoldsDump gives path range.from range.size range.ruler out out'
 
-abbrev pub StopsRange : (IsFile : SpaceView → Type 0) → Range → (out out' : Option (List ℕ)) → Type 0
-StopsRange IsFile range out out' = StopsDump IsFile range.from range.size range.ruler out out'
+-- what is due of a question about a pickle
+abbrev pub DueAnswer : (why : Bool) → Question → (pickle : List ℕ) → (lines : List (List ℕ)) → Option End → Type 0
+DueAnswer why (about.Check form) pickle = DueCheckIn why form pickle
+DueAnswer why (about.Types form) pickle = DueTypesIn why form pickle
+DueAnswer why (about.Bound name bits) pickle = DueRun (BoundsAs pickle name.now bits)
+DueAnswer why (about.BoundText name texts) pickle =
+    DueRun (TextBoundsAs pickle name.now texts.bits texts.style texts.mode)
 
--- a run over a space, and more for the eye, if reasons are requested
-pub record MapsSpace (pickle : List ℕ) (ask : Ask) (terms : Terms) (space : SpaceView) (why : Bool)
+-- that question is the one of a job, about the pickle that an argument names
+pub data IsAskedAbout (form : AnswerForm) (word : List ℕ) : Job → Question → Type 0 where
+  of_check : {pickle : String Global} → word ≡ string_bytes pickle →
+      IsAskedAbout form word (job.Check pickle) (about.Check form)
+  of_types : {pickle : String Global} → word ≡ string_bytes pickle →
+      IsAskedAbout form word (job.Types pickle) (about.Types form)
+  of_bound : {pickle name : String Global} {bits : ℕ} (given : Bor (List ℕ)) → word ≡ string_bytes pickle
+      → given.now ≡ string_bytes name
+      → IsAskedAbout form word (job.Bound pickle name bits) (about.Bound given bits)
+  of_text : {pickle name : String Global} {bits : ℕ} {mode : Option Mode} {style : Style} (given : Bor (List ℕ))
+      → word ≡ string_bytes pickle → given.now ≡ string_bytes name
+      → IsAskedAbout form word (job.BoundText pickle name bits mode style)
+      (about.BoundText given (record { bits = bits; style = style; mode = mode }))
+
+-- the jobs that have none
+abbrev pub IsOverFiles : Job → Type 0
+IsOverFiles (job.Map at order limit mode pickle name file) = Unit {0}
+IsOverFiles (job.Request request) = Unit {0}
+IsOverFiles (job.Dump from size ruler file) = Unit {0}
+IsOverFiles job.Formats = Unit {0}
+IsOverFiles (job.Bound pickle name bits) = ⊥
+IsOverFiles (job.BoundText pickle name bits mode style) = ⊥
+IsOverFiles (job.Check pickle) = ⊥
+IsOverFiles (job.Types pickle) = ⊥
+
+-- a run over a space whose view is so afterwards; the view at the run's end has no more failures
+pub record MapsSpace (pickle : List ℕ) (ask : Ask) (terms : Terms) (space space' : SpaceView) (why : Bool)
     (out out' : Option (List ℕ)) (ended : Outcome) : Type 0 where
   pub after : SpaceView
-  pub told : Option (List ℕ)
-  pub ends : EndsAs (MapsUnder pickle ask terms space after) ended out told
-  pub more : AddsIf why told out'
+  pub failures : after.failures ≤ space'.failures
+  pub holds : Holds (DueSpace pickle ask terms space after why) out out' (Ok (Run ended))
+
+-- after a run of a value that is shown to the eye, what it had before its fault is added; the output may fail then
+pub data AddsMet (terms : Terms) (ended : Outcome) (out out' : Option (List ℕ)) : Outcome → Type 0 where
+  adds_none : Keeps out out' → AddsMet terms ended out out' ended
+  adds_met : {met : List ℕ} → outcome_status ended ≡ Fault → IsSome terms.look → Appends out out' met →
+      AddsMet terms ended out out' ended
+  cuts_met : {met : List ℕ} → outcome_status ended ≡ Fault → IsSome terms.look → AppendsPart out out' met →
+      AddsMet terms ended out out' (outcome.Failed failure.Write)
+
+-- how a job ends that wrote its answer, or whose output failed
+abbrev pub ending_of : Result Status WriteFault → Ending
+ending_of (Ok status) = Silent status
+ending_of (Err fault) = Run (outcome.Failed failure.Write)
+
+-- how a job returns that isn't the list of formats
+abbrev pub done : End → Result (Option Ending) FileFault
+done (Ok ending) = Ok (Some ending)
+done (Err fault) = Err fault
+
+-- how a dump ends, by what its call returned
+abbrev pub dump_end : Result (Unit {0}) DumpFault → End
+dump_end (Ok done) = Ok (Run outcome.Done)
+dump_end (Err dump.Write) = Ok (Run (outcome.Failed failure.Write))
+dump_end (Err dump.Device) = Err (fault.Dump dump.Device)
+
+-- how a job over many files ends
+abbrev pub files_ending : Result Status ListFault → Ending
+files_ending (Ok greatest) = Silent greatest
+files_ending (Err fault) = Run (outcome.Failed (list_failure fault))
+
+-- what standard output holds of files that arguments name, and of files that a list names
+abbrev pub HoldsWords : Gives → Every → List (String Global) → (out out' : Option (List ℕ)) →
+    Result Status ListFault → Type 0
+HoldsWords gives every words out out' result =
+    Holds (DueFiles gives every (AreNamed gives.is_name words) (λ names. AreNamedFirst gives.is_name names words)
+    (λ why. why ≡ failure.Memory)) out out' (Ok (files_ending result))
+
+abbrev pub HoldsList : Gives → Every → (list : Option (List ℕ)) → (out out' : Option (List ℕ)) →
+    Result Status ListFault → Type 0
+HoldsList gives every list out out' result =
+    Holds (DueFiles gives every (AreListed (λ bytes. bytes ≡ list)) (AreListedFirst (λ bytes. bytes ≡ list)) StopsList)
+    out out' (Ok (files_ending result))

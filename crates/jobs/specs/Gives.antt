@@ -4,13 +4,14 @@ use Rattle.bit_space.specs.SpaceView.{SpaceView}
 use Rattle.jobs.specs.declared.fault.FileFault.{FileFault}
 
 -- the pickles that arguments name, and why they name none; the files at paths, of which at most so many bytes are read
--- into memory if they have no length, and why there is none; the names that arguments represent; the bytes of lists of
--- names
+-- into memory if they have no length, why there is none, and those of which a read may fail; the names that arguments
+-- represent; the bytes of lists of names
 pub record Gives : Type 1 where
   pub is_pickle : (word bytes : List ℕ) → Type 0
   pub is_unread : (word : List ℕ) → FileFault → Type 0
   pub is_file : (path : List ℕ) → (spool : Option ℕ) → SpaceView → Type 0
   pub is_unopened : (path : List ℕ) → (spool : Option ℕ) → FileFault → Type 0
+  pub is_failing : (path : List ℕ) → Type 0
   pub is_name : (word name : List ℕ) → Type 0
   pub is_list : (path : List ℕ) → Option (List ℕ) → Type 0
 
@@ -21,6 +22,7 @@ anything = record {
   is_unread = λ word fault. Unit {0};
   is_file = λ path spool space. Unit {0};
   is_unopened = λ path spool fault. Unit {0};
+  is_failing = λ path. Unit {0};
   is_name = λ word name. Unit {0};
   is_list = λ path bytes. Unit {0};
 }

@@ -3,6 +3,9 @@ pub mod FaultNames
 pub mod Gives
 pub mod Names
 pub mod Opened
+pub mod Reasons
+pub mod Endings
+pub mod Due
 pub mod Files
 pub mod Every
 pub mod Jobs

@@ -1,12 +1,19 @@
 -- Why the file of a name isn't opened.
-use Rattle.std.specs.Prelude.{ℕ, List, Option, IsUtf8}
+use Rattle.std.specs.Prelude.{ℕ, List, Option, Some, None, IsUtf8}
 use Rattle.bit_space.specs.declared.file.OpenFault.TheVariants.{NotOpened}
 use Rattle.jobs.specs.Gives.{Gives}
 use Rattle.jobs.specs.declared.fault.FileFault.{FileFault}
 use Rattle.jobs.specs.declared.fault.FileFault.TheVariants as file
+use Rattle.jobs.specs.declared.opener.Lengthless.{Lengthless}
+use Rattle.jobs.specs.declared.opener.Lengthless.TheVariants.{Reads, NeedsSpool}
 
 -- the name isn't text, an opener says why, or memory for its pages lacks
 pub data FailsNamed (gives : Gives) (name : List ℕ) (spool : Option ℕ) : FileFault → Type 0 where
   not_text : ¬ (IsUtf8 name) → FailsNamed gives name spool (file.Space NotOpened)
   not_opened : {fault : FileFault} → gives.is_unopened name spool fault → FailsNamed gives name spool fault
   no_pages : FailsNamed gives name spool file.Memory
+
+-- what a mapping does with a file that has no length, by its option `--spool`
+abbrev pub lengthless_with : (spool : Option ℕ) → Lengthless
+lengthless_with (Some most) = Reads
+lengthless_with None = NeedsSpool

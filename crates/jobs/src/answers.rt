@@ -1,13 +1,13 @@
 //! Answers about a pickle in JSON. They go to standard output, refusals and faults too.
-ghost use Rattle.std.specs.Prelude.{◌≡◌, IfOk, IfErr, OnErr, OnOk};
-ghost use Rattle.std.specs.Io.KnownBytes.{Appends, Keeps};
+ghost use Rattle.std.specs.Prelude.{◌≡◌, IfOk, OnErr, OnOk, Ok};
+ghost use Rattle.std.specs.Io.KnownBytes.{Appends};
 ghost use Rattle.text_output.specs.Written.{AppendsPart};
 ghost use Rattle.run_parts.specs.Outcomes.{outcome_status};
-ghost use Rattle.jobs.specs.Jobs.{ChecksOver, Reports, TypesOver, ending_of, notes_member, report_text, some_notes};
+ghost use Rattle.jobs.specs.Due.{Holds};
+ghost use Rattle.jobs.specs.Given.{ending_of};
+ghost use Rattle.jobs.specs.Jobs.{DueCheck, DueReport, DueTypes, notes_member, report_text, some_notes};
 
 use crate::ending::Ending;
-use crate::fault::FileFault;
-use crate::opener::Opener;
 use pickle_json::check::{put_check, put_refusal};
 use pickle_json::types::types_outcome;
 use poke_batch::file_object::put_lines;
@@ -17,53 +17,28 @@ use poke_batch::write::{WriteFault, put};
 use std::alloc::Global;
 use std::io::Write;
 
-/// Checks the pickle that an argument names, and writes the answer as a JSON object.
-#[inline(never)]
-pub fn check_in_json<P: Opener, O: Write>(
-    alloc: Global,
-    opener: &P,
-    word: &str,
-    explains: bool,
-    out: &mut O,
-) -> Result<Ending, FileFault>
-    ensures ok { IfOk result
-        (ChecksOver ((P.gives opener.now).is_pickle word.now) explains (O.contents out.old) (O.contents out.new)) }
-    ensures err { OnErr result (Keeps (O.contents out.old) (O.contents out.new)) }
-    ensures fault { IfErr result ((P.gives opener.now).is_unread word.now) }
+/// Checks a pickle, and writes the answer as a JSON object.
+pub fn check_in_json<O: Write>(alloc: Global, pickle: &[u8], explains: bool, out: &mut O) -> Ending
+    ensures { Holds (DueCheck explains pickle.now) (O.contents out.old) (O.contents out.new) (Ok result) }
 {
-    let pickle = opener.read_pickle(word)?;
-    Ok(ending_of(put_check(alloc, &pickle.bytes, explains, out)))
+    ending_of(put_check(alloc, pickle, explains, out))
 }
 
 /// Writes the types that a pickle declares as JSON objects or, if it is refused, the object of its check.
-#[inline(never)]
-pub fn types_in_json<P: Opener, O: Write>(
-    alloc: Global,
-    opener: &P,
-    word: &str,
-    explains: bool,
-    out: &mut O,
-) -> Result<Ending, FileFault>
-    ensures ok { IfOk result
-        (TypesOver ((P.gives opener.now).is_pickle word.now) explains (O.contents out.old) (O.contents out.new)) }
-    ensures err { OnErr result (Keeps (O.contents out.old) (O.contents out.new)) }
-    ensures fault { IfErr result ((P.gives opener.now).is_unread word.now) }
+pub fn types_in_json<O: Write>(alloc: Global, pickle: &[u8], explains: bool, out: &mut O) -> Ending
+    ensures { Holds (DueTypes explains pickle.now) (O.contents out.old) (O.contents out.new) (Ok result) }
 {
-    let pickle = opener.read_pickle(word)?;
-    match types_outcome(alloc, &pickle.bytes, out) {
-        Outcome::Refused(refusal) => {
-            let refused = put_refusal(alloc, &pickle.bytes, refusal, explains, out);
-            Ok(ending_of(refused))
-        }
-        Outcome::Done => Ok(Ending::Silent(Status::Done)),
-        outcome => Ok(report_in_json(outcome, b"", out)),
+    match types_outcome(alloc, pickle, out) {
+        Outcome::Refused(refusal) => ending_of(put_refusal(alloc, pickle, refusal, explains, out)),
+        Outcome::Done => Ending::Silent(Status::Done),
+        outcome => report_in_json(outcome, b"", out),
     }
 }
 
 /// Writes the JSON object of an outcome, with lines that explain it in the member `notes`, if there are any. The fault of an
 /// output that failed is left for standard error.
 pub fn report_in_json<O: Write>(outcome: Outcome, lines: &[u8], out: &mut O) -> Ending
-    ensures { Reports outcome lines.now (O.contents out.old) (O.contents out.new) result }
+    ensures { Holds (DueReport outcome lines.now) (O.contents out.old) (O.contents out.new) (Ok result) }
 {
     match outcome {
         Outcome::Failed(why) => report_failure(why, lines, out),
@@ -73,7 +48,7 @@ pub fn report_in_json<O: Write>(outcome: Outcome, lines: &[u8], out: &mut O) -> 
 
 // Writes the object of a failure, unless it is that of the output itself.
 fn report_failure<O: Write>(why: Failure, lines: &[u8], out: &mut O) -> Ending
-    ensures { Reports (Outcome.Failed why) lines.now (O.contents out.old) (O.contents out.new) result }
+    ensures { Holds (DueReport (Outcome.Failed why) lines.now) (O.contents out.old) (O.contents out.new) (Ok result) }
 {
     let outcome = Outcome::Failed(why);
     match why {

@@ -1,14 +1,13 @@
 //! The job that dumps a file.
-ghost use Rattle.std.specs.Prelude.{◌≡◌, None, IfOk, IfErr, OnErr, OnOk};
-ghost use Rattle.run_parts.specs.declared.outcome.Outcome.TheVariants.{Done};
-ghost use Rattle.jobs.specs.Given.{DumpsRange, StopsRange};
-ghost use Rattle.jobs.specs.Jobs.{FailsDump};
+ghost use Rattle.std.specs.Prelude.{◌≡◌};
+ghost use Rattle.jobs.specs.Given.{HoldsRange, dump_end};
 
+use crate::ending::Ending;
 use crate::fault::FileFault;
 use crate::opener::Opener;
 use bit_space::{Paged, Space};
-use poke_batch::dump;
-use poke_batch::outcome::Outcome;
+use poke_batch::outcome::{Failure, Outcome};
+use poke_batch::{DumpFault, dump};
 use std::alloc::{AllocError, Global};
 use std::io::Write;
 
@@ -34,24 +33,38 @@ pub fn dump_file<P: Opener, O: Write>(
     range: Range,
     out: &mut O,
     note: &mut Vec<u8>,
-) -> Result<Outcome, FileFault>
-    ensures done { IfOk result (λ ended. ended ≡ Done) }
-    ensures ok { OnOk result
-        (DumpsRange ((P.gives opener.now).is_file path.now None) range (O.contents out.old) (O.contents out.new)) }
-    ensures err { OnErr result
-        (StopsRange ((P.gives opener.now).is_file path.now None) range (O.contents out.old) (O.contents out.new)) }
-    ensures fault { IfErr result (FailsDump (P.gives opener.now) path.now) }
+) -> Result<Ending, FileFault>
+    ensures { HoldsRange (P.gives opener.now) path.now range (O.contents out.old) (O.contents out.new) result }
 {
-    let mut space = Paged::new(alloc, opener.open(path, None, false)?)?;
-    dump(&mut space, range.from, range.size, range.ruler, out)?;
-    let there = space.len().saturating_sub(range.from);
+    let bytes = opener.open(path, None, false)?;
+    let mut space = Paged::new(alloc, bytes)?;
+    let dumped = dump(&mut space, range.from, range.size, range.ruler, out);
+    if dumped.is_ok() {
+        note_rest(alloc, range, space.len(), note);
+    }
+    end_dump(dumped)
+}
+
+// How a job ends that dumped a file.
+fn end_dump(dumped: Result<(), DumpFault>) -> Result<Ending, FileFault>
+    ensures { result ≡ dump_end dumped }
+{
+    match dumped {
+        Ok(()) => Ok(Ending::Run(Outcome::Done)),
+        Err(DumpFault::Write) => Ok(Ending::Run(Outcome::Failed(Failure::Write))),
+        Err(fault) => Err(FileFault::Dump(fault)),
+    }
+}
+
+// Writes the line on the bytes that a dump of a file of so many bytes leaves out, if that is to be printed.
+fn note_rest(alloc: Global, range: Range, bytes: u64, note: &mut Vec<u8>) {
+    let there = bytes.saturating_sub(range.from);
     if range.tells_rest && there > range.size {
         // If an allocation fails the line is left out: the bytes are there.
         if let Ok(line) = rest_line(alloc, there, range.size) {
             *note = line;
         }
     }
-    Ok(Outcome::Done)
 }
 
 // The line on the bytes that a dump leaves out, of which there are more than it has.

@@ -1,18 +1,18 @@
 //! A type of a pickle, mapped over many files, whose names are in the arguments or in a list.
-ghost use Rattle.std.specs.Prelude.{◌≡◌, IfOk, IfErr, OnErr};
-ghost use Rattle.std.specs.Io.KnownBytes.{Keeps};
+ghost use Rattle.std.specs.Prelude.{◌≡◌, Ok};
 ghost use Rattle.jobs.specs.Aims.{of_mapping};
-ghost use Rattle.jobs.specs.Every.{AppendsNamed, IsTyped, every_of};
+ghost use Rattle.jobs.specs.Due.{DueOver, Holds};
+ghost use Rattle.jobs.specs.Every.{IsTyped, every_of};
 ghost use Rattle.jobs.specs.Files.{greater, rank};
-ghost use Rattle.jobs.specs.Jobs.{MapsEach};
-ghost use Rattle.jobs.specs.Names.{AreListed, AreNamed, AreNamesOf};
+ghost use Rattle.jobs.specs.Given.{HoldsList, HoldsWords, files_ending};
+ghost use Rattle.jobs.specs.Jobs.{DueEach, DueNamed};
 
 use crate::aside::Aside;
 use crate::ending::Ending;
 use crate::fault::FileFault;
 use crate::file_run::{FileForm, Typed, flush, run_name};
 use crate::names::{ListFault, read_name};
-use crate::opener::Opener;
+use crate::opener::{NamedPickle, Opener};
 use crate::settings::Mapping;
 use crate::why::{Why, explain, explain_parts};
 use command_line::request::FileNames;
@@ -34,27 +34,43 @@ pub fn map_files<P: Opener, A: Aside, O: Write>(
     aside: &mut A,
     why: &mut Why<'_>,
 ) -> Result<Ending, FileFault>
-    ensures ok { IfOk result (MapsEach (P.gives opener.now) why.old.asked
-        (O.contents out.old) (O.contents out.new) (of_mapping mapping.entry) names.now) }
-    ensures err { OnErr result (Keeps (O.contents out.old) (O.contents out.new)) }
-    ensures fault { IfErr result ((P.gives opener.now).is_unread mapping.entry.pickle.now) }
+    ensures { let requested = of_mapping mapping.entry in
+        let due = DueEach (P.gives opener.now) why.old.asked requested names.now in
+        Holds (DueOver (P.gives opener.now) requested.pickle due) (O.contents out.old) (O.contents out.new) result }
 {
     let pickle = opener.read_pickle(mapping.pickle)?;
+    Ok(map_each(alloc, opener, mapping, &pickle, names, out, aside, why))
+}
+
+// Maps a type of a pickle that was read over many files.
+fn map_each<P: Opener, A: Aside, O: Write>(
+    alloc: Global,
+    opener: &P,
+    mapping: Mapping<'_>,
+    pickle: &NamedPickle,
+    names: &FileNames,
+    out: &mut O,
+    aside: &mut A,
+    why: &mut Why<'_>,
+) -> Ending
+    ensures { let due = DueEach (P.gives opener.now) why.old.asked (of_mapping mapping.entry) names.now in
+        Holds (due pickle.now.bytes.items) (O.contents out.old) (O.contents out.new) (Ok result) }
+{
     let (table, id) = match resolve(alloc, &pickle.bytes, mapping.name) {
         Ok(found) => found,
         Err(outcome) => {
-            explain(alloc, why, outcome, &pickle, Some(mapping.name));
-            return Ok(Ending::Run(outcome));
+            explain(alloc, why, outcome, pickle, mapping.name);
+            return Ending::Run(outcome);
         }
     };
     if let Some(outcome) = refuse_parts(alloc, &table, id, mapping.terms) {
         explain_parts(alloc, why, outcome, &table, id, mapping.terms);
-        return Ok(Ending::Run(outcome));
+        return Ending::Run(outcome);
     }
     let typed = Typed {
         alloc,
         mapping,
-        pickle: &pickle,
+        pickle,
         table: &table,
         id,
         form: FileForm::of(mapping.mode, mapping.faults),
@@ -62,9 +78,16 @@ pub fn map_files<P: Opener, A: Aside, O: Write>(
     };
     let written = run_files(opener, typed, names, out, aside);
     aside.clear();
+    files_ending(written)
+}
+
+// How a job over many files ends.
+fn files_ending(written: Result<Status, ListFault>) -> Ending
+    ensures { result ≡ files_ending written }
+{
     match written {
-        Ok(status) => Ok(Ending::Silent(status)),
-        Err(fault) => Ok(Ending::Run(Outcome::Failed(fault.failure()))),
+        Ok(greatest) => Ending::Silent(greatest),
+        Err(fault) => Ending::Run(Outcome::Failed(fault.failure())),
     }
 }
 
@@ -76,9 +99,8 @@ fn run_files<P: Opener, A: Aside, O: Write>(
     aside: &mut A,
 ) -> Result<Status, ListFault>
     requires typed { IsTyped typed }
-    ensures ok { IfOk result
-        (AppendsNamed (P.gives opener.now) (every_of typed.entry) (AreNamesOf (P.gives opener.now) files.now)
-        (O.contents out.old) (O.contents out.new)) }
+    ensures { Holds (DueNamed (P.gives opener.now) (every_of typed.entry) files.now)
+        (O.contents out.old) (O.contents out.new) (Ok (files_ending result)) }
 {
     match files {
         FileNames::Words(words) => run_words(opener, typed, words.as_slice(), out, aside),
@@ -98,9 +120,8 @@ fn run_words<P: Opener, A: Aside, O: Write>(
     aside: &mut A,
 ) -> Result<Status, ListFault>
     requires typed { IsTyped typed }
-    ensures ok { IfOk result
-        (AppendsNamed (P.gives opener.now) (every_of typed.entry) (AreNamed (P.gives opener.now).is_name words.now)
-        (O.contents out.old) (O.contents out.new)) }
+    ensures { HoldsWords (P.gives opener.now) (every_of typed.entry) words.now
+        (O.contents out.old) (O.contents out.new) result }
 {
     let mut kept = Kept::new(typed.alloc, typed.mapping.terms.most_slots)?;
     let mut greatest = Status::Done;
@@ -121,9 +142,8 @@ fn run_list<P: Opener, L: Read + Drop, A: Aside, O: Write>(
     aside: &mut A,
 ) -> Result<Status, ListFault>
     requires typed { IsTyped typed }
-    ensures ok { IfOk result
-        (AppendsNamed (P.gives opener.now) (every_of typed.entry) (AreListed (λ bytes. bytes ≡ L.remaining list))
-        (O.contents out.old) (O.contents out.new)) }
+    ensures { HoldsList (P.gives opener.now) (every_of typed.entry) (L.remaining list)
+        (O.contents out.old) (O.contents out.new) result }
 {
     let Ok(mut list) = BufReader::new(typed.alloc, list) else {
         return Err(ListFault::Memory);

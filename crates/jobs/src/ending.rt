@@ -1,4 +1,8 @@
 //! How a job ended.
+ghost use Rattle.std.specs.Prelude.{◌≡◌};
+ghost use Rattle.run_parts.specs.Told.{IsTold};
+ghost use Rattle.jobs.specs.Endings.{ending_status, ending_text};
+
 use poke_batch::fault_form::FaultForm;
 use poke_batch::outcome::Outcome;
 use poke_batch::report::report;
@@ -16,15 +20,21 @@ pub enum Ending {
 
 impl Ending {
     /// The exit status of a job that ended so, if its line is written.
-    pub fn status(self) -> Status {
+    pub fn status(self) -> Status
+        ensures { result ≡ ending_status self }
+    {
         match self {
             Ending::Run(outcome) => outcome.status(),
             Ending::Silent(status) => status,
         }
     }
 
-    /// Writes the line of the ending in a form, if it has one, and returns its exit status.
-    pub fn tell<E: Write>(self, faults: FaultForm, err: &mut E) -> Status {
+    /// Writes the line of the ending in a form, if it has one, and returns its exit status, or `Outside` if the writer
+    /// failed.
+    pub fn tell<E: Write>(self, faults: FaultForm, err: &mut E) -> Status
+        ensures { IsTold (ending_status self) (ending_text faults self) result
+            (E.contents err.old) (E.contents err.new) }
+    {
         match self {
             Ending::Run(outcome) => report(outcome, faults, err),
             Ending::Silent(status) => status,

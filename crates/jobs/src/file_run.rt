@@ -1,10 +1,12 @@
 //! A type of a pickle, mapped over one file among many.
-ghost use Rattle.std.specs.Prelude.{◌≡◌, [], false, IfOk, IfErr, OnOk};
+ghost use Rattle.std.specs.Prelude.{◌≡◌, [], false, IfOk, IfErr, OnErr, OnOk};
 ghost use Rattle.std.specs.Io.KnownBytes.{Appends, Keeps};
+ghost use Rattle.bit_space.specs.SpaceView.{HasRisen, Keeps as SpaceKeeps};
+ghost use Rattle.text_output.specs.Written.{AppendsPart};
 ghost use Rattle.poke_batch.specs.RunsUnder.{IsStoreOf};
 ghost use Rattle.run_parts.specs.Outcomes.{outcome_status};
-ghost use Rattle.jobs.specs.Every.{AppendsFile, IsTyped, every_of, unmapped_text};
-ghost use Rattle.jobs.specs.Files.{AppendsOver, file_form};
+ghost use Rattle.jobs.specs.Every.{AppendsFile, CutsFile, IsTyped, every_of, unmapped_text};
+ghost use Rattle.jobs.specs.Files.{AppendsOver, CutsOver, file_form};
 ghost use Rattle.jobs.specs.Opened.{FailsNamed};
 
 use crate::aside::Aside;
@@ -75,6 +77,8 @@ pub fn run_name<P: Opener, A: Aside, O: Write>(
     ensures store { IsStoreOf typed.entry.mapping.terms.now.most_slots kept.new.store }
     ensures ok { IfOk result
         (AppendsFile (P.gives opener.now) (every_of typed.entry) name.now (O.contents out.old) (O.contents out.new)) }
+    ensures err { OnErr result
+        (CutsFile (P.gives opener.now) (every_of typed.entry) name.now (O.contents out.old) (O.contents out.new)) }
 {
     aside.show();
     let status = match open_named(opener, typed, name) {
@@ -127,6 +131,8 @@ fn put_unmapped<O: Write>(
     ensures status { IfOk result (λ status. status ≡ outcome_status outcome) }
     ensures ok { OnOk result
         (Appends (O.contents out.old) (O.contents out.new) (unmapped_text form name.now outcome lines.now)) }
+    ensures err { OnErr result
+        (AppendsPart (O.contents out.old) (O.contents out.new) (unmapped_text form name.now outcome lines.now)) }
 {
     match form {
         FileForm::Line(faults) => put_file_line(out, name, outcome, faults, b"")?,
@@ -147,6 +153,8 @@ fn run_unopened<P: Opener, A: Aside, O: Write>(
     requires fails { FailsNamed (P.gives opener.now) name.now typed.mapping.spool fault }
     ensures ok { IfOk result
         (AppendsFile (P.gives opener.now) (every_of typed.entry) name.now (O.contents out.old) (O.contents out.new)) }
+    ensures err { OnErr result
+        (CutsFile (P.gives opener.now) (every_of typed.entry) name.now (O.contents out.old) (O.contents out.new)) }
 {
     let lines = unopened_lines(opener, typed, name, fault);
     let outcome = Outcome::Failed(fault.failure());
@@ -190,8 +198,11 @@ fn run_space<S: Space, A: Aside, O: Write>(
     requires typed { IsTyped typed }
     requires store { IsStoreOf typed.mapping.terms.now.most_slots kept.old.store }
     ensures store { IsStoreOf typed.entry.mapping.terms.now.most_slots kept.new.store }
-    ensures ok { IfOk result
-        (AppendsOver (S.view space.old) (every_of typed.entry) name.now (O.contents out.old) (O.contents out.new)) }
+    ensures ok { let risen = HasRisen (S.view space.old).failures (S.view space.new).failures in IfOk result
+        (AppendsOver (S.view space.old) risen (every_of typed.entry) name.now (O.contents out.old) (O.contents out.new)) }
+    ensures err { let risen = HasRisen (S.view space.old).failures (S.view space.new).failures in OnErr result
+        (CutsOver (S.view space.old) risen (every_of typed.entry) name.now (O.contents out.old) (O.contents out.new)) }
+    ensures keeps { SpaceKeeps (S.view space.old) (S.view space.new) }
 {
     let Some(ask) = typed.mapping.ask_in(space) else {
         return put_unmapped(typed.form, name, Outcome::Offset, b"", out);
@@ -227,6 +238,7 @@ fn reason_lines<S: Space>(
     space: &mut S,
 ) -> Vec<u8>
     ensures quiet { typed.entry.explains ≡ false → result.items ≡ [] }
+    ensures keeps { SpaceKeeps (S.view space.old) (S.view space.new) }
 {
     if !typed.explains || !is_mapped(outcome.status()) {
         return Vec::new(typed.alloc);

@@ -1,7 +1,9 @@
 //! A list of names of files, each ended by a byte 0.
-ghost use Rattle.std.specs.Prelude.{◌≡◌, true, false, IfOk};
+ghost use Rattle.std.specs.Prelude.{◌≡◌, ◌≢◌, true, false, IfErr, IfOk};
 ghost use Rattle.std.specs.Io.KnownBytes.{IsAtEnd};
+ghost use Rattle.jobs.specs.FaultNames.{list_failure};
 ghost use Rattle.jobs.specs.Names.{IsNextName};
+ghost use Rattle.jobs.specs.declared.names.ListFault.TheVariants as listed;
 
 use bit_space::Memory;
 use poke_batch::outcome::Failure;
@@ -24,7 +26,9 @@ pub enum ListFault {
 
 impl ListFault {
     /// What failed.
-    pub fn failure(self) -> Failure {
+    pub fn failure(self) -> Failure
+        ensures { result ≡ list_failure self }
+    {
         match self {
             ListFault::Read => Failure::Read,
             ListFault::Memory => Failure::Memory,
@@ -34,18 +38,24 @@ impl ListFault {
 }
 
 impl From<Memory> for ListFault {
+    ghost from_gives = { λ _ result. result ≡ listed.Memory };
+
     fn from(_memory: Memory) -> ListFault {
         ListFault::Memory
     }
 }
 
 impl From<AllocError> for ListFault {
+    ghost from_gives = { λ _ result. result ≡ listed.Memory };
+
     fn from(_error: AllocError) -> ListFault {
         ListFault::Memory
     }
 }
 
 impl From<WriteFault> for ListFault {
+    ghost from_gives = { λ _ result. result ≡ listed.Write };
+
     fn from(_fault: WriteFault) -> ListFault {
         ListFault::Write
     }
@@ -57,6 +67,7 @@ pub fn read_name<L: BufRead>(list: &mut L, name: &mut Vec<u8>) -> Result<bool, L
     ensures next { IfOk result
         (λ more. more ≡ true → IsNextName (L.remaining list.old) name.new.items (L.remaining list.new)) }
     ensures end { IfOk result (λ more. more ≡ false → IsAtEnd (L.remaining list.old)) }
+    ensures err { IfErr result (λ fault. fault ≢ ListFault.Write) }
 {
     name.clear();
     match list.read_until(0, name) {

@@ -1,10 +1,13 @@
 //! Mappings of a type of a pickle over a file.
-ghost use Rattle.std.specs.Prelude.{true, IfOk, IfErr, OnErr};
-ghost use Rattle.std.specs.Io.KnownBytes.{Keeps};
+ghost use Rattle.std.specs.Prelude.{◌≡◌};
+ghost use Rattle.bit_space.specs.SpaceView.{Keeps};
 ghost use Rattle.jobs.specs.Aims.{of_mapping};
-ghost use Rattle.jobs.specs.Given.{MapsSpace};
-ghost use Rattle.jobs.specs.Jobs.{AddsIf, FailsMap, MapsOver};
+ghost use Rattle.jobs.specs.Due.{DueOver, Holds};
+ghost use Rattle.jobs.specs.Endings.{is_mapped};
+ghost use Rattle.jobs.specs.Given.{AddsMet, MapsSpace};
+ghost use Rattle.jobs.specs.Jobs.{DueFile};
 
+use crate::ending::Ending;
 use crate::fault::FileFault;
 use crate::head::wants_little;
 use crate::opener::{NamedPickle, Opener};
@@ -13,12 +16,12 @@ use crate::why::{Why, explain, explain_parts, reasons_of};
 use bit_space::{Order, Paged, Space};
 use command_line::start::Start;
 use poke_batch::ask::Ask;
-use poke_batch::outcome::Outcome;
+use poke_batch::outcome::{Failure, Outcome};
 use poke_batch::resolve::{refuse_parts, resolve};
 use poke_batch::status::Status;
 use poke_batch::terms::Terms;
 use poke_batch::type_run::TypeRun;
-use poke_batch::write::put;
+use poke_batch::write::{WriteFault, put};
 use std::alloc::Global;
 use std::io::Write;
 
@@ -34,24 +37,23 @@ pub fn map_file<P: Opener, O: Write>(
     path: &str,
     out: &mut O,
     why: &mut Why<'_>,
-) -> Result<Outcome, FileFault>
-    ensures ok { IfOk result (MapsOver (P.gives opener.now) (of_mapping mapping.entry) path.now
-        why.old.asked (O.contents out.old) (O.contents out.new)) }
-    ensures err { OnErr result (Keeps (O.contents out.old) (O.contents out.new)) }
-    ensures fault { IfErr result (FailsMap (P.gives opener.now) (of_mapping mapping.entry) path.now) }
+) -> Result<Ending, FileFault>
+    ensures { let requested = of_mapping mapping.entry in
+        let due = DueFile (P.gives opener.now) why.old.asked requested path.now in
+        Holds (DueOver (P.gives opener.now) requested.pickle due) (O.contents out.old) (O.contents out.new) result }
 {
     let pickle = opener.read_pickle(mapping.pickle)?;
     let bytes = opener.open(path, mapping.spool, mapping.progress)?;
     let mut space = Paged::new(alloc, bytes)?;
     let Some(ask) = &mapping.ask_in(&space) else {
         tell_start(alloc, why, mapping.start, space.len());
-        return Ok(Outcome::Offset);
+        return Ok(Ending::Run(Outcome::Offset));
     };
     let outcome = map_space(alloc, &pickle, ask, mapping.terms, &mut space, out, why);
     if outcome.status() == Status::Fault {
         tell_arguments(path, ask.order, &pickle, why);
     }
-    Ok(outcome)
+    Ok(Ending::Run(outcome))
 }
 
 // Maps a type of a pickle over a space and, if reasons are requested, explains how the run ended.
@@ -64,13 +66,14 @@ fn map_space<S: Space, O: Write>(
     out: &mut O,
     why: &mut Why<'_>,
 ) -> Outcome
-    ensures { MapsSpace pickle.now.bytes.items ask.now terms.now (S.view space.old) why.old.asked
-        (O.contents out.old) (O.contents out.new) result }
+    ensures maps { MapsSpace pickle.now.bytes.items ask.now terms.now (S.view space.old) (S.view space.new)
+        why.old.asked (O.contents out.old) (O.contents out.new) result }
+    ensures keeps { Keeps (S.view space.old) (S.view space.new) }
 {
     let (table, id) = match resolve(alloc, &pickle.bytes, ask.name) {
         Ok(found) => found,
         Err(outcome) => {
-            explain(alloc, why, outcome, pickle, Some(ask.name));
+            explain(alloc, why, outcome, pickle, ask.name);
             return outcome;
         }
     };
@@ -86,13 +89,14 @@ fn map_space<S: Space, O: Write>(
         terms,
     };
     let outcome = run.map_new(space, out);
-    if why.asked {
-        explain_run(&run, pickle, outcome, space, out, why);
+    if !why.asked {
+        return outcome;
     }
-    outcome
+    explain_run(&run, pickle, outcome, space, out, why)
 }
 
-// Explains how a run ended. Of a value that is shown to the eye, what was met before its fault is shown.
+// Explains how a run ended, and returns its outcome. Of a value that is shown to the eye, what was met before its fault is
+// shown; if that can't be written, the outcome is that the output failed.
 fn explain_run<S: Space, O: Write>(
     run: &TypeRun<'_>,
     pickle: &NamedPickle,
@@ -100,16 +104,36 @@ fn explain_run<S: Space, O: Write>(
     space: &mut S,
     out: &mut O,
     why: &mut Why<'_>,
-)
-    ensures { AddsIf true (O.contents out.old) (O.contents out.new) }
+) -> Outcome
+    ensures met { AddsMet run.now.terms.now outcome (O.contents out.old) (O.contents out.new) result }
+    ensures keeps { Keeps (S.view space.old) (S.view space.new) }
 {
     if !is_explained(outcome.status(), run.terms) {
-        return;
+        return outcome;
     }
-    if let Ok(reasons) = reasons_of(run, pickle, outcome, space) {
+    let Ok(reasons) = reasons_of(run, pickle, outcome, space) else {
+        return outcome;
+    };
+    let ended = show_met(run.terms, outcome, reasons.met.as_slice(), out);
+    if ended == outcome {
         *why.text = reasons.text;
-        // What fails here fails again when the answer is flushed.
-        let _shown = put(out, reasons.met.as_slice());
+    }
+    ended
+}
+
+// Shows what was met before the fault of a value that is shown to the eye.
+fn show_met<O: Write>(terms: &Terms, outcome: Outcome, met: &[u8], out: &mut O) -> Outcome
+    ensures { AddsMet terms.now outcome (O.contents out.old) (O.contents out.new) result }
+{
+    let Some(_look) = terms.look else {
+        return outcome;
+    };
+    match outcome.status() {
+        Status::Fault => match put(out, met) {
+            Ok(()) => outcome,
+            Err(WriteFault) => Outcome::Failed(Failure::Write),
+        },
+        _ => outcome,
     }
 }
 
@@ -160,6 +184,8 @@ fn is_explained(status: Status, terms: &Terms) -> bool {
 }
 
 /// Whether a run with this exit status mapped its file, and nothing in the environment failed.
-pub fn is_mapped(status: Status) -> bool {
+pub fn is_mapped(status: Status) -> bool
+    ensures { result ≡ is_mapped status }
+{
     matches!(status, Status::Done | Status::Fault)
 }

@@ -1,7 +1,9 @@
 //! Where the pickles and files of jobs come from.
 
-ghost use Rattle.std.specs.Prelude.{IfOk, IfErr, IfSome};
+ghost use Rattle.std.specs.Prelude.{◌≡◌, ℕ, List, Option, IfOk, IfErr, IfSome};
+ghost use Rattle.bit_space.specs.SpaceView.{HasRisen, Keeps};
 ghost use Rattle.jobs.specs.Gives.{Gives};
+ghost use Rattle.jobs.specs.Opened.{lengthless_with};
 
 use crate::fault::FileFault;
 use bit_space::Space;
@@ -28,7 +30,9 @@ pub enum Lengthless {
 
 impl Lengthless {
     /// What a mapping does with it, by its option `--spool`.
-    pub fn with_spool(spool: Option<u64>) -> Lengthless {
+    pub fn with_spool(spool: Option<u64>) -> Lengthless
+        ensures { result ≡ lengthless_with spool }
+    {
         match spool {
             Some(_) => Lengthless::Reads,
             None => Lengthless::NeedsSpool,
@@ -43,6 +47,12 @@ pub trait Opener {
 
     /// The space of a file.
     type Bytes: Space + Drop;
+
+    /// A read fails only of a file of which one may fail: of another, a space that was opened has no more failures later.
+    ghost failing: { (o : Self) (path : List ℕ) (spool : Option ℕ) (space after : Self.Bytes)
+        → (gives o).is_file path spool (Self.Bytes.view space)
+        → Keeps (Self.Bytes.view space) (Self.Bytes.view after)
+        → HasRisen (Self.Bytes.view space).failures (Self.Bytes.view after).failures → (gives o).is_failing path };
 
     /// A list of names.
     type List: Read + Drop;

@@ -1,106 +1,129 @@
 //! The jobs that read a pickle alone.
-ghost use Rattle.std.specs.Prelude.{IfOk, IfErr, OnErr};
-ghost use Rattle.std.specs.Io.KnownBytes.{Keeps};
-ghost use Rattle.run_parts.specs.TypesText.{TypesAs};
-ghost use Rattle.poke_batch.specs.Runs.{BoundsAs, ChecksAs};
-ghost use Rattle.jobs.specs.Jobs.{EndsOver};
-ghost use Rattle.text_bounds.specs.TextRuns.{TextBoundsAs};
+ghost use Rattle.std.specs.Prelude.{◌≡◌, IfNone, IfSome, Ok};
+ghost use Rattle.jobs.specs.Due.{DueOver, Holds};
+ghost use Rattle.jobs.specs.Given.{DueAnswer, IsAskedAbout, IsOverFiles};
+ghost use Rattle.jobs.specs.declared.ending.Ending.TheVariants.{Run};
 
+use crate::answers::{check_in_json, types_in_json};
+use crate::ending::Ending;
 use crate::fault::FileFault;
-use crate::opener::Opener;
+use crate::opener::{NamedPickle, Opener};
 use crate::why::{Why, explain, warn};
+use command_line::answer_form::AnswerForm;
 use poke_batch::outcome::Outcome;
 use poke_batch::run::{bound_outcome, check_outcome};
 use poke_batch::types::types_outcome;
+use poke_batch::words::{Asked, Job};
 use std::alloc::Global;
 use std::io::Write;
 use text_bounds::run::bound_text_outcome;
 use text_bounds::texts::Texts;
 
-/// Checks the pickle that an argument names.
-#[inline(never)]
-pub fn check_pickle<P: Opener, O: Write>(
-    alloc: Global,
-    opener: &P,
-    word: &str,
-    out: &mut O,
-    why: &mut Why<'_>,
-) -> Result<Outcome, FileFault>
-    ensures ok { IfOk result
-        (EndsOver ((P.gives opener.now).is_pickle word.now) ChecksAs (O.contents out.old) (O.contents out.new)) }
-    ensures err { OnErr result (Keeps (O.contents out.old) (O.contents out.new)) }
-    ensures fault { IfErr result ((P.gives opener.now).is_unread word.now) }
-{
-    let pickle = opener.read_pickle(word)?;
-    let outcome = check_outcome(alloc, &pickle.bytes, out);
-    explain(alloc, why, outcome, &pickle, None);
-    warn(alloc, why, outcome.status(), &pickle);
-    Ok(outcome)
+/// What a job requests of a pickle alone.
+#[derive(Clone, Copy)]
+pub enum Question<'a> {
+    /// Whether it is accepted, in a form.
+    Check(AnswerForm),
+    /// The types that it declares, in a form.
+    Types(AnswerForm),
+    /// The bounds of a mapping of a type over so many bits.
+    Bound { name: &'a [u8], bits: u64 },
+    /// The same bounds, and the most bytes of the printed value.
+    BoundText { name: &'a [u8], texts: Texts },
 }
 
-/// Writes the types that a pickle declares.
-#[inline(never)]
-pub fn tell_types<P: Opener, O: Write>(
-    alloc: Global,
-    opener: &P,
-    word: &str,
-    out: &mut O,
-    why: &mut Why<'_>,
-) -> Result<Outcome, FileFault>
-    ensures ok { IfOk result
-        (EndsOver ((P.gives opener.now).is_pickle word.now) TypesAs (O.contents out.old) (O.contents out.new)) }
-    ensures err { OnErr result (Keeps (O.contents out.old) (O.contents out.new)) }
-    ensures fault { IfErr result ((P.gives opener.now).is_unread word.now) }
+/// The question of a job that reads a pickle alone, and the argument that names the pickle.
+pub fn question_of(asked: &Asked) -> Option<(&str, Question<'_>)>
+    ensures some { IfSome result (λ found. IsAskedAbout asked.now.answer found.0.now asked.now.job found.1) }
+    ensures none { IfNone result (IsOverFiles asked.now.job) }
 {
-    let pickle = opener.read_pickle(word)?;
-    let outcome = types_outcome(alloc, &pickle.bytes, out);
-    explain(alloc, why, outcome, &pickle, None);
-    Ok(outcome)
+    match &asked.job {
+        Job::Check { pickle } => Some((pickle, Question::Check(asked.answer))),
+        Job::Types { pickle } => Some((pickle, Question::Types(asked.answer))),
+        Job::Bound { pickle, name, bits } => {
+            let name = name.as_bytes();
+            Some((pickle, Question::Bound { name, bits: *bits }))
+        }
+        Job::BoundText {
+            pickle,
+            name,
+            bits,
+            mode,
+            style,
+        } => {
+            let name = name.as_bytes();
+            let texts = Texts {
+                bits: *bits,
+                style: *style,
+                mode: *mode,
+            };
+            Some((pickle, Question::BoundText { name, texts }))
+        }
+        Job::Map { .. } | Job::Request(_) | Job::Dump { .. } | Job::Formats => None,
+    }
 }
 
-/// Writes the bounds of a mapping of a type of a pickle over so many bits.
+/// Answers a question about the pickle that an argument names.
 #[inline(never)]
-pub fn bound_type<P: Opener, O: Write>(
+pub fn answer_about<P: Opener, O: Write>(
     alloc: Global,
     opener: &P,
     word: &str,
-    name: &str,
-    bits: u64,
+    question: Question<'_>,
     out: &mut O,
     why: &mut Why<'_>,
-) -> Result<Outcome, FileFault>
-    ensures ok { IfOk result (EndsOver ((P.gives opener.now).is_pickle word.now)
-        (λ pickle. BoundsAs pickle name.now bits) (O.contents out.old) (O.contents out.new)) }
-    ensures err { OnErr result (Keeps (O.contents out.old) (O.contents out.new)) }
-    ensures fault { IfErr result ((P.gives opener.now).is_unread word.now) }
+) -> Result<Ending, FileFault>
+    ensures { Holds (DueOver (P.gives opener.now) word.now (DueAnswer why.old.asked question.entry))
+        (O.contents out.old) (O.contents out.new) result }
 {
     let pickle = opener.read_pickle(word)?;
-    let name = name.as_bytes();
-    let outcome = bound_outcome(alloc, &pickle.bytes, name, bits, out);
-    explain(alloc, why, outcome, &pickle, Some(name));
-    Ok(outcome)
+    Ok(answer(alloc, &pickle, question, out, why))
 }
 
-/// Writes the same bounds, and the most bytes of the printed value.
-#[inline(never)]
-pub fn bound_text<P: Opener, O: Write>(
+// Answers a question about a pickle.
+fn answer<O: Write>(
     alloc: Global,
-    opener: &P,
-    word: &str,
-    name: &str,
-    texts: Texts,
+    pickle: &NamedPickle,
+    question: Question<'_>,
     out: &mut O,
     why: &mut Why<'_>,
-) -> Result<Outcome, FileFault>
-    ensures ok { IfOk result (EndsOver ((P.gives opener.now).is_pickle word.now)
-        (λ pickle. TextBoundsAs pickle name.now texts.bits texts.style texts.mode)
-        (O.contents out.old) (O.contents out.new)) }
-    ensures err { OnErr result (Keeps (O.contents out.old) (O.contents out.new)) }
-    ensures fault { IfErr result ((P.gives opener.now).is_unread word.now) }
+) -> Ending
+    ensures { Holds (DueAnswer why.old.asked question.entry pickle.now.bytes.items)
+        (O.contents out.old) (O.contents out.new) (Ok result) }
 {
-    let pickle = opener.read_pickle(word)?;
-    let name = name.as_bytes();
-    let outcome = bound_text_outcome(alloc, &pickle.bytes, name, texts, out);
-    explain(alloc, why, outcome, &pickle, Some(name));
-    Ok(outcome)
+    match question {
+        Question::Check(AnswerForm::Json) => check_in_json(alloc, &pickle.bytes, why.asked, out),
+        Question::Types(AnswerForm::Json) => types_in_json(alloc, &pickle.bytes, why.asked, out),
+        Question::Check(AnswerForm::Text) => {
+            let outcome = check_outcome(alloc, &pickle.bytes, out);
+            warn(alloc, why, outcome.status(), pickle);
+            end_in_words(alloc, outcome, pickle, b"", why)
+        }
+        Question::Types(AnswerForm::Text) => {
+            let outcome = types_outcome(alloc, &pickle.bytes, out);
+            end_in_words(alloc, outcome, pickle, b"", why)
+        }
+        Question::Bound { name, bits } => {
+            let outcome = bound_outcome(alloc, &pickle.bytes, name, bits, out);
+            end_in_words(alloc, outcome, pickle, name, why)
+        }
+        Question::BoundText { name, texts } => {
+            let outcome = bound_text_outcome(alloc, &pickle.bytes, name, texts, out);
+            end_in_words(alloc, outcome, pickle, name, why)
+        }
+    }
+}
+
+// The ending of a run over a pickle, which is explained if that is requested.
+fn end_in_words(
+    alloc: Global,
+    outcome: Outcome,
+    pickle: &NamedPickle,
+    name: &[u8],
+    why: &mut Why<'_>,
+) -> Ending
+    ensures { result ≡ Run outcome }
+{
+    explain(alloc, why, outcome, pickle, name);
+    Ending::Run(outcome)
 }

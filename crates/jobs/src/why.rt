@@ -1,10 +1,16 @@
 //! The reasons of a job, which are printed after its line.
+ghost use Rattle.std.specs.Prelude.{◌≡◌, IfOk, IfSome};
+ghost use Rattle.bit_space.specs.SpaceView.{Keeps};
+ghost use Rattle.fault_report.specs.Why.{TellsWhy, run_of};
+ghost use Rattle.jobs.specs.Reasons.{Gains, SaysNotes, SaysParts, SaysRefusal};
+ghost use Rattle.poke_batch.specs.TypeRuns.{run_type};
+
 use crate::opener::NamedPickle;
 use bit_space::Space;
 use fault_report::impossible::impossible_text;
-use fault_report::mapping::{Pickle, TypeMapping};
-use fault_report::{Explained, reasons_in};
-use pickle_reasons::{explanation, refusal_explanation};
+use fault_report::pickle::Pickle;
+use fault_report::{Explained, reasons};
+use pickle_reasons::{no_such_type, refusal_explanation};
 use pickle_types::table::{Table, TypeId};
 use pickle_warnings::accepted_warnings;
 use poke_batch::outcome::Outcome;
@@ -28,19 +34,33 @@ pub fn explain(
     why: &mut Why<'_>,
     outcome: Outcome,
     pickle: &NamedPickle,
-    name: Option<&[u8]>,
-) {
+    name: &[u8],
+)
+    ensures text { Gains why.old.asked (SaysRefusal pickle.now outcome) why.old.text.now.items why.new.text.now.items }
+    ensures asked { why.new.asked ≡ why.old.asked }
+{
     if !why.asked {
         return;
     }
-    let path = pickle.path.as_bytes();
-    let text = match outcome {
-        Outcome::Refused(refusal) => refusal_explanation(alloc, &pickle.bytes, path, refusal),
-        Outcome::NoSuchType => explanation(alloc, &pickle.bytes, path, name),
-        _ => return,
-    };
-    if let Ok(text) = text {
+    if let Some(text) = refusal_text(alloc, outcome, pickle, name) {
         *why.text = text;
+    }
+}
+
+// The lines that say why a run ended with a refusal, if it did, and no allocation fails.
+fn refusal_text(
+    alloc: Global,
+    outcome: Outcome,
+    pickle: &NamedPickle,
+    name: &[u8],
+) -> Option<Vec<u8>>
+    ensures { IfSome result (λ text. SaysRefusal pickle.now outcome text.items) }
+{
+    let path = pickle.path.as_bytes();
+    match outcome {
+        Outcome::Refused(refusal) => refusal_explanation(alloc, &pickle.bytes, path, refusal).ok(),
+        Outcome::NoSuchType => no_such_type(alloc, &pickle.bytes, name).ok(),
+        _ => None,
     }
 }
 
@@ -53,7 +73,10 @@ pub fn explain_parts(
     table: &Table,
     id: TypeId,
     terms: &Terms,
-) {
+)
+    ensures text { Gains why.old.asked (SaysParts outcome) why.old.text.now.items why.new.text.now.items }
+    ensures asked { why.new.asked ≡ why.old.asked }
+{
     if !why.asked || outcome != Outcome::ImpossiblePart {
         return;
     }
@@ -63,7 +86,10 @@ pub fn explain_parts(
 }
 
 /// Writes what an accepted pickle says and can't mean. If an allocation fails nothing more is written.
-pub fn warn(alloc: Global, why: &mut Why<'_>, status: Status, pickle: &NamedPickle) {
+pub fn warn(alloc: Global, why: &mut Why<'_>, status: Status, pickle: &NamedPickle)
+    ensures text { Gains why.old.asked (SaysNotes pickle.now) why.old.text.now.items why.new.text.now.items }
+    ensures asked { why.new.asked ≡ why.old.asked }
+{
     if !why.asked || status != Status::Done {
         return;
     }
@@ -78,16 +104,14 @@ pub fn reasons_of<S: Space>(
     pickle: &NamedPickle,
     outcome: Outcome,
     space: &mut S,
-) -> Result<Explained, AllocError> {
-    let mapping = TypeMapping {
-        alloc: run.alloc,
-        table: run.table,
-        id: run.id,
-        ask: run.ask,
-    };
+) -> Result<Explained, AllocError>
+    ensures why { let ended = run_of (S.view space.old) (S.view space.new) run.now.ask.now run.now.terms.now outcome in
+        IfOk result (λ reasons. TellsWhy ended (run_type run.now) reasons.text.items) }
+    ensures keeps { Keeps (S.view space.old) (S.view space.new) }
+{
     let source = Pickle {
         bytes: &pickle.bytes,
         path: pickle.path.as_bytes(),
     };
-    reasons_in(mapping, source, run.terms, space, outcome)
+    reasons(run, source, space, outcome)
 }

@@ -24,7 +24,7 @@ use Rattle.pickle_json.specs.declared.field.FieldTexts.{FieldTexts}
 use Rattle.pickle_json.specs.Notes.{note_members}
 use Rattle.pickle_json.specs.Checks.{lead, notes_json}
 use Rattle.pickle_json.specs.Fields.{no_field, one_field, no_member, member, WritesFields, WritesFieldsPart, WritesMember, WritesMemberPart, field_json}
-use Rattle.pickle_json.specs.TypeObjects.{AreTypeObjects, no_object, one_object, WritesObjects, WritesObjectsPart, WritesObject, WritesObjectPart, TypesInJson, told_types, type_start, type_object}
+use Rattle.pickle_json.specs.TypeObjects.{AreTypeObjects, IsRefusedFor, no_object, one_object, WritesObjects, WritesObjectsPart, WritesObject, WritesObjectPart, TypesInJson, told_types, type_start, type_object}
 
 -- ---- fields
 
@@ -214,6 +214,12 @@ module _ (pickle : List ℕ) (declarations : List DeclarationTree) (names : Name
       subst (λ o. EndsAs (TypesInJson pickle) o out out') (sym done) (objects_whole whole)
   objects_end ended (Err e) whole part done failed =
       subst (λ o. EndsAs (TypesInJson pickle) o out out') (sym failed) (objects_part part)
+
+-- what was written is no refusal
+pub written_unrefused : (pickle : List ℕ) (ended : Outcome) (written : Result (Unit {0}) WriteFault)
+    → OnOk written (ended ≡ Done) → OnErr written (ended ≡ Failed Write) → IsRefusedFor pickle ended
+written_unrefused pickle ended (Ok u) done failed = subst (IsRefusedFor pickle) (sym done) tt
+written_unrefused pickle ended (Err e) done failed = subst (IsRefusedFor pickle) (sym failed) tt
 
 -- ---- notes
 

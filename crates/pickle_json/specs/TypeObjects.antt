@@ -9,6 +9,8 @@ use Rattle.pickle_types.specs.declared.declared_types.TypeKind.TheVariants as ki
 use Rattle.run_parts.specs.Accepted.{IsAccepted, Refuses, refusal_saying}
 use Rattle.run_parts.specs.Told.{Saying, Text}
 use Rattle.run_parts.specs.declared.accept.Refusal.{Refusal}
+use Rattle.run_parts.specs.declared.outcome.Outcome.{Outcome}
+use Rattle.run_parts.specs.declared.outcome.Outcome.TheVariants as outcome
 use Rattle.text_output.specs.Written.{AppendsPart}
 use Rattle.value_text.specs.JsonText.{json_string}
 use Rattle.pickle_json.specs.Members.{number_member}
@@ -71,3 +73,16 @@ pub data TypesInJson (pickle : List ℕ) : Saying → Type 0 where
       → IsAccepted pickle declarations types
       → AreTypeObjects (map told_as (declared_in types)) lines → TypesInJson pickle (Text lines)
   refused_types : {refusal : Refusal} → Refuses pickle refusal → TypesInJson pickle (refusal_saying refusal)
+
+-- an outcome that is a refusal is the one of the pickle
+abbrev pub IsRefusedFor : (pickle : List ℕ) → Outcome → Type 0
+IsRefusedFor pickle (outcome.Refused refusal) = Refuses pickle refusal
+IsRefusedFor pickle outcome.Done = Unit {0}
+IsRefusedFor pickle outcome.NoSuchType = Unit {0}
+IsRefusedFor pickle outcome.Offset = Unit {0}
+IsRefusedFor pickle (outcome.Fault why) = Unit {0}
+IsRefusedFor pickle (outcome.Slots at) = Unit {0}
+IsRefusedFor pickle (outcome.Left at) = Unit {0}
+IsRefusedFor pickle outcome.NoSuchPart = Unit {0}
+IsRefusedFor pickle (outcome.Output at) = Unit {0}
+IsRefusedFor pickle (outcome.Failed why) = Unit {0}

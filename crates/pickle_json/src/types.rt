@@ -7,7 +7,7 @@ ghost use Rattle.run_parts.specs.Outcomes.{EndsAs};
 ghost use Rattle.text_output.specs.Written.{AppendsPart};
 ghost use Rattle.value_text.specs.ValueText.{comma};
 ghost use Rattle.pickle_json.specs.Fields.{WritesFields, WritesFieldsPart, WritesMember, WritesMemberPart, field_json};
-ghost use Rattle.pickle_json.specs.TypeObjects.{TypesInJson, WritesObject, WritesObjectPart, WritesObjects, WritesObjectsPart, kind_member, type_start};
+ghost use Rattle.pickle_json.specs.TypeObjects.{IsRefusedFor, TypesInJson, WritesObject, WritesObjectPart, WritesObjects, WritesObjectsPart, kind_member, type_start};
 
 use crate::field::FieldTexts;
 use crate::member::{put_number, put_string};
@@ -29,7 +29,8 @@ use text_output::write::{WriteFault, put};
 /// its values in bits if that is below 2^64, and `text`, the declaration as the pickle has it, without the `;`. A struct or
 /// a union that is declared with braces has `fields`, an object for each.
 pub fn types_outcome<O: Write>(alloc: Global, pickle: &[u8], out: &mut O) -> Outcome
-    ensures { EndsAs (TypesInJson pickle.now) result (O.contents out.old) (O.contents out.new) }
+    ensures ends { EndsAs (TypesInJson pickle.now) result (O.contents out.old) (O.contents out.new) }
+    ensures refused { IsRefusedFor pickle.now result }
 {
     let table = match accept(alloc, pickle) {
         Ok(table) => table,

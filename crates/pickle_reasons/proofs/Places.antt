@@ -1,26 +1,10 @@
 -- What is printed about a refusal.
 use Rattle.std.proofs.Common.{◌≡◌, ℕ, List, [], fold, Result, Ok, Err, IfOk, subst}
-use Rattle.pickle_tree.specs.Tree.{DeclarationTree}
-use Rattle.pickle_types.specs.Names.{Names}
-use Rattle.run_parts.specs.Accepted.{IsAccepted}
-use Rattle.pickle_reasons.specs.Places.{Explains, placed, unplaced}
 use Rattle.pickle_source.specs.Places.{TellsPlace, called_by, shown_behind}
 
 pub called_is : (path : List ℕ) {start shown called : List ℕ} → called ≡ shown → shown ≡ fold shown_behind start path →
     start ≡ [] → called ≡ called_by path
 called_is path same shown_is empty = cc
-
-pub placed_if : {V E : Type 0} (pickle path : List ℕ) {called : List ℕ} → called ≡ called_by path
-    → (items : V → List ℕ) (r : Result V E) → IfOk r (λ v. TellsPlace pickle called (items v))
-    → IfOk r (λ v. Explains pickle path (items v))
-placed_if pickle path e items (Ok v) told = placed (subst (λ called. TellsPlace pickle called (items v)) e told)
-placed_if pickle path e items (Err x) told = tt
-
-pub unplaced_if : {V E : Type 0} (pickle path : List ℕ) {declarations : List DeclarationTree} {types : Names}
-    → IsAccepted pickle declarations types
-    → (items : V → List ℕ) (r : Result V E) → IfOk r (λ v. Explains pickle path (items v))
-unplaced_if pickle path accepted items (Ok v) = unplaced accepted
-unplaced_if pickle path accepted items (Err x) = tt
 
 pub told_if : {V E : Type 0} (pickle path : List ℕ) {called : List ℕ} → called ≡ called_by path
     → (items : V → List ℕ) (r : Result V E) → IfOk r (λ v. TellsPlace pickle called (items v))

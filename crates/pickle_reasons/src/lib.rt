@@ -3,7 +3,6 @@
 
 ghost use Rattle.std.specs.Prelude.{IfOk};
 ghost use Rattle.pickle_source.specs.Places.{TellsPlace, called_by};
-ghost use Rattle.pickle_reasons.specs.Places.{Explains};
 
 mod advice;
 mod braces;
@@ -31,32 +30,13 @@ mod types;
 use crate::lexical::lexical_note;
 use crate::limits::{Limit, limit_note};
 use crate::syntax::syntax_note;
-use crate::type_names::no_such_type;
 use crate::types::types_note;
 use pickle_source::note::{Note, note_text};
 use pickle_source::script::Script;
 use pickle_source::text::Text;
-use run_parts::accept::{Refusal, accept};
+use run_parts::accept::Refusal;
 use std::alloc::{AllocError, Global};
-
-/// The lines that say why a pickle, or the name of a type in it, is refused. Empty if neither is refused. `path` is the
-/// path of the pickle. Bytes outside 0x20 to 0x7e are escaped in these lines.
-pub fn explanation(
-    alloc: Global,
-    pickle: &[u8],
-    path: &[u8],
-    name: Option<&[u8]>,
-) -> Result<Vec<u8>, AllocError>
-    ensures { IfOk result (λ text. Explains pickle.now path.now text.items) }
-{
-    match accept(alloc, pickle) {
-        Ok(table) => match name {
-            Some(name) if table.find(name).is_none() => no_such_type(alloc, pickle, name),
-            _ => Ok(Vec::new(alloc)),
-        },
-        Err(refusal) => refusal_explanation(alloc, pickle, path, refusal),
-    }
-}
+pub use type_names::no_such_type;
 
 /// The lines that say why a pickle is refused, if `refusal` is its refusal. For another refusal they are about some
 /// place of the pickle. `path` is the path of the pickle. Bytes outside 0x20 to 0x7e are escaped in these lines. Their

@@ -1,5 +1,8 @@
 //! The types of a pickle that has no type of the requested name.
 
+ghost use Rattle.std.specs.Prelude.{IfOk};
+ghost use Rattle.pickle_reasons.specs.Places.{TellsNoType};
+
 use crate::expected::say_list;
 use crate::sentence::{Part, sentence};
 use crate::types::declared_before;
@@ -12,8 +15,12 @@ use std::alloc::{AllocError, Global};
 /// The most types that are printed.
 const MOST_TOLD: usize = 20;
 
-/// The lines with the types of a pickle that has no type `name`, and with the nearest name.
-pub fn no_such_type(alloc: Global, pickle: &[u8], name: &[u8]) -> Result<Vec<u8>, AllocError> {
+/// The lines for a pickle that is accepted and has no type `name`: that it hasn't, the types that it has, and the nearest
+/// name. Bytes outside 0x20 to 0x7e are escaped in these lines. The pickle isn't read as types once more, unless `name` is
+/// a type and no name.
+pub fn no_such_type(alloc: Global, pickle: &[u8], name: &[u8]) -> Result<Vec<u8>, AllocError>
+    ensures { IfOk result (λ text. TellsNoType text.items) }
+{
     let Some(script) = Script::new(alloc, pickle) else {
         return Err(AllocError);
     };
@@ -22,13 +29,15 @@ pub fn no_such_type(alloc: Global, pickle: &[u8], name: &[u8]) -> Result<Vec<u8>
         end: script.len(),
     };
     let types = declared_before(alloc, &script, behind)?;
-    let text = sentence(alloc, b"  no type `$0` is declared; ", &[Part::Word(name)])?;
+    let text = sentence(alloc, b"`$0` is declared; ", &[Part::Word(name)])?;
     let text = say_types(alloc, text, types.as_slice())?.say(b"\n")?;
     let text = match name_help(alloc, pickle, name, types.as_slice())? {
         Some(help) => say_help(text, help)?,
         None => text,
     };
-    Ok(text.into_bytes())
+    let lines = text.into_bytes();
+    let text = Text::new(alloc).say(b"  no type ")?;
+    Ok(text.say(lines.as_slice())?.into_bytes())
 }
 
 /// Adds the line with what to give instead to the text.

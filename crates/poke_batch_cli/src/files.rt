@@ -53,6 +53,8 @@ impl<
     // Nothing is known of what the system has.
     ghost gives = { λ _. anything };
 
+    ghost failing = { λ o path spool space after is keeps risen. tt };
+
     type Bytes = ShownSpace<Source, R, E>;
 
     type List = NameList<R::Reader>;

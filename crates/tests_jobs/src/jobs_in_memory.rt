@@ -51,11 +51,25 @@ const ROWS: [(&str, &str, &str); 18] = [
     ),
 ];
 
-// What a job writes to the writer, the line of its ending or of its fault, and what it tells aside.
+/// A command line with a pickle or a type that is refused, and how the lines begin that say why.
+const REFUSED_ROWS: [(&str, &str); 9] = [
+    ("check --why wrong.pk", "  wrong.pk:1:29: "),
+    ("types --why wrong.pk", "  wrong.pk:1:29: "),
+    ("bound --why wrong.pk P 24", "  wrong.pk:1:29: "),
+    ("bound --why --text wrong.pk P 24", "  wrong.pk:1:29: "),
+    ("map --why wrong.pk P a.bin", "  wrong.pk:1:29: "),
+    ("each --why wrong.pk P a.bin", "  wrong.pk:1:29: "),
+    ("bound --why --text p.pk R 24", "  no type `R` is declared; "),
+    ("map --why p.pk R a.bin", "  no type `R` is declared; "),
+    ("each --why p.pk R a.bin", "  no type `R` is declared; "),
+];
+
+// What a job writes to the writer, the line of its ending or of its fault, its reasons, and what it tells aside.
 #[derive(Drop)]
 struct Written {
     out: Vec<u8>,
     line: Vec<u8>,
+    reasons: Vec<u8>,
     aside: Vec<u8>,
 }
 
@@ -90,6 +104,7 @@ fn written_by(alloc: Global, words: &str) -> Result<Written, Fail> {
     Ok(Written {
         out,
         line,
+        reasons,
         aside: notes.text,
     })
 }
@@ -101,6 +116,17 @@ fn jobs_write_their_answers(rt: HostRuntime) -> Result<(), Fail> {
         assert_eq!(&rt; written.out.as_slice(), out.as_bytes(), "{words}");
         assert_eq!(&rt; written.line.as_slice(), line.as_bytes(), "{words}");
         assert!(rt; written.aside.is_empty(), "{words}");
+    }
+    Ok(())
+}
+
+// Every command says why it refuses a pickle or a type, if that is requested.
+#[test]
+fn refusals_have_reasons(rt: HostRuntime) -> Result<(), Fail> {
+    for (words, start) in REFUSED_ROWS {
+        let written = written_by(rt.alloc(), words)?;
+        assert!(rt; written.out.is_empty(), "{words}");
+        assert!(rt; written.reasons.starts_with(start.as_bytes()), "{words}");
     }
     Ok(())
 }

@@ -34,6 +34,8 @@ impl Opener for Shelf {
     // The tests say what is given.
     ghost gives = { λ _. anything };
 
+    ghost failing = { λ o path spool space after is keeps risen. tt };
+
     type Bytes = MemSpace;
 
     type List = OneByOne<'static>;

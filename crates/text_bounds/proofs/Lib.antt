@@ -1,3 +1,4 @@
+mod Unresolved
 pub mod NumberLengths
 pub mod Within
 pub mod StringLengths

@@ -9,7 +9,7 @@ ghost use Rattle.run_parts.specs.Told.{Says};
 use crate::bound::most_text_for;
 use crate::texts::Texts;
 use pickle_types::table::{Table, TypeId};
-use run_parts::accept::accept;
+use poke_batch::resolve::resolve;
 use run_parts::bound::put_bounds_and_text;
 use run_parts::outcome::{Failure, Outcome};
 use run_parts::status::Status;
@@ -44,13 +44,9 @@ pub fn bound_text_outcome<O: Write>(
     ensures { EndsAs (TextBoundsAs pickle.now name.now texts.bits texts.style texts.mode) result
         (O.contents out.old) (O.contents out.new) }
 {
-    let table = match accept(alloc, pickle) {
-        Ok(table) => table,
-        Err(refusal) => return Outcome::Refused(refusal),
-    };
-    match table.find(name) {
-        Some(ty) => bound_found(alloc, &table, ty, texts, out),
-        None => Outcome::NoSuchType,
+    match resolve(alloc, pickle, name) {
+        Ok((table, id)) => bound_found(alloc, &table, id, texts, out),
+        Err(outcome) => outcome,
     }
 }
 

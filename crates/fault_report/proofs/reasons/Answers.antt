@@ -1,15 +1,23 @@
-use Rattle.poke_batch.proofs.Mappings.{asked}
-use Rattle.fault_report.specs.Why.{explains, of_refused, of_no_type}
-use Rattle.fault_report.proofs.Results.{of_both}
+use Rattle.std.proofs.Common.{◌≡◌, Err, rules, refl}
+use Rattle.poke_batch.specs.TypeRuns.{run_type}
+use Rattle.fault_report.specs.Found.{scene_type}
+use Rattle.fault_report.specs.Why.{run_of}
+use Rattle.fault_report.proofs.Meant.{told_again}
+use Rattle.fault_report.proofs.reasons.Goals.{in-Ok-end+in_ok-text-in-Ok-end, in-Err+in_ok-text-in-Err}
 use Rattle.fault_report.proofs.reasons.Goals as goal
 
-pub returns-in-Err-clause-why : goal.returns-in-Err-clause-why
-returns-in-Err-clause-why g c = of_both _ _ _ (λ reasons empty known. rw empty (of_refused known c.in-Err.ensures.err))
-    c.none_refused.result c.none_refused.ensures.text c.none_refused.ensures.refused
-
-pub returns-in_default-clause-why : goal.returns-in_default-clause-why
-returns-in_default-clause-why g c =
-    rw c.none.ensures (of_no_type c.in-Ok.ensures.ok.1 (rw c.in_default.is at c.find.ensures.found))
-
 pub returns-clause-why : goal.returns-clause-why
-returns-clause-why g c = explains (asked c.in-Ok.ensures.ok.1 c.in-Some.ensures.found) c.in_ok-reasons.ensures.why
+returns-clause-why g c =
+    let ended = run_of (g.S.Space.view c.args.space.now) (g.S.Space.view c.map_again.new.space) c.args.run.now.ask.now
+    c.args.run.now.terms.now c.args.outcome in
+    let type = run_type c.args.run.now in
+    let found = scene_type c.in_ok-scene.scene in
+    let same : found ≡ type = rw (c.in_ok-scene.ensures.nodes, c.in_ok-scene.ensures.root) refl in
+    elim c.match-end.branch [
+      | in-Ok-end+in_ok-text-in-Ok-end w ↦ search rules
+      | in-Err+in_ok-text-in-Err w ↦
+          let stopped : c.in_ok-end.field-0.end ≡ Err w.in-Err.fault = (cc) in
+          rw w.text-is
+          (told_again ended type found c.in_ok-end.field-0 w.in-Err.fault _ same stopped c.in_ok-end.ensures.fault
+          c.in_ok-end.ensures.part c.in_ok-end.ensures.device (w.in_ok-text-in-Err.ensures.why ended.space ended.after))
+    ]

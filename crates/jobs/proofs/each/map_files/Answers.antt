@@ -1,41 +1,20 @@
-use Rattle.std.proofs.Common.{subst}
+use Rattle.std.proofs.Common.{Ok}
 use Rattle.std.proofs.KnownBytes.{Keeps-refl}
-use Rattle.jobs.specs.Aims.{aim_of}
-use Rattle.jobs.specs.Every.{AppendsNamed}
-use Rattle.jobs.specs.Jobs.{refused_each, each_done, each_fails}
-use Rattle.jobs.specs.Names.{AreNamesOf}
-use Rattle.jobs.specs.declared.file_run.FileForm.{FileForm}
+use Rattle.std.proofs.lemmas.Result.{err_from_is_err_and}
+use Rattle.jobs.specs.Aims.{of_mapping}
+use Rattle.jobs.specs.Due.{of_pickle, unread}
+use Rattle.jobs.specs.Jobs.{DueEach}
+use Rattle.jobs.proofs.Holding.{holds_more, no_text}
 use Rattle.jobs.proofs.each.map_files.Goals as goal
 
-pub returns-in-Err-clause-ok : goal.returns-in-Err-clause-ok
-returns-in-Err-clause-ok g c = record {
-  pickle = c.deref.result.now;
-  given = rw c.deref.ensures.value c.in_ok-pickle.ensures.ok;
-  ends = refused_each c.in-Err.ensures.none (Keeps-refl _);
-}
+pub returns-in_err-pickle : goal.returns-in_err-pickle
+returns-in_err-pickle g c =
+    let p = err_from_is_err_and c.from_residual.result c.from_residual.ensures.1 in
+    rw (p.1, p.2) (no_text _ _ _ _ (unread c.in_err-pickle.ensures.err) (Keeps-refl _))
 
-pub returns-in-Ok-written-clause-ok : goal.returns-in-Ok-written-clause-ok
-returns-in-Ok-written-clause-ok g c =
-    let gives = g.P.Opener.gives c.args.opener.now in
-    let mapping = c.args.mapping in
-    let Written : FileForm → Type 0 = λ form. AppendsNamed gives (record {
-      pickle = c.in_ok-pickle.pickle.bytes.items;
-      aim = aim_of mapping;
-      terms = mapping.terms.now;
-      spool = mapping.spool;
-      form = form;
-      why = c.args.why.now.asked;
-    }) (AreNamesOf gives c.args.names.now) (g.O.Write.contents c.args.out.now)
-    (g.O.Write.contents c.run_files-written.new.out) c.in-Ok-written.status in
-    record {
-      pickle = c.in_ok-pickle.pickle.bytes.items;
-      given = c.in_ok-pickle.ensures.ok;
-      ends = each_done (subst Written c.of.ensures (rw c.in-Ok-written.is at c.run_files-written.ensures.ok));
-    }
-
-pub returns-clause-ok : goal.returns-clause-ok
-returns-clause-ok g c = record {
-  pickle = c.in_ok-pickle.pickle.bytes.items;
-  given = c.in_ok-pickle.ensures.ok;
-  ends = each_fails _;
-}
+pub returns : goal.returns
+returns g c =
+    holds_more
+    (DueEach (g.P.Opener.gives c.args.opener.now) c.args.why.now.asked (of_mapping c.args.mapping) c.args.names.now
+    c.in_ok-pickle.pickle.bytes.items)
+    _ (Ok c.map_each.result) _ _ (λ lines end due. of_pickle c.in_ok-pickle.ensures.ok due) c.map_each.ensures

@@ -1,20 +1,26 @@
-use Rattle.std.proofs.Common.{◌≡◌, sym}
-use Rattle.std.proofs.lemmas.Result.{IfOk-weaker}
+use Rattle.std.proofs.Common.{◌≡◌, ℕ, List, Ok, Option, refl, inr, sym, subst}
+use Rattle.std.proofs.KnownBytes.{Appends-nil}
+use Rattle.jobs.specs.Due.{whole}
 use Rattle.jobs.specs.Every.{every_of}
-use Rattle.jobs.specs.Names.{AreListed}
-use Rattle.jobs.proofs.EachWritten.{named_otherwise}
+use Rattle.jobs.specs.Files.{no_files}
+use Rattle.jobs.specs.Given.{files_ending}
+use Rattle.jobs.specs.Jobs.{DueFiles, DueNamed, files_end}
+use Rattle.jobs.specs.Names.{AreListed, AreListedFirst, StopsList, none_listed}
+use Rattle.jobs.proofs.EachWritten.{listed_otherwise}
+use Rattle.jobs.proofs.Holding.{holds_more}
 use Rattle.jobs.proofs.each.run_files.Goals as goal
 
+pub returns-in-Words : goal.returns-in-Words
+returns-in-Words g c = rw c.in-Words.is (rw (sym c.as_slice.ensures.value) c.run_words.ensures)
+
 pub returns-in-Some : goal.returns-in-Some
-returns-in-Some g c = record {
-  ok = IfOk-weaker c.run_list.result _ _ (λ greatest h. rw c.in-EndedByZero.is
-      (named_otherwise (g.P.Opener.gives c.args.opener.now) (every_of c.args.typed) _ _ _ _ greatest
-      (λ names (are : AreListed (λ bytes. bytes ≡ g.P.List.Read.remaining c.in-Some.list) names).
-      record {
-        list = are.list;
-        rest = are.rest;
-        is = rw are.is (rw (sym c.deref.ensures) c.in-Some.ensures);
-        read = are.read;
-        end = are.end;
-      }) h)) c.run_list.ensures.ok;
-}
+returns-in-Some g c =
+    rw c.in-EndedByZero.is
+    (holds_more _ _ (Ok (files_ending c.run_list.result)) _ _
+    (listed_otherwise (g.P.Opener.gives c.args.opener.now) (every_of c.args.typed) _ _ StopsList
+    (λ bytes is. rw is (rw (sym c.deref.ensures) c.in-Some.ensures)))
+    c.run_list.ensures)
+
+pub returns-in_default : goal.returns-in_default
+returns-in_default g c =
+    rw c.in-EndedByZero.is (whole (files_end (inr refl) none_listed no_files) (Appends-nil _))

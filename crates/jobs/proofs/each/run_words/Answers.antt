@@ -1,8 +1,10 @@
-use Rattle.std.proofs.Common.{◌≡◌, ◌∙◌, [], ◌∷◌, ◌++◌, ◌+◌, take, sym, ap, subst, arith}
-use Rattle.std.proofs.lemmas.List.{take_more}
+use Rattle.std.proofs.Common.{◌≡◌, ◌∙◌, [], ◌∷◌, ◌++◌, ◌+◌, take, refl, sym, ap, subst, arith}
+use Rattle.std.proofs.lemmas.List.{take_more, take_all}
+use Rattle.std.proofs.lemmas.Result.{err_from_is_err_and}
 use Rattle.jobs.specs.Every.{every_of}
 use Rattle.jobs.specs.Names.{AreNamed}
-use Rattle.jobs.proofs.EachWritten.{none_written, one_written, word_named}
+use Rattle.jobs.proofs.EachWritten.{all_hold, cut_hold, first_hold, named_first, none_written, one_written, word_named}
+use Rattle.run_parts.specs.declared.outcome.Failure.TheVariants.{Memory}
 use Rattle.jobs.proofs.each.run_words.Goals as goal
 
 pub loop-word-init : goal.loop-word-init

@@ -1,5 +1,3 @@
-use Rattle.jobs.proofs.Written.{adds_text}
+use Rattle.std.proofs.KnownBytes.{Keeps-refl}
+use Rattle.jobs.specs.Given.{adds_none}
 use Rattle.jobs.proofs.one_file.explain_run.Goals as goal
-
-pub returns-in-Ok : goal.returns-in-Ok
-returns-in-Ok g c = adds_text c.put-shown.result _ _ _ c.put-shown.ensures.ok c.put-shown.ensures.err

@@ -1,43 +1,54 @@
 use Rattle.std.proofs.KnownBytes.{Keeps-refl}
-use Rattle.jobs.specs.Jobs.{starts_nowhere, maps, pickle_fails, file_fails, pages_fail}
-use Rattle.jobs.proofs.Written.{adds_none}
 use Rattle.std.proofs.lemmas.Result.{err_from_is_err_and}
+use Rattle.std.proofs.Common.{Ok, Err, Some}
+use Rattle.bit_space.specs.SpaceView.{HasRisen}
+use Rattle.jobs.specs.Aims.{of_mapping}
+use Rattle.jobs.specs.Due.{of_pickle, unread}
+use Rattle.jobs.specs.Jobs.{DueFile, DueSpace, maps, no_pages, starts_nowhere, unopened}
+use Rattle.jobs.specs.declared.ending.Ending.TheVariants.{Run}
+use Rattle.jobs.proofs.Holding.{holds_more, no_text}
+use Rattle.jobs.proofs.Mapped.{risen_more}
 use Rattle.jobs.proofs.one_file.map_file.Goals as goal
 
-pub returns-in_err-pickle-clause-fault : goal.returns-in_err-pickle-clause-fault
-returns-in_err-pickle-clause-fault g c =
+pub returns-in_err-pickle : goal.returns-in_err-pickle
+returns-in_err-pickle g c =
     let p = err_from_is_err_and c.from_residual.result c.from_residual.ensures.1 in
-    rw (p.1, p.2) (pickle_fails c.in_err-pickle.ensures.err)
+    rw (p.1, p.2) (no_text _ _ _ _ (unread c.in_err-pickle.ensures.err) (Keeps-refl _))
 
-pub returns-in_err-bytes-clause-fault : goal.returns-in_err-bytes-clause-fault
-returns-in_err-bytes-clause-fault g c =
+pub returns-in_err-bytes : goal.returns-in_err-bytes
+returns-in_err-bytes g c =
     let p = err_from_is_err_and c.from_residual-in_err-bytes.result c.from_residual-in_err-bytes.ensures.1 in
-    rw (p.1, p.2) (file_fails c.in_err-bytes.ensures.err)
+    rw (p.1, p.2)
+    (no_text _ _ _ _ (of_pickle c.in_ok-pickle.ensures.ok (unopened c.in_err-bytes.ensures.err)) (Keeps-refl _))
 
-pub returns-in_err-space-clause-fault : goal.returns-in_err-space-clause-fault
-returns-in_err-space-clause-fault g c =
+pub returns-in_err-space : goal.returns-in_err-space
+returns-in_err-space g c =
     let p = err_from_is_err_and c.from_residual-in_err-space.result c.from_residual-in_err-space.ensures.1 in
-    rw (p.1, p.2) pages_fail
+    rw (p.1, p.2) (no_text _ _ _ _ (of_pickle c.in_ok-pickle.ensures.ok no_pages) (Keeps-refl _))
 
-pub returns-in_default-clause-ok : goal.returns-in_default-clause-ok
-returns-in_default-clause-ok g c = record {
-  pickle = c.in_ok-pickle.pickle.bytes.items;
-  given = c.in_ok-pickle.ensures.ok;
-  file = g.P.Bytes.Space.view c.in_ok-space.space;
-  opened = rw c.in_ok-space.ensures c.in_ok-bytes.ensures.ok;
-  told = g.O.Write.contents c.args.out.now;
-  ends = starts_nowhere (rw c.in_default.is at c.ask_in.ensures.none) (Keeps-refl _);
-  more = adds_none _ _;
-}
+pub returns-in_default : goal.returns-in_default
+returns-in_default g c =
+    no_text _ _ _ _
+    (of_pickle c.in_ok-pickle.ensures.ok
+    (starts_nowhere {file = g.P.Bytes.Space.view c.in_ok-space.space}
+    (rw c.in_ok-space.ensures c.in_ok-bytes.ensures.ok) (rw c.in_default.is at c.ask_in.ensures.none)))
+    (Keeps-refl _)
 
-pub returns-clause-ok : goal.returns-clause-ok
-returns-clause-ok g c = record {
-  pickle = c.in_ok-pickle.pickle.bytes.items;
-  given = c.in_ok-pickle.ensures.ok;
-  file = g.P.Bytes.Space.view c.in_ok-space.space;
-  opened = rw c.in_ok-space.ensures c.in_ok-bytes.ensures.ok;
-  told = c.map_space-outcome.ensures.told;
-  ends = maps c.in-Some.ask c.map_space-outcome.ensures.after (rw c.in-Some.is at c.ask_in.ensures.some)
-      c.map_space-outcome.ensures.ends;
-  more = c.map_space-outcome.ensures.more;
-}
+pub returns : goal.returns
+returns g c =
+    let gives = g.P.Opener.gives c.args.opener.now in
+    let file = g.P.Bytes.Space.view c.in_ok-space.space in
+    let last = g.P.Bytes.Space.view c.map_space-outcome.new.space in
+    let opened = rw c.in_ok-space.ensures c.in_ok-bytes.ensures.ok in
+    let mapped = c.map_space-outcome.ensures.maps in
+    let failing = λ (risen : HasRisen file.failures mapped.after.failures).
+    g.P.Opener.failing c.args.opener.now c.args.path.now c.args.mapping.spool c.in_ok-space.space
+    c.map_space-outcome.new.space opened c.map_space-outcome.ensures.keeps
+    (risen_more file.failures mapped.after.failures last.failures risen mapped.failures) in
+    holds_more
+    (DueSpace c.in_ok-pickle.pickle.bytes.items c.in-Some.ask c.args.mapping.terms.now file mapped.after
+    c.args.why.now.asked)
+    _ (Ok (Run c.map_space-outcome.result)) _ _
+    (λ lines end due. of_pickle c.in_ok-pickle.ensures.ok
+    (maps {file = file} {after = mapped.after} c.in-Some.ask opened (rw c.in-Some.is at c.ask_in.ensures.some) failing due))
+    mapped.holds

@@ -1,7 +1,7 @@
 -- The part that is told has the fault where the check found it.
 --
 -- The check finds the fault at the places of the part's way; the notes near it leave the way as it was.
-use Rattle.fault_report.proofs.mapping.TypeMapping.confirm_part.Goals as goal
+use Rattle.fault_report.proofs.part.confirm_part.Goals as goal
 
 pub returns-clause-part : goal.returns-clause-part
 returns-clause-part g c =

@@ -1,0 +1,41 @@
+use Rattle.std.proofs.Common.{Ok, subst}
+use Rattle.std.proofs.KnownBytes.{Keeps-refl}
+use Rattle.jobs.specs.Aims.{aim_of, of_mapping}
+use Rattle.jobs.specs.Due.{Holds}
+use Rattle.jobs.specs.Given.{files_ending}
+use Rattle.jobs.specs.Jobs.{DueNamed, every_for, files_due, no_run_due}
+use Rattle.jobs.specs.declared.ending.Ending.TheVariants.{Run}
+use Rattle.jobs.specs.declared.file_run.FileForm.{FileForm}
+use Rattle.jobs.proofs.Holding.{holds_more, no_text}
+use Rattle.poke_batch.specs.RunsUnder.{lacks_part, lacks_type}
+use Rattle.jobs.proofs.each.map_each.Goals as goal
+
+pub returns-in-Err : goal.returns-in-Err
+returns-in-Err g c =
+    no_text _ (Ok (Run c.in-Err.outcome)) _ _ (no_run_due (lacks_type (rw c.deref.ensures.value c.in-Err.ensures.none)))
+    (Keeps-refl _)
+
+pub returns-in-Some : goal.returns-in-Some
+returns-in-Some g c =
+    no_text _ (Ok (Run c.in-Some.outcome)) _ _
+    (no_run_due (lacks_part (rw c.deref.ensures.value c.in-Ok.ensures.asked) c.in-Some.ensures.some)) (Keeps-refl _)
+
+pub returns : goal.returns
+returns g c =
+    let gives = g.P.Opener.gives c.args.opener.now in
+    let mapping = c.args.mapping in
+    let pickle = c.args.pickle.now.bytes.items in
+    let Written : FileForm → Type 0 = λ form. Holds (DueNamed gives (record {
+      pickle = pickle;
+      aim = aim_of mapping;
+      terms = mapping.terms.now;
+      spool = mapping.spool;
+      form = form;
+      why = c.args.why.now.asked;
+    }) c.args.names.now) (g.O.Write.contents c.args.out.now) (g.O.Write.contents c.run_files-written.new.out)
+    (Ok (files_ending c.run_files-written.result)) in
+    rw c.files_ending.ensures
+    (holds_more (DueNamed gives (every_for c.args.why.now.asked (of_mapping mapping) pickle) c.args.names.now) _
+    (Ok (files_ending c.run_files-written.result)) _ _ (λ lines end due. files_due (rw c.deref.ensures.value c.in-Ok.ensures.asked)
+    c.refuse_parts.ensures.none due)
+    (subst Written c.of.ensures c.run_files-written.ensures))
