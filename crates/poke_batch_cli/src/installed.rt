@@ -45,8 +45,10 @@ pub fn pickles_folder<R: Files + Env + AllocGlobal>(rt: &R) -> Result<Option<Str
     if !named.is_empty() {
         return Ok(Some(named));
     }
-    let Ok(program) = env::current_exe(rt) else {
-        return Ok(None);
+    let program = match env::current_exe(rt) {
+        Ok(program) => program,
+        Err(error) if error.kind() == ErrorKind::OutOfMemory => return Err(AllocError),
+        Err(_) => return Ok(None),
     };
     match folder_of(program.as_str()).and_then(folder_of) {
         Some(above) => {

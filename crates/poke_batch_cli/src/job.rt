@@ -5,7 +5,7 @@ use crate::files::SystemFiles;
 use crate::formats::list_formats;
 use crate::installed::{names_installed, tell_installed, tell_missing, tell_unlisted};
 use crate::own_streams::OwnStreams;
-use crate::reason_text::{add, add_word};
+use crate::reason_text::{add, add_word, leave_untold};
 use crate::with_progress::ClearedWriter;
 use bit_space::OpenFault;
 use command_line::answer_form::AnswerForm;
@@ -81,7 +81,7 @@ fn end_by_fault<O: Write>(
     }
 }
 
-// Explains why the pickle or the file wasn't opened, if that is requested. If an allocation fails there is only the line.
+// Explains why the pickle or the file wasn't opened, if that is requested.
 fn explain_fault<R: Files<File = File> + Env + AllocGlobal + Clone + Drop>(
     rt: &R,
     job: &Job,
@@ -102,8 +102,10 @@ fn explain_fault<R: Files<File = File> + Env + AllocGlobal + Clone + Drop>(
         },
         _ => Ok(()),
     };
-    if told.is_err() {
-        why.text.clear();
+    match told {
+        Ok(()) => {}
+        Err(fault) if matches!(fault.failure(), Failure::Memory) => leave_untold(why.text),
+        Err(_) => why.text.clear(),
     }
 }
 

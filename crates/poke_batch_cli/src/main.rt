@@ -32,6 +32,7 @@ use poke_batch::status::Status;
 use poke_batch::tell::answer;
 use poke_batch::words::{Asked, Job, WordFault, read_asked, read_words};
 use poke_batch::write::{WriteFault, put};
+use reason_text::no_reasons;
 use std::alloc::{AllocError, Global};
 use std::env;
 use std::io::{IsTerminal, Write};
@@ -50,7 +51,7 @@ const WHY_VARIABLE: &str = "POKE_BATCH_WHY";
 pub type ErrorLine = ArrayVec<u8, 128>;
 
 fn main(rt: HostRuntime) -> ExitCode {
-    let mut reason = Vec::new(rt.alloc());
+    let mut reason = no_reasons(rt.alloc());
     let (faults, explainable, ending) = match read_job(&rt) {
         Ok(asked) => (
             faults_in(&asked.job),
