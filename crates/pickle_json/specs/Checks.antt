@@ -1,5 +1,5 @@
 -- The answer of a check as a JSON object, on a line.
-use Rattle.std.specs.Prelude.{◌≡◌, ℕ, Bool, true, false, List, [], ◌∷◌, ◌++◌, Option, None, Some, codes}
+use Rattle.std.specs.Prelude.{◌≡◌, ◌≢◌, ℕ, Bool, true, false, List, [], ◌∷◌, ◌++◌, Option, None, Some, codes}
 use Rattle.std.specs.Io.KnownBytes.{Appends}
 use Rattle.pickle_tree.specs.Tree.{DeclarationTree}
 use Rattle.pickle_types.specs.Names.{Names}
@@ -7,6 +7,7 @@ use Rattle.pickle_source.specs.declared.note.Note.{Note}
 use Rattle.run_parts.specs.Accepted.{IsAccepted, Refuses}
 use Rattle.run_parts.specs.Outcomes.{outcome_members, outcome_status}
 use Rattle.run_parts.specs.declared.accept.Refusal.{Refusal}
+use Rattle.run_parts.specs.declared.accept.Refusal.TheVariants as refusal
 use Rattle.run_parts.specs.declared.outcome.Outcome.TheVariants as outcome
 use Rattle.run_parts.specs.declared.status.Status.{Status}
 use Rattle.run_parts.specs.declared.status.Status.TheVariants.{Done}
@@ -43,14 +44,27 @@ abbrev pub refused_json : (pickle : List ℕ) → Refusal → Option Note → Li
 refused_json pickle refusal note =
     codes "{" ++ (outcome_members (outcome.Refused refusal) ++ (more_members pickle note ++ codes "}\n"))
 
--- the right answers with their exit statuses; notes are there only if they are requested
+-- the same where a note was requested that couldn't be made
+abbrev pub untold_json : Refusal → List ℕ
+untold_json refusal = codes "{" ++ (outcome_members (outcome.Refused refusal) ++ codes ",\"says\":null}\n")
+
+-- a note is there if it is requested; a refusal for want of memory has none
+abbrev pub IsAsked : (explains : Bool) → Refusal → Option Note → Type 0
+IsAsked false refused note = note ≡ None
+IsAsked true refused note = refused ≢ refusal.Memory → note ≢ None
+
+-- the right answers with their exit statuses; notes are there if they are requested, or are null
 pub data ChecksInJson (pickle : List ℕ) (explains : Bool) : Status → List ℕ → Type 0 where
   accepted : {declarations : List DeclarationTree} {types : Names} (notes : List Note)
       → IsAccepted pickle declarations types
       → (explains ≡ false → notes ≡ []) → ChecksInJson pickle explains Done (accepted_json pickle notes)
   refused : {refusal : Refusal} (note : Option Note) → Refuses pickle refusal
-      → (explains ≡ false → note ≡ None)
+      → IsAsked explains refusal note
       → ChecksInJson pickle explains (outcome_status (outcome.Refused refusal)) (refused_json pickle refusal note)
+  unnoted : {declarations : List DeclarationTree} {types : Names} → IsAccepted pickle declarations types
+      → explains ≡ true → ChecksInJson pickle explains Done (codes "{\"accepted\":true,\"warnings\":null}\n")
+  unexplained : {refusal : Refusal} → Refuses pickle refusal → explains ≡ true
+      → ChecksInJson pickle explains (outcome_status (outcome.Refused refusal)) (untold_json refusal)
 
 -- a right answer is written whole
 pub record Answers (pickle : List ℕ) (explains : Bool) (status : Status) (old new : Option (List ℕ)) : Type 0 where

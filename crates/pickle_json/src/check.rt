@@ -1,11 +1,11 @@
 //! The check of a pickle as a JSON object.
 
-ghost use Rattle.std.specs.Prelude.{◌≡◌, ◌++◌, [], codes, true, false, None, IfOk, OnOk, OnErr};
+ghost use Rattle.std.specs.Prelude.{◌≡◌, ◌++◌, [], codes, true, false, IfOk, OnOk, OnErr};
 ghost use Rattle.std.specs.Io.KnownBytes.{Appends};
 ghost use Rattle.run_parts.specs.Accepted.{IsTableOf, Refuses};
 ghost use Rattle.text_output.specs.Written.{AppendsPart};
 ghost use Rattle.pickle_json.specs.Notes.{note_members};
-ghost use Rattle.pickle_json.specs.Checks.{Answers, AnswersPart, accepted_json, lead, more_members, notes_json, refused_json, warnings_json};
+ghost use Rattle.pickle_json.specs.Checks.{Answers, AnswersPart, IsAsked, accepted_json, lead, more_members, notes_json, refused_json, untold_json, warnings_json};
 
 use crate::note::put_note;
 use pickle_reasons::refusal_note;
@@ -15,7 +15,7 @@ use pickle_warnings::accepted_notes;
 use run_parts::accept::{Refusal, accept};
 use run_parts::outcome::Outcome;
 use run_parts::status::Status;
-use std::alloc::Global;
+use std::alloc::{AllocError, Global};
 use std::io::Write;
 use text_output::write::{WriteFault, put};
 
@@ -24,7 +24,7 @@ use text_output::write::{WriteFault, put};
 ///
 /// With `explains`, an accepted pickle has the member `warnings`, with an object for each note about what it can't mean;
 /// without notes there is no such member. A refused one has the members of the note about the refusal. If an allocation
-/// for notes fails, they are left out.
+/// for notes fails, `warnings` or `says` is `null`.
 pub fn put_check<W: Write>(
     alloc: Global,
     pickle: &[u8],
@@ -52,21 +52,54 @@ fn put_acceptance<W: Write>(
     ensures ok { IfOk result (λ status. Answers pickle.now explains status (W.contents w.old) (W.contents w.new)) }
     ensures err { OnErr result (AnswersPart pickle.now explains (W.contents w.old) (W.contents w.new)) }
 {
-    let notes = notes_if(alloc, pickle, explains);
-    put_accepted(w, pickle, notes.as_slice())?;
+    match notes_if(alloc, pickle, explains) {
+        Ok(notes) => put_noted(pickle, _table, explains, notes.as_slice(), w),
+        Err(_) => put_unnoted(pickle, _table, explains, w),
+    }
+}
+
+// Writes the answer for an accepted pickle and the notes about it, and returns the exit status.
+fn put_noted<W: Write>(
+    pickle: &[u8],
+    _table: &Table,
+    _explains: bool,
+    notes: &[Note],
+    w: &mut W,
+) -> Result<Status, WriteFault>
+    requires table { IsTableOf pickle.now _table.now }
+    requires asked { _explains ≡ false → notes.now ≡ [] }
+    ensures ok { IfOk result (λ status. Answers pickle.now _explains status (W.contents w.old) (W.contents w.new)) }
+    ensures err { OnErr result (AnswersPart pickle.now _explains (W.contents w.old) (W.contents w.new)) }
+{
+    put_accepted(w, pickle, notes)?;
     Ok(Status::Done)
 }
 
-// The notes about an accepted pickle, if they are requested and no allocation fails.
-fn notes_if(alloc: Global, pickle: &[u8], explains: bool) -> Vec<Note>
-    ensures { explains ≡ false → result.items ≡ [] }
+// Writes the answer for an accepted pickle about which notes were requested that couldn't be made.
+fn put_unnoted<W: Write>(
+    _pickle: &[u8],
+    _table: &Table,
+    _explains: bool,
+    w: &mut W,
+) -> Result<Status, WriteFault>
+    requires table { IsTableOf _pickle.now _table.now }
+    requires asked { _explains ≡ true }
+    ensures ok { IfOk result (λ status. Answers _pickle.now _explains status (W.contents w.old) (W.contents w.new)) }
+    ensures err { OnErr result (AnswersPart _pickle.now _explains (W.contents w.old) (W.contents w.new)) }
 {
-    if !explains {
-        return Vec::new(alloc);
-    }
-    match accepted_notes(alloc, pickle) {
-        Ok(notes) => notes,
-        Err(_) => Vec::new(alloc),
+    put(w, b"{\"accepted\":true,\"warnings\":null}\n")?;
+    Ok(Status::Done)
+}
+
+// The notes about an accepted pickle, if they are requested.
+fn notes_if(alloc: Global, pickle: &[u8], explains: bool) -> Result<Vec<Note>, AllocError>
+    ensures asked { IfOk result (λ notes. explains ≡ false → notes.items ≡ []) }
+    ensures fault { OnErr result (explains ≡ true) }
+{
+    if explains {
+        accepted_notes(alloc, pickle)
+    } else {
+        Ok(Vec::new(alloc))
     }
 }
 
@@ -83,19 +116,75 @@ pub fn put_refusal<W: Write>(
     ensures err { Refuses pickle.now refusal →
         OnErr result (AnswersPart pickle.now explains (W.contents w.old) (W.contents w.new)) }
 {
-    let note = note_if(alloc, pickle, refusal, explains);
-    put_refused(w, pickle, refusal, &note)?;
+    match note_if(alloc, pickle, refusal, explains) {
+        Ok(note) => put_explained(pickle, refusal, explains, &note, w),
+        Err(_) => put_unexplained(pickle, refusal, explains, w),
+    }
+}
+
+// Writes the answer for a refused pickle with the note about it, if there is one, and returns the exit status.
+fn put_explained<W: Write>(
+    pickle: &[u8],
+    refusal: Refusal,
+    _explains: bool,
+    note: &Option<Note>,
+    w: &mut W,
+) -> Result<Status, WriteFault>
+    requires asked { IsAsked _explains refusal note.now }
+    ensures ok { Refuses pickle.now refusal →
+        IfOk result (λ status. Answers pickle.now _explains status (W.contents w.old) (W.contents w.new)) }
+    ensures err { Refuses pickle.now refusal →
+        OnErr result (AnswersPart pickle.now _explains (W.contents w.old) (W.contents w.new)) }
+{
+    put_refused(w, pickle, refusal, note)?;
     Ok(Outcome::Refused(refusal).status())
 }
 
-// The note about a refusal, if it is requested and no allocation fails.
-fn note_if(alloc: Global, pickle: &[u8], refusal: Refusal, explains: bool) -> Option<Note>
-    ensures { explains ≡ false → result ≡ None }
+// Writes the answer for a refused pickle about which a note was requested that couldn't be made.
+fn put_unexplained<W: Write>(
+    _pickle: &[u8],
+    refusal: Refusal,
+    _explains: bool,
+    w: &mut W,
+) -> Result<Status, WriteFault>
+    requires asked { _explains ≡ true }
+    ensures ok { Refuses _pickle.now refusal →
+        IfOk result (λ status. Answers _pickle.now _explains status (W.contents w.old) (W.contents w.new)) }
+    ensures err { Refuses _pickle.now refusal →
+        OnErr result (AnswersPart _pickle.now _explains (W.contents w.old) (W.contents w.new)) }
 {
-    if !explains {
-        return None;
+    put_untold(w, refusal)?;
+    Ok(Outcome::Refused(refusal).status())
+}
+
+#[tactic(auto, using(text_output::proofs::Parts::written))]
+fn put_untold<W: Write>(w: &mut W, refusal: Refusal) -> Result<(), WriteFault>
+    ensures ok { OnOk result (Appends (W.contents w.old) (W.contents w.new) (untold_json refusal)) }
+    ensures err { OnErr result (AppendsPart (W.contents w.old) (W.contents w.new) (untold_json refusal)) }
+{
+    put(w, b"{")?;
+    Outcome::Refused(refusal).put_members(w)?;
+    put(w, b",\"says\":null}\n")?;
+    Ok(())
+}
+
+// The note about a refusal, if it is requested. The fault of an allocation that failed needs none.
+fn note_if(
+    alloc: Global,
+    pickle: &[u8],
+    refusal: Refusal,
+    explains: bool,
+) -> Result<Option<Note>, AllocError>
+    ensures asked { IfOk result (IsAsked explains refusal) }
+    ensures fault { OnErr result (explains ≡ true) }
+{
+    match (explains, refusal) {
+        (false, _) | (true, Refusal::Memory) => Ok(None),
+        (true, _) => match refusal_note(alloc, pickle, refusal) {
+            Ok(note) => Ok(Some(note)),
+            Err(fault) => Err(fault),
+        },
     }
-    refusal_note(alloc, pickle, refusal).ok()
 }
 
 fn put_accepted<W: Write>(w: &mut W, pickle: &[u8], notes: &[Note]) -> Result<(), WriteFault>
