@@ -17,8 +17,8 @@ follow-requires g c =
     let new = c.new-checker.ensures in
     record {
       part = record {
-        inside = rw (new.nodes, bare.inner_is, c.nodes.ensures) c.requires.known;
-        deep = rw (new.nodes, new.store, bare.inner_is, c.nodes.ensures) held;
+        inside = rw (new.nodes, bare.inner_is, c.nodes.ensures, c.node.ensures) c.requires.known;
+        deep = rw (new.nodes, new.store, bare.inner_is, c.nodes.ensures, c.node.ensures) held;
         sound = rw bare.clause_is tt;
       };
     }
@@ -28,6 +28,7 @@ returns-clause-is g c =
     λ yes bytes e.
     let none = none_kept c.args.whole.table.now.nodes.items c.args.store.now c.requires.empty in
     let new = c.new-checker.ensures in
-    let found = rw (new.nodes, new.store, c.bare_part.ensures.inner_is, c.nodes.ensures, none, c.from.ensures)
+    let found =
+    rw (new.nodes, new.store, c.bare_part.ensures.inner_is, c.nodes.ensures, c.node.ensures, none, c.from.ensures)
     at (c.follow.ensures.is yes bytes e) in
     of_bare c.bare_part.ensures.clause_is found

@@ -12,7 +12,7 @@ returns-clause-is g c =
     let none = none_kept c.args.whole.table.now.nodes.items c.args.store.now c.requires.empty in
     let e = c.new-checker.ensures in
     let grown =
-    rw (e.nodes, e.store, c.nodes.ensures, none, c.from.ensures, c.new-path.ensures.items)
+    rw (e.nodes, e.store, c.nodes.ensures, c.node.ensures, none, c.from.ensures, c.new-path.ensures.items)
     at (c.in_ok-located.ensures.is bytes known) in
     located (bits_of bytes) (start_type c.args.whole) c.args.whole.order no_values c.args.whole.start
     c.locate-located.new.path.items grown f means
@@ -23,5 +23,5 @@ returns-in_err-located-clause-ended g c =
     let none = none_kept c.args.whole.table.now.nodes.items c.args.store.now c.requires.empty in
     let e = c.new-checker.ensures in
     rw (p.1, p.2)
-    (λ bytes known. rw (e.nodes, e.meter, e.store, c.nodes.ensures, none, c.from.ensures)
+    (λ bytes known. rw (e.nodes, e.meter, e.store, c.nodes.ensures, c.node.ensures, none, c.from.ensures)
     at (c.in_err-located.ensures.spends bytes known))
