@@ -53,7 +53,8 @@ returns-in-Err-clause-ends g c =
     (end_under pickle ask run.terms.now _ _ fault.kind fault.at asked
     (λ memory.
     least_of most _ _ c.requires.store c.clear.ensures.empty c.clear.ensures.fixed (c.in-Err.ensures.is.memory memory))
-    (λ memory. few_of most _ _ (prepared (run_type run) _ c.clear.new.self).room (run_type run) ask _
+    (λ memory. few_of most _ _ (prepared (run_type run) (g.S.Space.view c.args.space.now) c.clear.new.self).room
+    (run_type run) ask _
     (meter.limit - meter.steps) c.requires.store c.clear.ensures.empty refl c.clear.ensures.fixed
     (omega (arith, limit, unused))
     (λ bytes known kept. c.in-Err.ensures.is.asked bytes known memory kept))
@@ -61,7 +62,7 @@ returns-in-Err-clause-ends g c =
     (fault_says pickle ask _ _ (run_type run) fault.at meter.limit meter.steps _ _ _ limit unused asked fault.kind
     c.in-Err.ensures.is.fault
     (run_to_fault _ (run_type run) ask.order ask.start ask.limit meter c.map_with.new.meter
-    (prepared (run_type run) _ c.clear.new.self)
+    (prepared (run_type run) (g.S.Space.view c.args.space.now) c.clear.new.self)
     c.map_with.new.store
     fault.kind fault.at limit unused c.new-meter.ensures.made c.in-Err.ensures.is.counts)
     c.in-Err.ensures.is.limit c.in-Err.ensures.is.place c.in-Err.ensures.is.device))))

@@ -30,7 +30,8 @@ returns-else-has_selected g c =
     let found : part_at terms.part value ≡ Some (mapped_in part) =
     sym (c.in-Some.ensures.value ∙ ap (λ v. part_at terms.part (value_shown v)) c.new-whole.ensures.value) in
     let nodes = ap nodes_in c.new-whole.ensures.types ∙ c.new-types.ensures.nodes in
-    let has = part_has_selected table run.id terms c.new-whole.result part nodes c.new-whole.ensures.node
+    let has = part_has_selected table run.id terms c.new-whole.result part nodes
+    (c.new-whole.ensures.node ∙ ap Some c.node.ensures)
     c.in-Some.ensures.types c.in-Some.ensures.node in
     let lacks : part_has table run.id terms value (mapped_in part) ≡ false =
     ap (λ v. part_has table run.id terms (value_shown v) (mapped_in part)) (sym c.new-whole.ensures.value) ∙ sym has
