@@ -25,6 +25,7 @@ use Rattle.run_parts.specs.declared.outcome.Outcome.{Outcome}
 use Rattle.run_parts.specs.declared.outcome.Outcome.TheVariants as outcome
 use Rattle.run_parts.specs.Outcomes.{outcome_saying}
 use Rattle.run_parts.proofs.Sayings.{outcome_lines}
+use Rattle.command_line.specs.Found.{no_terms}
 use Rattle.command_line.specs.declared.ask.Ask.{Ask}
 use Rattle.run_parts.specs.declared.status.Status.{Status}
 use Rattle.run_parts.specs.declared.status.Status.TheVariants.{Fault}
@@ -39,7 +40,6 @@ use Rattle.pickle_types.specs.declared.table.Table.{Table}
 use Rattle.pickle_types.specs.declared.table.TypeId.{TypeId}
 use Rattle.pickle_types.specs.NodeParts.{char_node_of}
 use Rattle.pickle_types.specs.TypeTable.{nodes_of}
-use Rattle.text_output.specs.Styles.{plain}
 use Rattle.value_text.proofs.PlainTexts.{prints_plain}
 
 -- a value that fits starts where it was to start
@@ -172,15 +172,7 @@ said_under table id pickle ask terms before after mapped right saying no_memory_
 
 -- without terms a mapping prints what it prints under none
 pub without_terms : (pickle : List ℕ) (ask : Ask) (before after : SpaceView) (saying : Saying)
-    → MapsUnder pickle ask (record {
-      whole = false;
-      most_output = None;
-      part = None;
-      most_slots = None;
-      style = plain;
-      look = None;
-      selection = None;
-    }) before after saying → MapsAs pickle ask before after saying
+    → MapsUnder pickle ask no_terms before after saying → MapsAs pickle ask before after saying
 without_terms pickle ask before after saying (mapped_under {mapped = mapped} table id named asked answer fits) =
     subst (λ text. MapsAs pickle ask before after (Text text))
     (sym (prints_plain (nodes_of table) (char_node_of table) (Some id.node) ask.mode mapped)) (value asked answer fits)

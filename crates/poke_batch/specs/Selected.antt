@@ -3,7 +3,7 @@ use Rattle.std.specs.Prelude.{ℕ, zero, suc, ◌+◌, ◌-◌, Bool, true, fals
 use Rattle.pickle_types.specs.declared.node.Node.{Node}
 use Rattle.pickle_meaning.specs.Values.{Label, IntegerLabel, OffsetLabel, TextLabel, ArrayLabel, StructLabel, UnionLabel, Value, label_of, members_of, member_at, member_count}
 use Rattle.text_output.specs.declared.mode.Mode.{Mode}
-use Rattle.text_output.specs.declared.mode.Mode.TheVariants.{Flat, Tree, Json, Lines}
+use Rattle.text_output.specs.declared.mode.Mode.TheVariants.{Flat, Json}
 use Rattle.text_output.specs.declared.style.Style.{Style}
 use Rattle.text_output.specs.declared.style.Look.{Look}
 use Rattle.value_text.specs.declared.typed.Typed.{Typed}
@@ -140,42 +140,29 @@ abbrev pub text_in : Option Look → Style → Mode → List Node → (chars nod
 text_in None style mode nodes chars node value = styled_printed nodes chars node style mode value
 text_in (Some look) style mode nodes chars node value = shown_in look nodes chars node value
 
--- what is between columns, and around a row: an object in JSON, else tabs
+-- what is between columns, and around a row: an object in JSON, in any other mode tabs
 abbrev pub between : Mode → (first : Bool) → List ℕ
-between Flat true = []
-between Flat false = codes "\t"
-between Tree true = []
-between Tree false = codes "\t"
-between Json true = []
+between mode true = []
 between Json false = codes ","
-between Lines true = []
-between Lines false = codes "\t"
+between mode false = codes "\t"
 
 abbrev pub row_start : Mode → List ℕ
-row_start Flat = []
-row_start Tree = []
 row_start Json = codes "{"
-row_start Lines = []
+row_start mode = []
 
 abbrev pub row_end : Mode → List ℕ
-row_end Flat = codes "\n"
-row_end Tree = codes "\n"
 row_end Json = codes "}\n"
-row_end Lines = codes "\n"
+row_end mode = codes "\n"
 
 -- what is before a cell: in JSON the name of its column
 abbrev pub key_of : Mode → Column → List ℕ
-key_of Flat column = []
-key_of Tree column = []
 key_of Json column = json_string (string_bytes column.name) ++ codes ":"
-key_of Lines column = []
+key_of mode column = []
 
 -- the cell of a part that isn't there
 abbrev pub no_cell : Mode → List ℕ
-no_cell Flat = []
-no_cell Tree = []
 no_cell Json = codes "null"
-no_cell Lines = []
+no_cell mode = []
 
 -- the columns of a row, with a text for each cell
 abbrev pub column_text : Mode → (text : Column → List ℕ) → (first : Bool) → Column → List ℕ

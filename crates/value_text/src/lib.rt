@@ -1,4 +1,4 @@
-//! Prints mapped values: in four modes, and for the eye.
+//! Prints mapped values: in each mode, and for the eye.
 //!
 //! All output goes through one loop over the writer, [`write::put`].
 #![tactic(auto)]
