@@ -21,7 +21,7 @@ use Rattle.run_parts.specs.declared.outcome.Failure.TheVariants as failure
 use Rattle.run_parts.specs.declared.outcome.Outcome.{Outcome}
 use Rattle.run_parts.specs.declared.outcome.Outcome.TheVariants as outcome
 use Rattle.text_output.specs.declared.mode.Mode.{Mode}
-use Rattle.text_output.specs.declared.mode.Mode.TheVariants.{Flat, Tree, Json, Lines}
+use Rattle.text_output.specs.declared.mode.Mode.TheVariants.{Json}
 use Rattle.run_parts.specs.Told.{AppendsUpTo}
 use Rattle.run_parts.specs.declared.status.Status.{Status}
 use Rattle.run_parts.specs.declared.status.Status.TheVariants.{Done, Fault, Refused, Outside}
@@ -29,9 +29,7 @@ use Rattle.run_parts.specs.declared.status.Status.TheVariants.{Done, Fault, Refu
 -- in JSON a file has an object, in other modes a line
 abbrev pub file_form : Mode → FaultForm → FileForm
 file_form Json faults = Object
-file_form Flat faults = Line faults
-file_form Tree faults = Line faults
-file_form Lines faults = Line faults
+file_form mode faults = Line faults
 
 -- the exit status as a number
 abbrev pub rank : Status → ℕ
