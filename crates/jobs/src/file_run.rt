@@ -3,7 +3,8 @@ ghost use Rattle.std.specs.Prelude.{◌≡◌, [], false, IfOk, IfErr, OnErr, On
 ghost use Rattle.std.specs.Io.KnownBytes.{Appends, Keeps};
 ghost use Rattle.bit_space.specs.SpaceView.{HasRisen, Keeps as SpaceKeeps};
 ghost use Rattle.text_output.specs.Written.{AppendsPart};
-ghost use Rattle.poke_batch.specs.RunsUnder.{IsStoreOf};
+ghost use Rattle.pickle_types.specs.TypeTable.{nodes_of};
+ghost use Rattle.poke_batch.specs.Ready.{IsReady};
 ghost use Rattle.run_parts.specs.Outcomes.{outcome_status};
 ghost use Rattle.jobs.specs.Every.{AppendsFile, CutsFile, IsTyped, every_of, unmapped_text};
 ghost use Rattle.jobs.specs.Files.{AppendsOver, CutsOver, file_form};
@@ -73,8 +74,8 @@ pub fn run_name<P: Opener, A: Aside, O: Write>(
     out: &mut O,
 ) -> Result<Status, WriteFault>
     requires typed { IsTyped typed }
-    requires store { IsStoreOf typed.mapping.terms.now.most_slots kept.old.store }
-    ensures store { IsStoreOf typed.entry.mapping.terms.now.most_slots kept.new.store }
+    requires ready { IsReady (nodes_of typed.table.now) typed.mapping.terms.now.most_slots kept.old }
+    ensures ready { IsReady (nodes_of typed.entry.table.now) typed.entry.mapping.terms.now.most_slots kept.new }
     ensures ok { IfOk result
         (AppendsFile (P.gives opener.now) (every_of typed.entry) name.now (O.contents out.old) (O.contents out.new)) }
     ensures err { OnErr result
@@ -196,8 +197,8 @@ fn run_space<S: Space, A: Aside, O: Write>(
     out: &mut O,
 ) -> Result<Status, WriteFault>
     requires typed { IsTyped typed }
-    requires store { IsStoreOf typed.mapping.terms.now.most_slots kept.old.store }
-    ensures store { IsStoreOf typed.entry.mapping.terms.now.most_slots kept.new.store }
+    requires ready { IsReady (nodes_of typed.table.now) typed.mapping.terms.now.most_slots kept.old }
+    ensures ready { IsReady (nodes_of typed.entry.table.now) typed.entry.mapping.terms.now.most_slots kept.new }
     ensures ok { let risen = HasRisen (S.view space.old).failures (S.view space.new).failures in IfOk result
         (AppendsOver (S.view space.old) risen (every_of typed.entry) name.now (O.contents out.old) (O.contents out.new)) }
     ensures err { let risen = HasRisen (S.view space.old).failures (S.view space.new).failures in OnErr result

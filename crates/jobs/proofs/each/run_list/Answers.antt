@@ -2,6 +2,7 @@ use Rattle.std.proofs.Common.{refl}
 use Rattle.std.proofs.KnownBytes.{Keeps-refl}
 use Rattle.std.specs.Io.KnownBytes.{Keeps}
 use Rattle.std.specs.Io.Buffered.{reader_remaining}
+use Rattle.pickle_types.specs.TypeTable.{nodes_of}
 use Rattle.jobs.specs.Every.{every_of}
 use Rattle.jobs.specs.Names.{none_read, one_read}
 use Rattle.jobs.proofs.EachWritten.{none_written, one_written, kept_written, named_otherwise, fresh_reader}
@@ -10,7 +11,7 @@ use Rattle.jobs.proofs.each.run_list.Goals as goal
 
 pub loop-init : goal.loop-init
 loop-init g c = record {
-  store = c.in_ok-kept.ensures;
+  ready = c.in_ok-kept.ensures (nodes_of c.args.typed.table.now);
   written = none_written (g.P.Opener.gives c.args.opener.now) (every_of c.args.typed) _ _ none_read;
 }
 
@@ -43,7 +44,7 @@ loop-preserved g c =
       | else-not-contains w ↦ rw w.out-is (Keeps-refl _)
     ] in
     record {
-      store = c.run_name.ensures.store;
+      ready = c.run_name.ensures.ready;
       written = rw c.greater-greatest.ensures (one_written (g.P.Opener.gives c.args.opener.now) (every_of c.args.typed)
           _ _ c.deref.result.now _ _ _ c.loop.greatest c.in_ok-status.status
           (λ names read.

@@ -1,6 +1,7 @@
 use Rattle.std.proofs.Common.{◌≡◌, ◌∙◌, [], ◌∷◌, ◌++◌, ◌+◌, take, refl, sym, ap, subst, arith}
 use Rattle.std.proofs.lemmas.List.{take_more, take_all}
 use Rattle.std.proofs.lemmas.Result.{err_from_is_err_and}
+use Rattle.pickle_types.specs.TypeTable.{nodes_of}
 use Rattle.jobs.specs.Every.{every_of}
 use Rattle.jobs.specs.Names.{AreNamed}
 use Rattle.jobs.proofs.EachWritten.{all_hold, cut_hold, first_hold, named_first, none_written, one_written, word_named}
@@ -9,7 +10,7 @@ use Rattle.jobs.proofs.each.run_words.Goals as goal
 
 pub loop-word-init : goal.loop-word-init
 loop-word-init g c = record {
-  store = c.in_ok-kept.ensures;
+  ready = c.in_ok-kept.ensures (nodes_of c.args.typed.table.now);
   written = none_written (g.P.Opener.gives c.args.opener.now) (every_of c.args.typed)
       (AreNamed (g.P.Opener.gives c.args.opener.now).is_name []) _ tt;
 }
@@ -23,7 +24,7 @@ loop-word-preserved g c =
     ap (λ word. before ++ word ∷ []) c.word-item.is
     ∙ sym (take_more c.args.words.now c.loop-word.word-index c.word-item.result (omega arith)) in
     record {
-      store = c.run_name.ensures.store;
+      ready = c.run_name.ensures.ready;
       written = rw c.greater-greatest.ensures
           (one_written gives (every_of c.args.typed) _ _ name _ _ _ c.loop-word.greatest c.in_ok-status.status
           (λ names are. subst (λ words. AreNamed gives.is_name words (names ++ name ∷ [])) one_more
