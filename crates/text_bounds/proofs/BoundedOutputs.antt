@@ -1,5 +1,5 @@
 -- The bounds on what mappings write under terms.
-use Rattle.std.proofs.Common.{◌≡◌, ◌*◌, ◌≤◌, ◌⊎◌, ℕ, Bool, true, false, List, Option, Some, None, length, codes, inl, inr, refl, ap, arith}
+use Rattle.std.proofs.Common.{◌≡◌, ◌*◌, ◌≤◌, ◌⊎◌, ℕ, Bool, true, false, List, Option, Some, None, length, codes, inl, inr, refl, ap, subst, arith}
 use Rattle.std.specs.Prelude.{nat_le, if◌then◌else◌}
 use Rattle.std.specs.Io.KnownBytes.{Keeps}
 use Rattle.bit_space.specs.SpaceView.{SpaceView}
@@ -19,8 +19,9 @@ use Rattle.pickle_types.specs.TypeTable.{nodes_of}
 use Rattle.poke_batch.specs.PathParts.{part_at, node_at}
 use Rattle.poke_batch.specs.Runs.{IsAsked}
 use Rattle.poke_batch.proofs.PartTexts.{styled_part}
-use Rattle.poke_batch.specs.RunsUnder.{text_saying, is_left, part_saying, part_text, part_has, kept_saying, value_saying, MapsUnder, mapped_under, ended_under, slots_under}
+use Rattle.poke_batch.specs.RunsUnder.{text_saying, is_left, part_saying, part_text, part_has, kept_saying, value_saying, MapsUnder, mapped_under, ended_under, slots_under, MapsRequested, not_run, is_run}
 use Rattle.run_parts.specs.Told.{Saying, Text, Line, IsSaid}
+use Rattle.run_parts.proofs.Sayings.{outcome_lines}
 use Rattle.text_bounds.specs.OutputRoom.{GrowsWithin, OutputIsBounded}
 use Rattle.text_bounds.specs.TextLaws.{OutputsUnderTermsAreBounded}
 use Rattle.text_bounds.specs.TextRoom.{most_text}
@@ -99,6 +100,16 @@ saying_bounded pickle ask terms before after saying status out out' err err' loo
 saying_bounded pickle ask terms before after saying status out out' err err' look all
     (slots_under asked most less few) h = inl h.0
 
+requested_bounded : (pickle : List ℕ) (ask : Ask) (terms : Terms) (before after : SpaceView) (saying : Saying)
+    (status : Status) (out out' err err' : Option (List ℕ))
+    → terms.look ≡ None → terms.selection ≡ None → MapsRequested pickle ask terms before after saying
+    → IsSaid saying status out out' err err' → OutputIsBounded pickle ask terms.style before.len out out'
+requested_bounded pickle ask terms before after saying status out out' err err' look all
+    (not_run {ended = ended} none) h =
+    inl (subst (λ s. IsSaid s status out out' err err') (outcome_lines ended) h).0
+requested_bounded pickle ask terms before after saying status out out' err err' look all (is_run asked can right) h =
+    saying_bounded pickle ask terms before after saying status out out' err err' look all right h
+
 pub output_under_terms_bounded : OutputsUnderTermsAreBounded
 output_under_terms_bounded pickle ask terms before after status out out' err err' look all h =
-    saying_bounded pickle ask terms before after h.saying status out out' err err' look all h.right h.said
+    requested_bounded pickle ask terms before after h.saying status out out' err err' look all h.right h.said

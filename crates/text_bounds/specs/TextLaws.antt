@@ -20,7 +20,7 @@ use Rattle.value_text.specs.Printed.{printed}
 use Rattle.value_text.specs.Styled.{styled_printed}
 use Rattle.poke_batch.specs.PathParts.{part_at}
 use Rattle.poke_batch.specs.Runs.{MapsAs}
-use Rattle.poke_batch.specs.RunsUnder.{MapsUnder}
+use Rattle.poke_batch.specs.RunsUnder.{MapsRequested}
 use Rattle.text_bounds.specs.TextRoom.{most_text, most_text_in_any}
 use Rattle.run_parts.specs.Told.{Says}
 
@@ -66,5 +66,5 @@ abbrev pub OutputsUnderTermsAreBounded : Type 0
 OutputsUnderTermsAreBounded = (pickle : List ℕ) (ask : Ask) (terms : Terms) (before after : SpaceView) (status : Status)
     (out out' err err' : Option (List ℕ))
     → terms.look ≡ None → terms.selection ≡ None
-    → Says (MapsUnder pickle ask terms before after) status out out' err err'
+    → Says (MapsRequested pickle ask terms before after) status out out' err err'
     → OutputIsBounded pickle ask terms.style before.len out out'
