@@ -72,7 +72,7 @@ def facts_of(name):
 MAKE = """
 for number in range(int(sys.argv[1])):
     with open(f"{number:02}.dns", "wb") as file:
-        file.write(message(number).to_wire())
+        file.write(message(number).to_wire(max_size=65535))
 """
 
 

@@ -16,7 +16,8 @@ def make_ext4():
         features = [[], ["-O", "^has_journal"], ["-O", "^64bit,^metadata_csum"], ["-O", "metadata_csum,64bit"]]
         features += [["-O", "^flex_bg,^resize_inode"], ["-E", "stride=4,stripe_width=16"], ["-O", "inline_data"]]
         kind = ("ext4", "ext2", "ext3", "ext4")[number % 4]
-        more += features[number % 7] if kind == "ext4" else []
+        feature = features[number % 7] if kind == "ext4" else []
+        more += feature if "inline_data" not in feature or number // 3 % 3 else []  # inodes of 128 bytes have no room
         run("mkfs", "-q", "-F", "-t", kind, *more, name)
         run("tune2fs", "-e", ("continue", "remount-ro", "panic")[number % 3], "-c", number, name)
 

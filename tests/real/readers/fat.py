@@ -12,7 +12,7 @@ def make_fat():
     for number in range(COUNT):
         kind, size = ((12, 360 << 10), (16, 5 << 20), (32, 40 << 20), (12, 1440 << 10))[number % 4]
         name = f"{number:02}.img"
-        empty(name, size + (number << 16))
+        empty(name, size + (number % 20 << 16))
         more = ["-s", 1 if kind > 12 else 2 << number % 3]
         small = [["-r", 112 + 16 * (number % 20)], ["-f", 1], ["-h", number]][number % 3]
         more += small if kind < 32 else ["-R", 8 + number]
