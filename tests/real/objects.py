@@ -5,7 +5,7 @@ import re
 import subprocess
 from glob import glob
 
-from common import COUNT, found, run
+from common import COUNT, copy, found, run, some
 
 
 def make_objects(*targets):
@@ -56,6 +56,17 @@ def make_elf(*processors):
         if number % 3 == 2:
             command = ["ld.lld", "-shared", it, "-o", f"{it[:-2]}.so"]
             subprocess.run(command, stderr=subprocess.DEVNULL, check=False)  # not all processors
+
+
+def programs(count):
+    """So many programs of this machine that are ELF."""
+    every = [it for it in glob("/usr/bin/*") if os.path.isfile(it) and os.path.getsize(it) < 1 << 20]
+    copy(some([it for it in every if first_four(it) == b"\x7fELF"], count))
+
+
+def first_four(path):
+    with open(path, "rb") as file:
+        return file.read(4)
 
 
 def elf_order(file):

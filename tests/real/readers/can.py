@@ -62,7 +62,8 @@ def can_by_tool(file):
     names += " canfd.flags.brs canfd.flags.esi data.data"
     fields = [word for it in names.split() for word in ("-e", it)]
     facts = {"times": [], "frames": []}
-    for line in run("tshark", "--disable-protocol", "autosar-nm", "-r", file, "-T", "fields", "-E", "separator=|", *fields).splitlines():
+    command = ["tshark", "-r", file, "-T", "fields", "-E", "separator=|", "--disable-protocol", "autosar-nm"]
+    for line in run(*command, *fields).splitlines():
         time_of, *numbers, data = line.split("|")
         numbers = [int(it or "0") for it in numbers]
         facts["times"].append(time_of)

@@ -95,16 +95,17 @@ def dns_name(it, data):
 
 def dns_body(it, data):
     """The words of a record's body, as dnspython has them."""
-    ((kind, body),) = it["body"].items()
-    if kind in ("ipv4", "ipv6"):
-        return [str(ip_address(bytes(body["address"])))]
-    if kind == "text":
-        return [bytes(of["text"]).hex() for of in body["texts"]]
-    if kind == "option":
-        return [of for it in body["options"] for of in (str(it["code"]), bytes(it["value"]).hex())]
-    if kind == "other":
-        return [bytes(body["data"]).hex()]
-    return [dns_name(of, data) if isinstance(of, dict) else str(of) for key, of in body.items() if key != "0"]
+    if "address" in it:
+        return [str(ip_address(bytes(it["address"])))]
+    if "texts" in it:
+        return [bytes(of["text"]).hex() for of in it["texts"]]
+    if "options" in it:
+        return [of for part in it["options"] for of in (str(part["code"]), bytes(part["value"]).hex())]
+    if "other" in it:
+        return [bytes(it["other"]).hex()] if it["other"] else []
+    body = it["domain"] if "domain" in it else it.get("authority") or it.get("mail") or it.get("service") or {}
+    parts = [body] if "labels" in body else body.values()
+    return [dns_name(of, data) if isinstance(of, dict) else str(of) for of in parts]
 
 
 def dns(value, file):

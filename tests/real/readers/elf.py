@@ -1,14 +1,12 @@
 """ELF, the header and segments alone: objects of clang and programs of this machine, compared with llvm-readobj."""
 
-from glob import glob
-
-from common import COUNT, Format, copy, some
-from objects import elf_by_tool, elf_head, make_elf
+from common import COUNT, Format
+from objects import elf_by_tool, elf_head, make_elf, programs
 
 
 def make_the_elf():
     make_elf("x86_64", "aarch64")
-    copy(some(glob("/usr/bin/*"), COUNT // 2))
+    programs(COUNT // 2)
 
 
 def elf_head_by_tool(file):

@@ -65,8 +65,8 @@ def tls(value, _):
     records = [(it["kind"], it["length"]["magnitude"]) for it in plain]
     for it in protected:
         records += [(20, 1), *((of["kind"], of["length"]["magnitude"]) for of in it["records"])]
-    messages = [of for it in plain if "handshake" in it["body"] for of in it["body"]["handshake"]["messages"]]
-    hellos = [it["body"].get("client_hello") or it["body"].get("server_hello") for it in messages]
+    messages = [of for it in plain for of in it.get("handshake", [])]
+    hellos = [it.get("client_hello") or it.get("server_hello") for it in messages]
     extensions = [of["kind"] for it in hellos if it and "extensions" in it for of in it["extensions"]["list"]]
     return {
         "records": records,
