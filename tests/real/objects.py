@@ -114,14 +114,15 @@ def elf_by_tool(file):
     parts = lambda kind: [it.split("\n  }")[0] for it in printed.split(f"  {kind} {{\n")[1:]]
     places = "Address", "Offset", "Size", "Link"
     sections = [(found(r"Name: (.*?) \(\w+\)$", it), *numbers(it, *places)) for it in parts("Section")]
-    symbols = [(found(r"Name: (.*?) ?\(\w+\)$", it), *numbers(it, "Value", "Size")) for it in parts("Symbol")]
-    symbols = [(re.sub(r"@.*", "", name), *rest) for name, *rest in symbols]
+    # (a symbol without a name has that of its section there, and a version may follow a name)
+    name_of = lambda it: "" if "(0)" in found(r"Name: (.*)$", it) else found(r"Name: (.*?)(?:@\S*)? ?\(\w+\)$", it)
+    symbols = [(name_of(it), *numbers(it, "Value", "Size")) for it in parts("Symbol")]
     return {
         "entry": number("Entry", printed),
         "places": list(numbers(printed, "ProgramHeaderOffset", "SectionHeaderOffset")),
         "counts": list(numbers(printed, "ProgramHeaderCount", "SectionHeaderCount", "StringTableSectionIndex")),
         "segments": [numbers(it, "Offset", "VirtualAddress", "FileSize", "MemSize") for it in parts("ProgramHeader")],
         "sections": sections,
-        "symbols": [tuple(it) for it in symbols],
+        "symbols": symbols,
         "relocations": [int(it, 16) for it in re.findall(r"^    0x(\w+) R_", printed, re.M)],
     }

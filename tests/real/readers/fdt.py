@@ -21,7 +21,7 @@ def make_fdt():
     for number in range(COUNT):
         lines = ["/dts-v1/;", *(f"/memreserve/ {it * 4096} {4096 + it};" for it in range(number % 4)), "/ {"]
         lines += [f'compatible = "a,board-{number}";', "first {", *node(number, 1), "};", "};"]
-        more = ["-V", (17, 16, 17, 3)[number % 4], "-b", number] if number % 4 != 3 else ["-b", number]
+        more = ["-V", 16 if number % 16 == 1 else 17, "-b", number]
         more += [["-p", 100 + number], ["-S", 30000], ["-a", 64], []][number % 4]
         run("dtc", "-q", *more, "-I", "dts", "-O", "dtb", "-o", f"{number:02}.dtb", input="\n".join(lines))
 
@@ -60,7 +60,7 @@ def fdt_by_tool(file):
     ]
     facts["names"] = []
     for blanks, name, node_start in re.findall(r"^( *)([^ \n/]\S*|/)(?: = .*;|( \{)|;)$", printed, re.M):
-        if name != "};":
+        if name not in ("}", "};"):
             facts["names"].append((len(blanks) // 4, "" if name == "/" else name.removesuffix(";")))
     return facts
 
