@@ -149,10 +149,10 @@ def facts_by_python(script, folder):
 import json, os, sys
 for name in sorted(os.listdir(sys.argv[1])):
     try:
-        facts = facts_of(os.path.join(sys.argv[1], name))
+        answer = facts_of(os.path.join(sys.argv[1], name))
     except Exception as wrong:
-        facts = {"not read": repr(wrong)}
-    print(json.dumps([name, facts]))
+        answer = {"not read": repr(wrong)}
+    print(json.dumps([name, answer]))
 """
     return dict(json.loads(line) for line in run("/usr/bin/python3", "-c", script, folder).splitlines())
 

@@ -124,5 +124,10 @@ def elf_by_tool(file):
         "segments": [numbers(it, "Offset", "VirtualAddress", "FileSize", "MemSize") for it in parts("ProgramHeader")],
         "sections": sections,
         "symbols": symbols,
-        "relocations": [int(it, 16) for it in re.findall(r"^    0x(\w+) R_", printed, re.M)],
+        "relocations": [
+            int(place, 16)
+            for section, part in re.findall(r"^  Section \((\d+)\) \S+ {\n(.*?)^  }", printed, re.M | re.S)
+            if int(section) < 128  # as the pickle has them
+            for place in re.findall(r"^    0x(\w+) ", part, re.M)
+        ],
     }

@@ -5,7 +5,7 @@ from common import Format, by_python, packages, take, text
 
 def make_pe():
     packages("nsis-common", "libz-mingw-w64", "systemd-boot-efi", "syslinux-efi", "ipxe")
-    take("*.[edx][xlf][eliw]*")
+    take("*.[de][flx][eil]")
 
 
 SCRIPT = """
@@ -28,7 +28,8 @@ def pe(value, _):
     it = value["pe"]
     head, more = it["header"], it["optional"]
     facts = {"machine": head["machine"], "time": head["time"], "entry": more["entry"]["magnitude"]}
-    facts["image"] = [more["image_base"], more["image_size"]["magnitude"], more["checksum"], more["subsystem"]]
+    base = more["image_base_32"] if "image_base_32" in more else more["image_base"]
+    facts["image"] = [base, more["image_size"]["magnitude"], more["checksum"], more["subsystem"]]
     names = ("size", "address", "size_in_file", "from")
     facts["sections"] = [[text(of["name"]), *(of[name]["magnitude"] for name in names)] for of in it["sections"]]
     imports = it.get("imports", {})

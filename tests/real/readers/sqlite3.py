@@ -49,9 +49,9 @@ def sqlite(value, _):
             rows = cells(leaf["rows"], "row_")
             facts[number] = [(number_of(list(row["row"].values())), len(row["record"])) for row in rows]
             facts[number].sort()
-    (objects,) = value["schema_cells"].values()
-    if isinstance(objects, dict):
-        rows = [it.get("object", it) for it in cells(objects.get("rows") or objects.get("list") or [], "object_")]
+    objects = value["schema_cells"].get("objects") or value["schema_cells"].get("holed_objects")
+    if objects is not None:
+        rows = [it.get("object", it) for it in cells(objects, "object_")]
         facts["objects"] = sorted((text(it["kind_text"]), text(it["name_text"])) for it in rows)
     return facts
 

@@ -17,12 +17,15 @@ HORIZONTAL |= {"numberOfHMetrics": "metric_count", "minLeftSideBearing": "least_
 
 
 def truetype(value, _):
-    facts = {"tables": [], "head": [value["head"][it] for it in HEAD.values()]}
+    # (fontTools takes an early time for one of Unix)
+    early = lambda it, name: it + 0x7C259DC0 if name in ("created", "modified") and it < 0x7C259DC0 else it
+    facts = {"tables": [], "head": [early(value["head"][ours], name) for name, ours in HEAD.items()]}
     facts["horizontal"] = [value["horizontal"][it] for it in HORIZONTAL.values()]
     facts["glyphs"] = value["profile"]["glyph_count"]
     for it in value["directory"]:
         place = [it["from"]["magnitude"], it["size"]["magnitude"]]
         facts["tables"].append([bytes(it["name"]).decode(), it["checksum"], *place])
+    facts["tables"].sort()
     names = value["names"]
     facts["names"] = []
     for number, it in enumerate(names["records"], 1):
@@ -37,7 +40,8 @@ SCRIPT = f"""
 from fontTools.ttLib import TTFont
 def facts_of(file):
     font = TTFont(file, lazy=True)
-    facts = {{"tables": [[str(tag), it.checkSum, it.offset, it.length] for tag, it in font.reader.tables.items()]}}
+    tables = [[str(tag), it.checkSum, it.offset, it.length] for tag, it in font.reader.tables.items()]
+    facts = {{"tables": sorted(tables)}}
     facts["head"] = [getattr(font["head"], it) for it in {list(HEAD)}]
     facts["horizontal"] = [getattr(font["hhea"], it) for it in {list(HORIZONTAL)}]
     facts["glyphs"] = font["maxp"].numGlyphs
