@@ -11,7 +11,7 @@ from common import COUNT, Format, copy, run, some
 
 
 def make_ar():
-    copy(some(run("find", "/usr/lib", "-name", "*.a", "-size", "-1000k").splitlines(), COUNT))
+    copy(some(run("find", "/usr/lib", "-name", "*.a", "-size", "-1000k").splitlines(), COUNT + 5))
     for it in glob("*.a"):
         if "archive" not in run("file", "-b", it):  # a script for the linker
             os.remove(it)

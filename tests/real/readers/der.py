@@ -15,6 +15,7 @@ def make_der():
         "p521": ("EC", "ec_paramgen_curve:P-521"),
         "p384": ("EC", "ec_paramgen_curve:P-384"),
         "p224": ("EC", "ec_paramgen_curve:P-224"),
+        "p192": ("EC", "ec_paramgen_curve:P-192"),
         "secp256k1": ("EC", "ec_paramgen_curve:secp256k1"),
         "brainpool": ("EC", "ec_paramgen_curve:brainpoolP256r1"),
         "explicit": ("EC", "ec_paramgen_curve:P-256", "ec_param_enc:explicit"),

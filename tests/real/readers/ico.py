@@ -26,7 +26,7 @@ def make_ico():
 def ico(value, _):
     facts = {"kind": value["kind"], "pictures": []}
     for at, entry in enumerate(value["entries"], 1):
-        image = value.get(f"image_{at}", {})
+        image = value[f"image_{at}"] if f"image_{at}" in value else value["images"][at - 1]
         shown = [entry["width"], entry["height"]]
         if "bitmap" in image:
             head = image["bitmap"]

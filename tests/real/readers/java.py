@@ -10,7 +10,7 @@ from common import COUNT, Format, run, some
 def make_java():
     """Classes from all over Debian's Java libraries."""
     number = 0
-    for library in some(glob("/usr/share/java/*.jar"), COUNT // 2):
+    for library in some(glob("/usr/share/java/*.jar"), COUNT // 2 + 5):
         with zipfile.ZipFile(library) as it:
             classes = sorted(of for of in it.namelist() if of.endswith(".class"))
             for name in classes[len(classes) // 2 :][:2]:

@@ -16,7 +16,7 @@ def make_nvme():
         machine += ["-device", f"nvme,drive=d,serial=KEG-{number:04},mdts={number % 8}"]
         command = ["qemu-system-x86_64", *machine, "-net", "none", "-display", "none", "-monitor", "stdio"]
         running = subprocess.Popen(list(map(str, command)), stdin=subprocess.PIPE, stdout=subprocess.DEVNULL, text=True)
-        time.sleep(3)  # for the firmware
+        time.sleep(5)  # for the firmware
         running.communicate(f"pmemsave 0 {32 << 20} memory\nquit\n")
         with open("memory", "rb") as memory:
             data = memory.read()

@@ -25,7 +25,7 @@ def make_smbios():
         more = [it for at, word in enumerate(words) if number >> at % 4 & 1 for it in ("-smbios", word)]
         command = ["qemu-system-x86_64", *machine, *more, "-net", "none", "-display", "none", "-monitor", "stdio"]
         running = subprocess.Popen(list(map(str, command)), stdin=subprocess.PIPE, stdout=subprocess.DEVNULL, text=True)
-        time.sleep(2)  # for the firmware
+        time.sleep(5)  # for the firmware
         running.communicate(f"pmemsave 0 {(32 << number % 4) << 20} memory\nquit\n")
         run("dmidecode", "-d", "memory", "--dump-bin", f"{number:02}.bin")
         os.remove("memory")

@@ -9,9 +9,9 @@ def make_tga():
     """Of colours, greys and palettes, with and without alpha, plain and packed."""
     for number in range(COUNT):
         kinds = ["TrueColor", "TrueColorAlpha", "Palette", "Grayscale"]
-        more = ["-type", kinds[number % 4], "-compress", ("None", "RLE")[number // 4 % 2]]
+        more = ["-type", kinds[number % 4], "-compress", ("None", "RLE")[number % 16 == 15]]
         more += ["-set", "comment", f"text {number}"] if number % 3 else []
-        more += ["-orient", ("TopLeft", "BottomLeft", "TopRight", "BottomRight")[number // 8 % 4]]
+        more += ["-orient", ("TopLeft", "BottomLeft", "TopRight", "BottomRight")[number // 4 % 4]]
         make_pictures(number, "tga", *more)
 
 
@@ -44,7 +44,7 @@ def tga_by_tool(file):
     kind = kinds[found(r"Targa image data - (\w+)", printed)] + 8 * ("RLE" in printed)
     facts = {"kind": kind, "bits": int(found(r" x \d+ x (\d+)", printed)), "text": True}
     told = pillow(PILLOW, file)
-    if kind > 8 or ("top" not in printed and "right" in printed):
+    if kind > 8 or "right" in printed:
         told.pop("pixels", None)
     return facts | told
 

@@ -16,7 +16,7 @@ def make_tiff():
         ways = ["none", "lzw", "zip", "packbits"]
         more = ["-c", ways[number % 4], ("-L", "-B")[number % 2]]
         more += ["-t", "-w", 16 << number % 3, "-l", 16] if number % 3 == 2 else ["-s", "-r", 1 + number % 20]
-        more += ["-p", "separate"] if number % 7 == 6 else []
+        more += ["-p", "separate"] if number % 20 in (10, 14) else []  # of colours of 8 bits
         run("tiffcp", *more, name, "new.tif")
         os.rename("new.tif", name)
 
