@@ -46,14 +46,14 @@ def ext4(value, _):
     facts["label"] = bytes(block["name"]).split(b"\0")[0].decode()
     facts["errors"] = ("", "Continue", "Remount read-only", "Panic")[block["on_errors"]]
     facts["groups"] = [
-        tuple(it[of] for of in ("block_bitmap", "inode_bitmap", "inode_table")) for it in value["start"]["groups"]
+        tuple(it[of] for of in ("block_bitmap_low", "inode_bitmap_low", "inode_table_low")) for it in value["start"]["groups"]
     ]
     return facts
 
 
 def ext4_by_tool(file):
     printed = run("dumpe2fs", file)
-    of = lambda name: re.search(rf"^{name}: +(.*)$", printed, re.M)[1]
+    of = lambda name: re.search(rf"^{name}:\s+(.*)$", printed, re.M)[1]
     facts = {name: int(of(name)) for name in [*SHOWN, "Block size", "Inode size"]}
     facts |= {"UUID": of("Filesystem UUID"), "label": of("Filesystem volume name"), "errors": of("Errors behavior")}
     pattern = r"Block bitmap at (\d+).*\n? *(?:,? *)Inode bitmap at (\d+).*\n *Inode table at (\d+)"

@@ -30,7 +30,7 @@ def wav(value, _):
     if "of_16_bits" in data and head["bits"] == 16:
         facts["samples"] = zlib.crc32(struct.pack(f"<{len(data['of_16_bits'])}h", *data["of_16_bits"]))
     for it in value["before"] + value["chunks"]:
-        for of in it.get("list", {}).get("content", {}).get("info", {}).get("texts", []):
+        for of in it.get("list", {}).get("info", {}).get("texts", []):
             facts["texts"][bytes(of["name"]).decode()] = bytes(of["text"]).rstrip(b"\0").decode()
     return facts
 
