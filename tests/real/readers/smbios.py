@@ -104,10 +104,10 @@ def smbios(value, _):
     entry, facts = it["entry"], {"structures": []}
     facts["version"] = f"{entry['major']}.{entry['minor']}" + (f".{entry['document']}" if form == "version_3" else "")
     for of in it["structures"]["list"]:
-        ((_, body),) = of["body"].items()
+        body = next((part for name, part in of.items() if isinstance(part, dict) and name != "length"), {})
         kind, handle = of["kind"], of["handle"]
         facts["structures"].append((handle, kind, of["length"]["magnitude"]))
-        listed = [word["text"] for word in of["texts"].get("texts", {"list": []})["list"]]
+        listed = [word["text"] if isinstance(word, dict) else word for word in of.get("texts", [])]
         texts, numbers = SMBIOS.get(kind, ({}, {}))
         for name, ours in texts.items():
             if ours in body:

@@ -11,16 +11,16 @@ from common import COUNT, Format, run
 def make_tar():
     """Of each form, with long names, links, folders, pipes, holes and sizes of other lengths."""
     for number in range(COUNT):
+        name, form = f"{number:02}.tar", ("v7", "oldgnu", "gnu", "ustar", "posix")[number % 5]
+        step = 60 if form in ("oldgnu", "gnu", "posix") and number % 6 != 5 else 40  # a short form has no long names
         os.makedirs("from/below")
         for it in range(number % 17):
-            length = 8 if number % 5 == 0 else it % 3 * 60
-            with open(f"from/{'below/' * (it % 2)}{'n' * length}{it}", "wb") as file:
+            with open(f"from/{'below/' * (it % 2)}{'n' * (it % 3 * step)}{it}", "wb") as file:
                 file.write(random.randbytes(number * it * 3))
         os.symlink("0", "from/link")
         with open("from/first", "wb") as file:
             file.write(b"first" * number)
         os.link("from/first", "from/second")
-        name, form = f"{number:02}.tar", ("v7", "oldgnu", "gnu", "ustar", "posix")[number % 5]
         if form != "v7":
             os.mkfifo("from/pipe", 0o640)
         if number % 10 == 7:
