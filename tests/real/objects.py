@@ -28,6 +28,13 @@ def at_in(names, at, start=0):
     return ("\0".join(names) + "\0")[at - start :].split("\0")[0]
 
 
+def relocation_places(printed, last):
+    """The places of relocations, up to those of a section. The pickles have them of so many sections."""
+    parts = re.findall(r"^  Section (?:\((\d+)\) )?\S+ {\n(.*?)^  }", printed, re.M | re.S)
+    listed = "".join(part for section, part in parts if int(section or 0) <= last)
+    return [int(it, 16) for it in re.findall(r"^    0x(\w+) ", listed, re.M)]
+
+
 def object_by_tool(file):
     """By llvm-objdump and llvm-readobj."""
     listed = run("llvm-objdump", "-h", "-w", file)
@@ -40,7 +47,7 @@ def object_by_tool(file):
         section = int(found(r"Section: .*\((-?(?:0x)?\w+)\)$", part), 0)
         symbols.append((name, int(found(r"^    Value: (\w+)", part), 0), section))
     facts = {"sections": sections, "symbols": symbols}
-    facts["relocations"] = [int(it, 16) for it in re.findall(r"^    0x(\w+) ", printed, re.M)]
+    facts["relocations"] = relocation_places(printed, 128)
     count = found(r"NumOfLoadCommands: (\d+)", printed)
     return facts | ({"commands": int(count)} if count else {})
 
@@ -124,10 +131,5 @@ def elf_by_tool(file):
         "segments": [numbers(it, "Offset", "VirtualAddress", "FileSize", "MemSize") for it in parts("ProgramHeader")],
         "sections": sections,
         "symbols": symbols,
-        "relocations": [
-            int(place, 16)
-            for section, part in re.findall(r"^  Section \((\d+)\) \S+ {\n(.*?)^  }", printed, re.M | re.S)
-            if int(section) < 128  # as the pickle has them
-            for place in re.findall(r"^    0x(\w+) ", part, re.M)
-        ],
+        "relocations": relocation_places(printed, 127),
     }

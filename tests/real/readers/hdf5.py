@@ -18,8 +18,8 @@ for number in range(int(sys.argv[1])):
 
 
 def hdf5(value, _):
-    ((form, it),) = value.items()
-    block = it["superblock"]
+    form = "old" if "old" in value else "new"
+    block = value[form]
     facts = {
         "version": block["version"],
         "end": block["end_of_file"]["magnitude"],
