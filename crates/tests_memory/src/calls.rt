@@ -7,8 +7,8 @@ use crate::sparing::{
     mapping_within, reading_values, telling_lengths, telling_tokens, using_spaces,
 };
 use crate::wanting::{
-    building, lexing, mapping, paging, parsing, reading_pages, reading_pickle, reading_stream,
-    reading_words, running_bound, running_check, running_map, taking_room,
+    building, checking_in_json, lexing, mapping, paging, parsing, reading_pages, reading_pickle,
+    reading_stream, reading_words, running_bound, running_check, running_map, taking_room,
 };
 use std::fs::File;
 use std::rt::Files;
@@ -26,6 +26,7 @@ pub const CALLS: [&str; 29] = [
     "run_map",
     "run_bound",
     "run_check",
+    "check_json",
     "read_pickle",
     "read_stream",
     "read_words",
@@ -71,6 +72,7 @@ fn run_named<R: Files<File = File> + AllocGlobal>(
         b"run_map" => running_map(alloc, ELEMENTS),
         b"run_bound" => Ok(running_bound(alloc)),
         b"run_check" => Ok(running_check(alloc)),
+        b"check_json" => Ok(checking_in_json(alloc)),
         b"read_pickle" => Ok(reading_pickle(alloc)),
         b"read_stream" => Ok(reading_stream(alloc)),
         b"read_words" => reading_words(alloc),

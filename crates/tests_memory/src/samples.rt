@@ -11,6 +11,14 @@ pub struct Sample<'a> {
 /// Two integers.
 pub const PAIR: &[u8] = b"type T = struct { uint<8> a; uint<16> b; };";
 
+/// A type with a constraint that always holds, its check in JSON, and the same without memory for its note.
+pub const ALWAYS: &[u8] = b"type T = struct { byte n : n < 256; };";
+
+pub const WARNED: &[u8] =
+    b"{\"accepted\":true,\"warnings\":[{\"line\":1,\"column\":28,\"end\":35,\"says\":\"`n < 256` always holds: `n` is from 0 to 255\",\"write\":\"leave it out\"}]}\n";
+
+pub const UNWARNED: &[u8] = b"{\"accepted\":true,\"warnings\":null}\n";
+
 /// Arrays, unions, integers and texts.
 pub const MIXED: Sample<'_> = Sample {
     pickle: b"type U = union { byte a : a == 1; string s; }; type T = struct { U[3] us; byte z; };",

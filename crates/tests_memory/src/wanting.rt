@@ -2,8 +2,9 @@
 
 use crate::call_outcome::CallOutcome;
 use crate::given::{Written, ask_for_t, has_text, is_mapped, map_type, space_of, types_of};
-use crate::samples::{MIXED, PAIR, Sample};
+use crate::samples::{ALWAYS, MIXED, PAIR, Sample, UNWARNED, WARNED};
 use bit_space::{Memory, Meter, Order, Paged, Space, read_number};
+use pickle_json::check::put_check;
 use pickle_map::{MapFaultKind, Store};
 use pickle_syntax::{LexFaultKind, ParseFault, lex, parse};
 use pickle_types::{FaultKind, Table};
@@ -138,6 +139,19 @@ pub fn running_check(alloc: Global) -> CallOutcome {
     let (mut out, mut err) = (Written::new(), Written::new());
     let status = run_check(alloc, PAIR, &mut out, &mut err);
     judge_run(status, &out, &err, b"types 1\n")
+}
+
+/// Checks an accepted pickle in JSON, with a note about it. Notes that can't be made are null.
+pub fn checking_in_json(alloc: Global) -> CallOutcome {
+    let mut out = Written::new();
+    let checked = put_check(alloc, ALWAYS, true, &mut out);
+    let text = out.as_slice();
+    match checked {
+        Ok(Status::Done) if text == WARNED => CallOutcome::Answer,
+        Ok(Status::Done) => CallOutcome::want_if(text == UNWARNED),
+        Ok(Status::Outside) => CallOutcome::want_if(text == b"{\"fault\":\"Memory\"}\n".as_slice()),
+        _ => CallOutcome::Wrong,
+    }
 }
 
 /// Reads a pickle that is longer than a read.
