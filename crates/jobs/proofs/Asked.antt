@@ -13,7 +13,8 @@ use Rattle.poke_batch.specs.Runs.{BoundsAs}
 use Rattle.text_bounds.specs.TextRuns.{TextBoundsAs}
 
 -- the answer of a question is that of its job
-pub question_holds : (gives : Gives) (why : Bool) (asked : Job) (form : AnswerForm) (word : List ℕ) (question : Question)
+pub question_holds : (gives : Gives) (why : Bool) (asked : Job) (form : AnswerForm) (word : List ℕ)
+    (question : Question)
     (out out' : Option (List ℕ)) (end : End) → IsAskedAbout form word asked question
     → Holds (DueOver gives word (DueAnswer why question)) out out' end → HoldsJob gives why asked form out out' end
 question_holds gives why _ form word _ out out' end (of_check is) h =
@@ -26,7 +27,8 @@ question_holds gives why _ form word _ out out' end (of_bound {bits = bits} give
 question_holds gives why _ form word _ out out' end
     (of_text {bits = bits} {mode = mode} {style = style} given is same) h =
     subst (λ n. Holds (DueOver gives _ (λ bytes. DueRun (TextBoundsAs bytes n bits style mode))) out out' end) same
-    (subst (λ w. Holds (DueOver gives w (λ bytes. DueRun (TextBoundsAs bytes given.now bits style mode))) out out' end) is
+    (subst (λ w. Holds (DueOver gives w (λ bytes. DueRun (TextBoundsAs bytes given.now bits style mode))) out out' end)
+    is
     h)
 
 -- what standard output holds of a job, where it returns

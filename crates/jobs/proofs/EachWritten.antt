@@ -68,7 +68,8 @@ first_otherwise IsList Is other _ none_listed = none_listed
 first_otherwise IsList Is other names (first_listed {list = list} is read) = first_listed (other list is) read
 
 -- the same files, of a list that is told in another way
-pub listed_otherwise : (gives : Gives) (every : Every) (IsList Is : Option (List ℕ) → Type 0) (MayEnd : Failure → Type 0)
+pub listed_otherwise : (gives : Gives) (every : Every) (IsList Is : Option (List ℕ) → Type 0)
+    (MayEnd : Failure → Type 0)
     → ((bytes : Option (List ℕ)) → IsList bytes → Is bytes) → (lines : List (List ℕ)) (end : Option End)
     → DueFiles gives every (AreListed IsList) (AreListedFirst IsList) MayEnd lines end
     → DueFiles gives every (AreListed Is) (AreListedFirst Is) MayEnd lines end

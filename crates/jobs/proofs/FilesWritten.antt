@@ -146,11 +146,12 @@ pub object_written : {E : Type 0} (every : Every) (file after : SpaceView) (MayF
     → IfOk r (λ status. status ≡ outcome_status kept.outcome) → OnOk r (Appends out out' (kept_object kept name lines))
     → IfOk r (AppendsOver file MayFail every name out out')
 object_written every file after MayFail ask name lines kept (Err e) out out' form quiet is may h same whole = tt
-object_written every file after MayFail ask name lines kept (Ok status) out out' form quiet is may h same whole = record {
-  line = kept_object kept name lines;
-  written = object_of every file after MayFail ask name lines kept status form quiet is may h same;
-  appends = whole;
-}
+object_written every file after MayFail ask name lines kept (Ok status) out out' form quiet is may h same whole =
+    record {
+      line = kept_object kept name lines;
+      written = object_of every file after MayFail ask name lines kept status form quiet is may h same;
+      appends = whole;
+    }
 
 pub object_cut : {E : Type 0} (every : Every) (file after : SpaceView) (MayFail : Type 0) (ask : Ask)
     (name lines : List ℕ) (kept : Kept) (r : Result Status E) (out out' : Option (List ℕ))
@@ -163,7 +164,8 @@ object_cut every file after MayFail ask name lines kept (Ok status) out out' for
 object_cut every file after MayFail ask name lines kept (Err e) out out' form quiet is may h part = record {
   status = outcome_status kept.outcome;
   line = kept_object kept name lines;
-  written = object_of every file after MayFail ask name lines kept (outcome_status kept.outcome) form quiet is may h refl;
+  written =
+      object_of every file after MayFail ask name lines kept (outcome_status kept.outcome) form quiet is may h refl;
   appends = upto_part out out' _ part;
 }
 
@@ -178,9 +180,11 @@ fails_run gives every name fault no_pages = no_cache
 may_more : (every : Every) (file : SpaceView) (A B : Type 0) (ended : Outcome) (text : List ℕ) → (A → B)
     → RunsOver every file A ended text → RunsOver every file B ended text
 may_more every file A B _ _ more (starts_nowhere none) = starts_nowhere none
-may_more every file A B _ _ more (runs {after = after} is may ends) = runs {after = after} is (λ risen. more (may risen)) ends
+may_more every file A B _ _ more (runs {after = after} is may ends) =
+    runs {after = after} is (λ risen. more (may risen)) ends
 
-opened_run : (gives : Gives) (every : Every) (name line : List ℕ) (file : SpaceView) (MayFail : Type 0) (status : Status)
+opened_run : (gives : Gives) (every : Every) (name line : List ℕ) (file : SpaceView)
+    (MayFail : Type 0) (status : Status)
     → gives.is_file name every.spool file → (MayFail → gives.is_failing name)
     → WritesRun (RunsOver every file MayFail) every name status line
     → WritesRun (RunsFile gives every name) every name status line

@@ -85,7 +85,8 @@ pub no_text : (Due : List (List ℕ) → Option End → Type 0) (end : End) (out
 no_text Due end out out' due keeps = whole due (keeps_appends out out' keeps)
 
 -- what a run must say
-pub run_holds : (IsRight : Saying → Type 0) (ended : Outcome) (out out' : Option (List ℕ)) → EndsAs IsRight ended out out'
+pub run_holds : (IsRight : Saying → Type 0) (ended : Outcome) (out out' : Option (List ℕ))
+    → EndsAs IsRight ended out out'
     → Holds (DueRun IsRight) out out' (Ok (Run ended))
 run_holds IsRight _ out out' (writes text right h) =
     whole_text (DueRun IsRight) text (Ok (Run outcome.Done)) out out' (text_due right) h
@@ -95,7 +96,8 @@ run_holds IsRight ended out out' (reports right keeps) =
     no_text (DueRun IsRight) (Ok (Run ended)) out out' (line_due right) keeps
 
 -- nothing, and then what is due
-pub holds_after : (Due : List (List ℕ) → Option End → Type 0) (end : End) (out mid out' : Option (List ℕ)) → Keeps out mid
+pub holds_after : (Due : List (List ℕ) → Option End → Type 0) (end : End) (out mid out' : Option (List ℕ))
+    → Keeps out mid
     → Holds Due mid out' end → Holds Due out out' end
 holds_after Due _ out mid out' keeps (whole {lines = lines} due h) =
     whole due (keeps_before out mid out' (concat lines) keeps h)

@@ -69,7 +69,8 @@ pub data DueCheck (why : Bool) (pickle : List ℕ) : (lines : List (List ℕ)) �
 
 -- of a list of types in JSON: an object for each, or what a check answers for a refused pickle
 pub data DueTypes (why : Bool) (pickle : List ℕ) : (lines : List (List ℕ)) → Option End → Type 0 where
-  types_due : {text : List ℕ} → TypesInJson pickle (Text text) → DueTypes why pickle (text ∷ []) (Some (Ok (Silent Done)))
+  types_due : {text : List ℕ} → TypesInJson pickle (Text text) →
+      DueTypes why pickle (text ∷ []) (Some (Ok (Silent Done)))
   refusal_due : {refusal : Refusal} {status : Status} {text : List ℕ} → Refuses pickle refusal
       → ChecksInJson pickle why status text → DueTypes why pickle (text ∷ []) (Some (Ok (Silent status)))
   failure_due : {ended : Outcome} {lines : List (List ℕ)} {end : Option End} → TypesInJson pickle (outcome_saying ended)
@@ -110,7 +111,8 @@ pub data DueSpace (pickle : List ℕ) (ask : Ask) (terms : Terms) (file after : 
 -- each of the first
 pub data DueFiles (gives : Gives) (every : Every) (AreAll AreFirst : (names : List (List ℕ)) → Type 0)
     (MayEnd : Failure → Type 0) : (lines : List (List ℕ)) → Option End → Type 0 where
-  all_files : {names lines : List (List ℕ)} {greatest : Status} → AreAll names → WritesRuns gives every names greatest lines
+  all_files : {names lines : List (List ℕ)} {greatest : Status} → AreAll names
+      → WritesRuns gives every names greatest lines
       → DueFiles gives every AreAll AreFirst MayEnd lines (Some (Ok (Silent greatest)))
   first_files : {names lines : List (List ℕ)} {greatest : Status} → AreFirst names
       → WritesRuns gives every names greatest lines → DueFiles gives every AreAll AreFirst MayEnd lines None

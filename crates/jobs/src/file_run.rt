@@ -200,7 +200,8 @@ fn run_space<S: Space, A: Aside, O: Write>(
     requires ready { IsReady (nodes_of typed.table.now) typed.mapping.terms.now.most_slots kept.old }
     ensures ready { IsReady (nodes_of typed.entry.table.now) typed.entry.mapping.terms.now.most_slots kept.new }
     ensures ok { let risen = HasRisen (S.view space.old).failures (S.view space.new).failures in IfOk result
-        (AppendsOver (S.view space.old) risen (every_of typed.entry) name.now (O.contents out.old) (O.contents out.new)) }
+        (AppendsOver (S.view space.old) risen (every_of typed.entry) name.now (O.contents out.old)
+        (O.contents out.new)) }
     ensures err { let risen = HasRisen (S.view space.old).failures (S.view space.new).failures in OnErr result
         (CutsOver (S.view space.old) risen (every_of typed.entry) name.now (O.contents out.old) (O.contents out.new)) }
     ensures keeps { SpaceKeeps (S.view space.old) (S.view space.new) }

@@ -24,7 +24,7 @@ use Rattle.value_text.specs.Styled.{with_chars}
 use Rattle.value_text.specs.StyledJsonValue.{styled_json_of, json_of}
 use Rattle.poke_batch.specs.PathParts.{part_at, node_at}
 use Rattle.poke_batch.specs.Runs.{IsAsked, HasAnswer, MapsAs}
-use Rattle.poke_batch.specs.RunsUnder.{MapsUnder, part_text}
+use Rattle.poke_batch.specs.RunsUnder.{MapsRequested, part_text}
 use Rattle.poke_batch.specs.Selected.{Part, path_part, parts_through, cell_of}
 use Rattle.value_text.specs.SmallParts.{HasSmallParts}
 use Rattle.run_parts.specs.Told.{Says}
@@ -62,7 +62,7 @@ abbrev pub PartJsonReadsBack : Type 0
 PartJsonReadsBack = (pickle : List ℕ) (ask : Ask) (terms : Terms) (before after : SpaceView) (status : Status)
     (out out' err err' : Option (List ℕ))
     → ask.mode ≡ mode.Json → terms.style ≡ plain → terms.look ≡ None → terms.selection ≡ None → status ≡ Done
-    → Says (MapsUnder pickle ask terms before after) status out out' err err'
+    → Says (MapsRequested pickle ask terms before after) status out out' err err'
     → WritesJson pickle ask terms.part before out out'
 
 -- the JSON value of a part of a mapped value in a style, by the types of a table
@@ -95,7 +95,7 @@ abbrev pub StyledPartJsonReadsBack : Type 0
 StyledPartJsonReadsBack = (pickle : List ℕ) (ask : Ask) (terms : Terms) (before after : SpaceView) (status : Status)
     (out out' err err' : Option (List ℕ))
     → ask.mode ≡ mode.Json → terms.look ≡ None → terms.selection ≡ None → before.len < 2 ^ 60 → status ≡ Done
-    → Says (MapsUnder pickle ask terms before after) status out out' err err'
+    → Says (MapsRequested pickle ask terms before after) status out out' err err'
     → WritesStyledJson pickle ask terms before out out'
 
 -- a path leads to one part, or to none, whether it is a pattern or a path

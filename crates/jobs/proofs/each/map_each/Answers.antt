@@ -36,6 +36,7 @@ returns g c =
     (Ok (files_ending c.run_files-written.result)) in
     rw c.files_ending.ensures
     (holds_more (DueNamed gives (every_for c.args.why.now.asked (of_mapping mapping) pickle) c.args.names.now) _
-    (Ok (files_ending c.run_files-written.result)) _ _ (λ lines end due. files_due (rw c.deref.ensures.value c.in-Ok.ensures.asked)
+    (Ok (files_ending c.run_files-written.result)) _ _
+    (λ lines end due. files_due (rw c.deref.ensures.value c.in-Ok.ensures.asked)
     c.refuse_parts.ensures.none due)
     (subst Written c.of.ensures c.run_files-written.ensures))

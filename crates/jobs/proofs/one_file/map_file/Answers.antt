@@ -50,5 +50,6 @@ returns g c =
     c.args.why.now.asked)
     _ (Ok (Run c.map_space-outcome.result)) _ _
     (λ lines end due. of_pickle c.in_ok-pickle.ensures.ok
-    (maps {file = file} {after = mapped.after} c.in-Some.ask opened (rw c.in-Some.is at c.ask_in.ensures.some) failing due))
+    (maps {file = file} {after = mapped.after} c.in-Some.ask opened
+    (rw c.in-Some.is at c.ask_in.ensures.some) failing due))
     mapped.holds

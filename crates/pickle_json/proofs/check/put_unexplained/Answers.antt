@@ -8,4 +8,5 @@ returns-in_err-put_untold-clause-err g c refuses = on_err c.from_residual.result
 
 pub returns-clause-ok : goal.returns-clause-ok
 returns-clause-ok g c refuses =
-    rw c.status.ensures (unexplained_whole _ _ c.args.refusal _ _ refuses c.requires.asked c.in_ok-put_untold.ensures.ok)
+    rw c.status.ensures
+    (unexplained_whole _ _ c.args.refusal _ _ refuses c.requires.asked c.in_ok-put_untold.ensures.ok)
