@@ -27,10 +27,10 @@ use Rattle.text_output.specs.declared.write.WriteFault.{WriteFault}
 pub check_holds : (why : Bool) (pickle : List ℕ) (r : Result Status WriteFault) (out out' : Option (List ℕ))
     → IfOk r (λ status. Answers pickle why status out out') → OnErr r (AnswersPart pickle why out out')
     → Holds (DueCheck why pickle) out out' (Ok (ending_of r))
-check_holds why pickle (Ok status) out out' whole cut =
-    whole_text (DueCheck why pickle) whole.text (Ok (Silent status)) out out' (answer_due whole.right) whole.written
-check_holds why pickle (Err e) out out' whole cut =
-    part_text (DueCheck why pickle) cut.text (Ok (Silent cut.status)) out out' (answer_due cut.right) cut.written
+check_holds why pickle (Ok status) out out' all some =
+    whole_text (DueCheck why pickle) all.text (Ok (Silent status)) out out' (answer_due all.right) all.written
+check_holds why pickle (Err e) out out' all some =
+    part_text (DueCheck why pickle) some.text (Ok (Silent some.status)) out out' (answer_due some.right) some.written
 
 -- the same of a refused pickle, in place of its types
 pub refusal_holds : (why : Bool) (pickle : List ℕ) (refusal : Refusal) (r : Result Status WriteFault)
@@ -38,25 +38,25 @@ pub refusal_holds : (why : Bool) (pickle : List ℕ) (refusal : Refusal) (r : Re
     → EndsAs (TypesInJson pickle) (outcome.Refused refusal) out mid
     → IfOk r (λ status. Answers pickle why status mid out') → OnErr r (AnswersPart pickle why mid out')
     → Holds (DueTypes why pickle) out out' (Ok (ending_of r))
-refusal_holds why pickle refusal (Ok status) out mid out' refuses (reports right keeps) whole cut =
-    whole_text (DueTypes why pickle) whole.text (Ok (Silent status)) out out' (refusal_due refuses whole.right)
-    (keeps_before out mid out' whole.text keeps whole.written)
-refusal_holds why pickle refusal (Err e) out mid out' refuses (reports right keeps) whole cut =
-    part_text (DueTypes why pickle) cut.text (Ok (Silent cut.status)) out out' (refusal_due refuses cut.right)
-    (keeps_before_part out mid out' cut.text keeps cut.written)
+refusal_holds why pickle refusal (Ok status) out mid out' refuses (reports right keeps) all some =
+    whole_text (DueTypes why pickle) all.text (Ok (Silent status)) out out' (refusal_due refuses all.right)
+    (keeps_before out mid out' all.text keeps all.written)
+refusal_holds why pickle refusal (Err e) out mid out' refuses (reports right keeps) all some =
+    part_text (DueTypes why pickle) some.text (Ok (Silent some.status)) out out' (refusal_due refuses some.right)
+    (keeps_before_part out mid out' some.text keeps some.written)
 
 -- a report that was written, or whose output failed
 pub report_holds : (ended : Outcome) (lines : List ℕ) (r : Result Status WriteFault) (out out' : Option (List ℕ))
     → ended ≢ outcome.Failed failure.Write → IfOk r (λ status. status ≡ outcome_status ended)
     → OnOk r (Appends out out' (report_text ended lines)) → OnErr r (AppendsPart out out' (report_text ended lines))
     → Holds (DueReport ended lines) out out' (Ok (ending_of r))
-report_holds ended lines (Ok status) out out' other same whole part =
+report_holds ended lines (Ok status) out out' other same all some =
     subst (λ s. Holds (DueReport ended lines) out out' (Ok (Silent s))) (sym same)
     (whole_text (DueReport ended lines) (report_text ended lines) (Ok (Silent (outcome_status ended))) out out'
-    (report_due other) whole)
-report_holds ended lines (Err e) out out' other same whole part =
+    (report_due other) all)
+report_holds ended lines (Err e) out out' other same all some =
     part_text (DueReport ended lines) (report_text ended lines) (Ok (Silent (outcome_status ended))) out out'
-    (report_due other) part
+    (report_due other) some
 
 -- no refusal is said as a run that is done
 abbrev unless_done : Status → Type 0

@@ -1,13 +1,17 @@
 -- How a job ends, by its kind.
-use Rattle.std.proofs.Common.{◌≡◌, ◌≢◌, ℕ, Bool, List, Option, Some, Ok, Err, refl, sym, ap, subst, string_bytes}
+use Rattle.std.proofs.Common.{◌≡◌, ◌≢◌, ℕ, Bool, List, Option, Ok, Err, String, string_bytes, refl, subst}
+use Rattle.std.specs.declared.alloc.Global.{Global}
+use Rattle.bit_space.specs.declared.order.Order.{Order}
+use Rattle.command_line.specs.declared.request.Request.{Request}
+use Rattle.text_output.specs.declared.mode.Mode.{Mode}
 use Rattle.command_line.specs.declared.answer_form.AnswerForm.{AnswerForm}
 use Rattle.command_line.specs.declared.words.Asked.{Asked}
 use Rattle.command_line.specs.declared.words.Job.{Job}
 use Rattle.command_line.specs.declared.words.Job.TheVariants as job
 use Rattle.jobs.specs.Due.{DueOver, DueRun, End, Holds}
-use Rattle.jobs.specs.Given.{DueAnswer, IsAskedAbout, done, of_bound, of_check, of_text, of_types}
+use Rattle.jobs.specs.Given.{DueAnswer, IsAskedAbout, IsOverFiles, done, of_bound, of_check, of_text, of_types}
 use Rattle.jobs.specs.Gives.{Gives}
-use Rattle.jobs.specs.Jobs.{HoldsAtEnd, HoldsJob}
+use Rattle.jobs.specs.Jobs.{DueCheckIn, DueTypesIn, HoldsAtEnd, HoldsJob}
 use Rattle.jobs.specs.declared.pickles.Question.{Question}
 use Rattle.poke_batch.specs.Runs.{BoundsAs}
 use Rattle.text_bounds.specs.TextRuns.{TextBoundsAs}
@@ -18,15 +22,16 @@ pub question_holds : (gives : Gives) (why : Bool) (asked : Job) (form : AnswerFo
     (out out' : Option (List ℕ)) (end : End) → IsAskedAbout form word asked question
     → Holds (DueOver gives word (DueAnswer why question)) out out' end → HoldsJob gives why asked form out out' end
 question_holds gives why _ form word _ out out' end (of_check is) h =
-    subst (λ w. Holds (DueOver gives w _) out out' end) is h
+    subst (λ w. Holds (DueOver gives w (DueCheckIn why form)) out out' end) is h
 question_holds gives why _ form word _ out out' end (of_types is) h =
-    subst (λ w. Holds (DueOver gives w _) out out' end) is h
-question_holds gives why _ form word _ out out' end (of_bound {bits = bits} given is same) h =
-    subst (λ n. Holds (DueOver gives _ (λ bytes. DueRun (BoundsAs bytes n bits))) out out' end) same
+    subst (λ w. Holds (DueOver gives w (DueTypesIn why form)) out out' end) is h
+question_holds gives why _ form word _ out out' end (of_bound {pickle = pickle} {bits = bits} given is same) h =
+    subst (λ n. Holds (DueOver gives (string_bytes pickle) (λ bytes. DueRun (BoundsAs bytes n bits))) out out' end) same
     (subst (λ w. Holds (DueOver gives w (λ bytes. DueRun (BoundsAs bytes given.now bits))) out out' end) is h)
 question_holds gives why _ form word _ out out' end
-    (of_text {bits = bits} {mode = mode} {style = style} given is same) h =
-    subst (λ n. Holds (DueOver gives _ (λ bytes. DueRun (TextBoundsAs bytes n bits style mode))) out out' end) same
+    (of_text {pickle = pickle} {bits = bits} {mode = mode} {style = style} given is same) h =
+    subst (λ n. Holds (DueOver gives (string_bytes pickle) (λ bytes. DueRun (TextBoundsAs bytes n bits style mode)))
+    out out' end) same
     (subst (λ w. Holds (DueOver gives w (λ bytes. DueRun (TextBoundsAs bytes given.now bits style mode))) out out' end)
     is
     h)
@@ -36,3 +41,20 @@ pub done_holds : (gives : Gives) (why : Bool) (asked : Asked) (out out' : Option
     → HoldsJob gives why asked.job asked.answer out out' end → HoldsAtEnd gives why asked out out' (done end)
 done_holds gives why asked out out' (Ok ending) h = h
 done_holds gives why asked out out' (Err fault) h = h
+
+-- the list of formats is the one job that is left
+pub only_formats : (asked : Job) → IsOverFiles asked
+    → ((at : ℕ) (order : Order) (limit : ℕ) (mode : Mode) (pickle name file : String Global)
+    → asked ≢ job.Map at order limit mode pickle name file)
+    → ((request : Request) → asked ≢ job.Request request)
+    → ((from size : ℕ) (ruler : Bool) (file : String Global) → asked ≢ job.Dump from size ruler file)
+    → asked ≡ job.Formats
+only_formats (job.Map at order limit mode pickle name file) over map request dump =
+    absurd (map at order limit mode pickle name file refl)
+only_formats (job.Request asked) over map request dump = absurd (request asked refl)
+only_formats (job.Dump from size ruler file) over map request dump = absurd (dump from size ruler file refl)
+only_formats job.Formats over map request dump = refl
+only_formats (job.Bound pickle name bits) over map request dump = absurd over
+only_formats (job.BoundText pickle name bits mode style) over map request dump = absurd over
+only_formats (job.Check pickle) over map request dump = absurd over
+only_formats (job.Types pickle) over map request dump = absurd over

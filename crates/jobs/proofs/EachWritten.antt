@@ -1,5 +1,5 @@
 -- What is written of many files, one after another.
-use Rattle.std.proofs.Common.{◌≡◌, ◌∙◌, ◌==◌, ℕ, zero, suc, List, [], ◌∷◌, ◌++◌, if◌then◌else◌, Option, Some, None, Ok, false, String, string_bytes, take, refl, sym, ap, subst}
+use Rattle.std.proofs.Common.{◌≡◌, ◌≢◌, ◌∙◌, inl, inr, ◌==◌, ℕ, zero, suc, List, [], ◌∷◌, ◌++◌, if◌then◌else◌, Option, Some, None, Ok, false, String, string_bytes, take, refl, sym, ap, subst}
 use Rattle.std.specs.Io.Buffered.{reader_remaining, reader_inner, reader_buffer, reader_capacity}
 use Rattle.std.specs.declared.io.buffered.BufReader.{BufReader}
 use Rattle.std.proofs.KnownBytes.{Appends-nil, Appends-trans}
@@ -19,7 +19,10 @@ use Rattle.run_parts.specs.declared.outcome.Outcome.TheVariants.{Failed}
 use Rattle.jobs.specs.Every.{AppendsFile, AppendsNamed, CutsFile}
 use Rattle.jobs.specs.Files.{Every, no_files, one_more, greater}
 use Rattle.jobs.specs.Gives.{Gives}
-use Rattle.jobs.specs.Names.{AreListed, AreListedFirst, AreNamed, AreNamedFirst, first_listed, none_listed}
+use Rattle.jobs.specs.Names.{AreListed, AreListedFirst, AreNamed, AreNamedFirst, StopsList, first_listed, none_listed}
+use Rattle.jobs.specs.FaultNames.{list_failure}
+use Rattle.jobs.specs.declared.names.ListFault.{ListFault}
+use Rattle.jobs.specs.declared.names.ListFault.TheVariants as listed
 use Rattle.run_parts.specs.declared.status.Status.{Status}
 use Rattle.run_parts.specs.declared.status.Status.TheVariants.{Done}
 use Rattle.text_output.proofs.Parts.{Appends-keeps}
@@ -80,6 +83,20 @@ listed_otherwise gives every IsList Is MayEnd other lines _ (first_files {names 
     first_files (first_otherwise IsList Is other names are) written
 listed_otherwise gives every IsList Is MayEnd other lines _ (files_end {names = names} may are written) =
     files_end may (first_otherwise IsList Is other names are) written
+
+-- the same files, whose names are told in another way
+pub named_otherwise : (gives : Gives) (every : Every) (AreNames Are : List (List ℕ) → Type 0)
+    (out out' : Option (List ℕ)) (greatest : Status)
+    → ((names : List (List ℕ)) → AreNames names → Are names) → AppendsNamed gives every AreNames out out' greatest
+    → AppendsNamed gives every Are out out' greatest
+named_otherwise gives every AreNames Are out out' greatest other h =
+    record { names = h.names; are = other h.names h.are; lines = h.lines; written = h.written; appends = h.appends }
+
+-- a list whose names end early, but not by an output
+pub list_stops : (fault : ListFault) → fault ≢ listed.Write → StopsList (list_failure fault)
+list_stops listed.Read other = inr refl
+list_stops listed.Memory other = inl refl
+list_stops listed.Write other = absurd (other refl)
 
 -- all of them are written
 pub all_hold : (gives : Gives) (every : Every) (AreAll AreFirst : List (List ℕ) → Type 0) (MayEnd : Failure → Type 0)

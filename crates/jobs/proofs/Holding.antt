@@ -26,7 +26,7 @@ appends_keeps (Some x) (Some y) h = h ∙ append-nil x
 
 -- no text has a part that lacks something of nothing
 pub no_part : (a b : Option (List ℕ)) → AppendsPart a b [] → ⊥
-no_part a b part = absurd (omega (arith, ap length part.whole, length-append part.taken part.rest, part.more))
+no_part a b h = absurd (omega (arith, ap length h.whole, length-append h.taken h.rest, h.more))
 
 -- nothing, and then a text
 pub keeps_before : (a b c : Option (List ℕ)) (text : List ℕ) → Keeps a b → Appends b c text → Appends a c text

@@ -5,3 +5,4 @@ mod Dumped
 mod FilesWritten
 mod EachWritten
 mod Asked
+mod Explained

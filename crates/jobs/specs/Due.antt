@@ -14,7 +14,7 @@ use Rattle.run_parts.specs.declared.outcome.Outcome.TheVariants as outcome
 use Rattle.text_output.specs.Written.{AppendsPart}
 
 -- how a job ends: as its ending says, or by a fault of its files
-abbrev pub End : Type 1
+abbrev pub End : Type 0
 End = Result Ending FileFault
 
 -- how a job ends whose output fails

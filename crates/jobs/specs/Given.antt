@@ -85,9 +85,9 @@ pub record MapsSpace (pickle : List ℕ) (ask : Ask) (terms : Terms) (space spac
 -- after a run of a value that is shown to the eye, what it had before its fault is added; the output may fail then
 pub data AddsMet (terms : Terms) (ended : Outcome) (out out' : Option (List ℕ)) : Outcome → Type 0 where
   adds_none : Keeps out out' → AddsMet terms ended out out' ended
-  adds_met : {met : List ℕ} → outcome_status ended ≡ Fault → IsSome terms.look → Appends out out' met →
+  adds_met : (met : List ℕ) → outcome_status ended ≡ Fault → IsSome terms.look → Appends out out' met →
       AddsMet terms ended out out' ended
-  cuts_met : {met : List ℕ} → outcome_status ended ≡ Fault → IsSome terms.look → AppendsPart out out' met →
+  cuts_met : (met : List ℕ) → outcome_status ended ≡ Fault → IsSome terms.look → AppendsPart out out' met →
       AddsMet terms ended out out' (outcome.Failed failure.Write)
 
 -- how a job ends that wrote its answer, or whose output failed
@@ -102,7 +102,7 @@ done (Err fault) = Err fault
 
 -- how a dump ends, by what its call returned
 abbrev pub dump_end : Result (Unit {0}) DumpFault → End
-dump_end (Ok done) = Ok (Run outcome.Done)
+dump_end (Ok unit) = Ok (Run outcome.Done)
 dump_end (Err dump.Write) = Ok (Run (outcome.Failed failure.Write))
 dump_end (Err dump.Device) = Err (fault.Dump dump.Device)
 

@@ -174,7 +174,7 @@ module _ (gives : Gives) (why : Bool) where
 -- of a dump: its text; its first bytes before a read that failed
 pub data DueDump (text : List ℕ) : (lines : List (List ℕ)) → Option End → Type 0 where
   dump_due : DueDump text (text ∷ []) (Some (Ok (Run outcome.Done)))
-  front_due : {front rest : List ℕ} → front ++ rest ≡ text → 0 < length rest →
+  front_due : {front : List ℕ} (rest : List ℕ) → front ++ rest ≡ text → 0 < length rest →
       DueDump text (front ∷ []) (Some (Err (fault.Dump dump.Device)))
 
 -- how a dump over an open file ends: a read failed only if it could

@@ -48,12 +48,6 @@ pub trait Opener {
     /// The space of a file.
     type Bytes: Space + Drop;
 
-    /// A read fails only of a file of which one may fail: of another, a space that was opened has no more failures later.
-    ghost failing: { (o : Self) (path : List ℕ) (spool : Option ℕ) (space after : Self.Bytes)
-        → (gives o).is_file path spool (Self.Bytes.view space)
-        → Keeps (Self.Bytes.view space) (Self.Bytes.view after)
-        → HasRisen (Self.Bytes.view space).failures (Self.Bytes.view after).failures → (gives o).is_failing path };
-
     /// A list of names.
     type List: Read + Drop;
 
@@ -78,4 +72,10 @@ pub trait Opener {
 
     /// Why the file at a path isn't opened, in words.
     fn reason(&self, path: &str, lengthless: Lengthless) -> &'static str;
+
+    /// A read fails only of a file of which one may fail: of another, a space that was opened has no more failures later.
+    ghost failing: { (o : Self) (path : List ℕ) (spool : Option ℕ) (space after : Self.Bytes)
+        → (gives o).is_file path spool (Self.Bytes.view space)
+        → Keeps (Self.Bytes.view space) (Self.Bytes.view after)
+        → HasRisen (Self.Bytes.view space).failures (Self.Bytes.view after).failures → (gives o).is_failing path };
 }

@@ -2,7 +2,7 @@
 ghost use Rattle.std.specs.Prelude.{◌≡◌};
 ghost use Rattle.jobs.specs.Aims.{of_mapping};
 ghost use Rattle.jobs.specs.Due.{Holds};
-ghost use Rattle.jobs.specs.Given.{done};
+ghost use Rattle.jobs.specs.Given.{IsOverFiles, done};
 ghost use Rattle.jobs.specs.Jobs.{DueRequest, HoldsAtEnd};
 
 use crate::aside::Aside;
@@ -37,9 +37,25 @@ pub fn run_job<P: Opener, O: Write, A: Aside>(
     ensures { HoldsAtEnd (P.gives opener.now) why.old.asked asked.now
         (O.contents out.old) (O.contents out.new) result }
 {
-    if let Some((word, question)) = question_of(asked) {
-        return done(answer_about(alloc, opener, word, question, out, why));
+    match question_of(asked) {
+        Some((word, question)) => done(answer_about(alloc, opener, word, question, out, why)),
+        None => run_over_files(alloc, opener, asked, out, aside, why),
     }
+}
+
+// Does a job that isn't a question about a pickle alone.
+fn run_over_files<P: Opener, O: Write, A: Aside>(
+    alloc: Global,
+    opener: &P,
+    asked: &Asked,
+    out: &mut O,
+    aside: &mut A,
+    why: &mut Why<'_>,
+) -> Result<Option<Ending>, FileFault>
+    requires over { IsOverFiles asked.now.job }
+    ensures { HoldsAtEnd (P.gives opener.now) why.old.asked asked.now
+        (O.contents out.old) (O.contents out.new) result }
+{
     match &asked.job {
         Job::Map {
             at,

@@ -22,11 +22,11 @@ returns g c =
     let gives = g.P.Opener.gives c.args.opener.now in
     let file = g.P.Bytes.Space.view c.in_ok-space.space in
     let after = g.P.Bytes.Space.view c.dump-dumped.new.space in
-    let opened = rw c.in_ok-space.ensures c.in_ok-bytes.ensures.ok in
+    let opened : gives.is_file c.args.path.now None file = rw c.in_ok-space.ensures c.in_ok-bytes.ensures.ok in
     rw c.end_dump.ensures
     (dumps {file = file} opened
     (dump_ends (HasRisen file.failures after.failures) (gives.is_failing c.args.path.now) c.dump-dumped.result
-    (g.P.Opener.failing c.args.opener.now c.args.path.now None c.in_ok-space.space c.dump-dumped.new.space opened
+    (g.met.P.Opener.failing c.args.opener.now c.args.path.now None c.in_ok-space.space c.dump-dumped.new.space opened
     c.dump-dumped.ensures.keeps)
     c.dump-dumped.ensures.device)
     (dump_holds (λ bytes. dump_text bytes c.args.range.from c.args.range.size c.args.range.ruler) file

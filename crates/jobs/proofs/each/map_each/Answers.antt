@@ -1,4 +1,4 @@
-use Rattle.std.proofs.Common.{Ok, subst}
+use Rattle.std.proofs.Common.{Ok, subst, sym}
 use Rattle.std.proofs.KnownBytes.{Keeps-refl}
 use Rattle.jobs.specs.Aims.{aim_of, of_mapping}
 use Rattle.jobs.specs.Due.{Holds}
@@ -12,13 +12,15 @@ use Rattle.jobs.proofs.each.map_each.Goals as goal
 
 pub returns-in-Err : goal.returns-in-Err
 returns-in-Err g c =
-    no_text _ (Ok (Run c.in-Err.outcome)) _ _ (no_run_due (lacks_type (rw c.deref.ensures.value c.in-Err.ensures.none)))
+    no_text _ (Ok (Run c.in-Err.outcome)) _ _
+    (no_run_due (lacks_type (rw (sym c.deref.ensures.value) c.in-Err.ensures.none)))
     (Keeps-refl _)
 
 pub returns-in-Some : goal.returns-in-Some
 returns-in-Some g c =
     no_text _ (Ok (Run c.in-Some.outcome)) _ _
-    (no_run_due (lacks_part (rw c.deref.ensures.value c.in-Ok.ensures.asked) c.in-Some.ensures.some)) (Keeps-refl _)
+    (no_run_due (lacks_part (rw (sym c.deref.ensures.value) c.in-Ok.ensures.asked) c.in-Some.ensures.some))
+    (Keeps-refl _)
 
 pub returns : goal.returns
 returns g c =
@@ -37,6 +39,6 @@ returns g c =
     rw c.files_ending.ensures
     (holds_more (DueNamed gives (every_for c.args.why.now.asked (of_mapping mapping) pickle) c.args.names.now) _
     (Ok (files_ending c.run_files-written.result)) _ _
-    (λ lines end due. files_due (rw c.deref.ensures.value c.in-Ok.ensures.asked)
-    c.refuse_parts.ensures.none due)
+    (λ lines end due. files_due (rw (sym c.deref.ensures.value) c.in-Ok.ensures.asked)
+    c.in_none.ensures.none due)
     (subst Written c.of.ensures c.run_files-written.ensures))

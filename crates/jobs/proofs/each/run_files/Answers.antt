@@ -1,17 +1,21 @@
-use Rattle.std.proofs.Common.{◌≡◌, ℕ, List, Ok, Option, refl, inr, sym, subst}
+use Rattle.std.proofs.Common.{Ok, refl, inr, sym, subst}
 use Rattle.std.proofs.KnownBytes.{Appends-nil}
 use Rattle.jobs.specs.Due.{whole}
 use Rattle.jobs.specs.Every.{every_of}
 use Rattle.jobs.specs.Files.{no_files}
-use Rattle.jobs.specs.Given.{files_ending}
-use Rattle.jobs.specs.Jobs.{DueFiles, DueNamed, files_end}
-use Rattle.jobs.specs.Names.{AreListed, AreListedFirst, StopsList, none_listed}
+use Rattle.jobs.specs.Given.{HoldsWords, files_ending}
+use Rattle.jobs.specs.Jobs.{files_end}
+use Rattle.jobs.specs.Names.{StopsList, none_listed}
 use Rattle.jobs.proofs.EachWritten.{listed_otherwise}
 use Rattle.jobs.proofs.Holding.{holds_more}
 use Rattle.jobs.proofs.each.run_files.Goals as goal
 
 pub returns-in-Words : goal.returns-in-Words
-returns-in-Words g c = rw c.in-Words.is (rw (sym c.as_slice.ensures.value) c.run_words.ensures)
+returns-in-Words g c =
+    rw c.in-Words.is
+    (subst (λ words. HoldsWords (g.P.Opener.gives c.args.opener.now) (every_of c.args.typed) words
+    (g.O.Write.contents c.args.out.now) (g.O.Write.contents c.run_words.new.out) c.run_words.result)
+    c.as_slice.ensures.value c.run_words.ensures)
 
 pub returns-in-Some : goal.returns-in-Some
 returns-in-Some g c =
@@ -21,6 +25,6 @@ returns-in-Some g c =
     (λ bytes is. rw is (rw (sym c.deref.ensures) c.in-Some.ensures)))
     c.run_list.ensures)
 
-pub returns-in_default : goal.returns-in_default
-returns-in_default g c =
+pub returns-in-None : goal.returns-in-None
+returns-in-None g c =
     rw c.in-EndedByZero.is (whole (files_end (inr refl) none_listed no_files) (Appends-nil _))

@@ -16,7 +16,7 @@ returns-in_err-status-in-Ok-clause-err g c =
     on_err c.from_residual.result
     (opened_cut gives (every_of c.args.typed) c.args.name.now file (HasRisen file.failures last.failures) _ _
     c.in-Ok.ensures.ok
-    (g.P.Opener.failing c.args.opener.now c.args.name.now c.args.typed.mapping.spool c.in-Ok.space
+    (g.met.P.Opener.failing c.args.opener.now c.args.name.now c.args.typed.mapping.spool c.in-Ok.space
     c.run_space.new.space c.in-Ok.ensures.ok c.run_space.ensures.keeps)
     c.in_err-status-in-Ok.ensures.err)
 
@@ -30,9 +30,10 @@ returns-in_err-flush-clause-err g c =
       | in-Ok+in_ok-status-in-Ok w ↦
           let file = g.P.Bytes.Space.view w.in-Ok.space in
           let last = g.P.Bytes.Space.view w.run_space.new.space in
-          opened_written gives every c.args.name.now file (HasRisen file.failures last.failures) _ _ _
-          c.match-open_named.status w.in-Ok.ensures.ok
-          (g.P.Opener.failing c.args.opener.now c.args.name.now c.args.typed.mapping.spool w.in-Ok.space
+          opened_written gives every c.args.name.now file (HasRisen file.failures last.failures)
+          (g.O.Write.contents c.args.out.now) (g.O.Write.contents c.match-open_named.out)
+          (g.O.Write.contents c.match-open_named.out) c.match-open_named.status w.in-Ok.ensures.ok
+          (g.met.P.Opener.failing c.args.opener.now c.args.name.now c.args.typed.mapping.spool w.in-Ok.space
           w.run_space.new.space w.in-Ok.ensures.ok w.run_space.ensures.keeps)
           (rw (w.status-is, w.out-is) w.in_ok-status-in-Ok.ensures.ok) (Keeps-refl _)
       | in-Err+in_ok-status-in-Err w ↦ rw (w.status-is, w.out-is) w.in_ok-status-in-Err.ensures.ok
@@ -56,7 +57,7 @@ returns-clause-ok g c =
           let last = g.P.Bytes.Space.view w.run_space.new.space in
           opened_written gives every c.args.name.now file (HasRisen file.failures last.failures) _ _ _
           c.match-open_named.status w.in-Ok.ensures.ok
-          (g.P.Opener.failing c.args.opener.now c.args.name.now c.args.typed.mapping.spool w.in-Ok.space
+          (g.met.P.Opener.failing c.args.opener.now c.args.name.now c.args.typed.mapping.spool w.in-Ok.space
           w.run_space.new.space w.in-Ok.ensures.ok w.run_space.ensures.keeps)
           (rw (w.status-is, w.out-is) w.in_ok-status-in-Ok.ensures.ok) keeps
       | in-Err+in_ok-status-in-Err w ↦ run_kept (RunsFile gives every c.args.name.now) every c.args.name.now _ _ _

@@ -37,12 +37,12 @@ returns-in_err-tell_reasons-in-Line-clause-err g c =
     let is = c.in-Some.ensures.some in
     let file = g.S.Space.view c.args.space.now in
     let after = g.S.Space.view c.run_file.new.space in
-    let last = g.S.Space.view c.reason_lines-lines-in-Line.new.space in
+    let last = g.S.Space.view c.reason_lines-lines.new.space in
     on_err c.from_residual-in_err-tell_reasons-in-Line.result
     (line_unflushed (every_of c.args.typed) file after (HasRisen file.failures last.failures) c.in-Some.ask
     c.in-Line.faults c.args.name.now c.in_ok-status-in-Line.status _ _ _ c.in-Line.is is
     (λ risen. risen_more file.failures after.failures last.failures risen
-    c.reason_lines-lines-in-Line.ensures.keeps.failures)
+    c.reason_lines-lines.ensures.keeps.failures)
     (c.in_ok-status-in-Line.ensures.ok _ (rw is.name c.requires.typed.asked))
     c.in_err-tell_reasons-in-Line.ensures)
 
@@ -51,11 +51,11 @@ returns-in_ok-tell_reasons-in-Line-clause-ok g c =
     let is = c.in-Some.ensures.some in
     let file = g.S.Space.view c.args.space.now in
     let after = g.S.Space.view c.run_file.new.space in
-    let last = g.S.Space.view c.reason_lines-lines-in-Line.new.space in
+    let last = g.S.Space.view c.reason_lines-lines.new.space in
     line_written (every_of c.args.typed) file after (HasRisen file.failures last.failures) c.in-Some.ask
     c.in-Line.faults c.args.name.now c.in_ok-status-in-Line.status _ _ _ c.in-Line.is is
     (λ risen. risen_more file.failures after.failures last.failures risen
-    c.reason_lines-lines-in-Line.ensures.keeps.failures)
+    c.reason_lines-lines.ensures.keeps.failures)
     (c.in_ok-status-in-Line.ensures.ok _ (rw is.name c.requires.typed.asked))
     c.in_ok-tell_reasons-in-Line.ensures
 

@@ -1,10 +1,10 @@
 use Rattle.std.proofs.KnownBytes.{Keeps-refl}
 use Rattle.std.proofs.lemmas.Result.{err_from_is_err_and}
-use Rattle.std.proofs.Common.{Ok, Err, Some}
+use Rattle.std.proofs.Common.{Ok}
 use Rattle.bit_space.specs.SpaceView.{HasRisen}
-use Rattle.jobs.specs.Aims.{of_mapping}
+use Rattle.jobs.specs.Aims.{IsAskOf, aim_of}
 use Rattle.jobs.specs.Due.{of_pickle, unread}
-use Rattle.jobs.specs.Jobs.{DueFile, DueSpace, maps, no_pages, starts_nowhere, unopened}
+use Rattle.jobs.specs.Jobs.{DueSpace, maps, no_pages, starts_nowhere, unopened}
 use Rattle.jobs.specs.declared.ending.Ending.TheVariants.{Run}
 use Rattle.jobs.proofs.Holding.{holds_more, no_text}
 use Rattle.jobs.proofs.Mapped.{risen_more}
@@ -39,10 +39,12 @@ returns g c =
     let gives = g.P.Opener.gives c.args.opener.now in
     let file = g.P.Bytes.Space.view c.in_ok-space.space in
     let last = g.P.Bytes.Space.view c.map_space-outcome.new.space in
-    let opened = rw c.in_ok-space.ensures c.in_ok-bytes.ensures.ok in
+    let opened : gives.is_file c.args.path.now c.args.mapping.spool file =
+    rw c.in_ok-space.ensures c.in_ok-bytes.ensures.ok in
+    let asked : IsAskOf (aim_of c.args.mapping) file.len c.in-Some.ask = rw c.in-Some.is at c.ask_in.ensures.some in
     let mapped = c.map_space-outcome.ensures.maps in
     let failing = λ (risen : HasRisen file.failures mapped.after.failures).
-    g.P.Opener.failing c.args.opener.now c.args.path.now c.args.mapping.spool c.in_ok-space.space
+    g.met.P.Opener.failing c.args.opener.now c.args.path.now c.args.mapping.spool c.in_ok-space.space
     c.map_space-outcome.new.space opened c.map_space-outcome.ensures.keeps
     (risen_more file.failures mapped.after.failures last.failures risen mapped.failures) in
     holds_more
@@ -50,6 +52,5 @@ returns g c =
     c.args.why.now.asked)
     _ (Ok (Run c.map_space-outcome.result)) _ _
     (λ lines end due. of_pickle c.in_ok-pickle.ensures.ok
-    (maps {file = file} {after = mapped.after} c.in-Some.ask opened
-    (rw c.in-Some.is at c.ask_in.ensures.some) failing due))
+    (maps {file = file} {after = mapped.after} c.in-Some.ask opened asked failing due))
     mapped.holds

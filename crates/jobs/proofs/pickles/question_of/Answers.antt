@@ -1,0 +1,16 @@
+use Rattle.jobs.specs.Given.{of_bound, of_check, of_text, of_types}
+use Rattle.jobs.proofs.pickles.question_of.Goals as goal
+
+pub returns-in-Check-clause-some : goal.returns-in-Check-clause-some
+returns-in-Check-clause-some c = rw c.in-Check.is (of_check c.deref.ensures)
+
+pub returns-in-Types-clause-some : goal.returns-in-Types-clause-some
+returns-in-Types-clause-some c = rw c.in-Types.is (of_types c.deref-in-Types.ensures)
+
+pub returns-in-Bound-clause-some : goal.returns-in-Bound-clause-some
+returns-in-Bound-clause-some c =
+    rw c.in-Bound.is (of_bound _ c.deref-in-Bound.ensures c.as_bytes-name.ensures.value)
+
+pub returns-in-BoundText-clause-some : goal.returns-in-BoundText-clause-some
+returns-in-BoundText-clause-some c =
+    rw c.in-BoundText.is (of_text _ c.deref-in-BoundText.ensures c.as_bytes-name-in-BoundText.ensures.value)
