@@ -79,6 +79,7 @@ abbrev pub IsRefusedFor : (pickle : List ℕ) → Outcome → Type 0
 IsRefusedFor pickle (outcome.Refused refusal) = Refuses pickle refusal
 IsRefusedFor pickle outcome.Done = Unit {0}
 IsRefusedFor pickle outcome.NoSuchType = Unit {0}
+IsRefusedFor pickle outcome.ImpossiblePart = Unit {0}
 IsRefusedFor pickle outcome.Offset = Unit {0}
 IsRefusedFor pickle (outcome.Fault why) = Unit {0}
 IsRefusedFor pickle (outcome.Slots at) = Unit {0}
