@@ -57,7 +57,8 @@ FIRMWARE += ["Combined PEI/DXE", "Application", "SMM module", "Volume image", "C
 
 def firmware_volume(value, _):
     """Its files or variables, with their places and sizes, and the free space behind them."""
-    head, ((form, it),) = value["volume"]["header"], value["volume"]["content"].items()
+    it = value["volume"]
+    head, form = it["header"], "files" if "files" in it else "variables"
     at, extension = head["size"]["magnitude"], head["extension_at"]["magnitude"]
     facts = {"form": form, "size": head["length"]["magnitude"], "parts": []}
     if form == "files":

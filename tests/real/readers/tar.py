@@ -41,7 +41,9 @@ def number(it):
     if isinstance(it, dict) and "binary" in it:
         of = it["binary"]
         return of & (1 << 63) - 1 if isinstance(of, int) else (of["high"] << 64 | of["low"]) & (1 << 95) - 1
-    digits = bytes(it) if isinstance(it, list) else it["digits"].encode()
+    if isinstance(it, dict):
+        it = it["full"] if "full" in it else it["digits"].encode()
+    digits = bytes(it)
     return int.from_bytes(digits[1:], "big") if digits[:1] == b"\x80" else int(digits.rstrip(b"\0 ") or b"0", 8)
 
 
