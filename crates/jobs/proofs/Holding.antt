@@ -1,8 +1,9 @@
 -- What standard output holds where lines are due.
-use Rattle.std.proofs.Common.{◌≡◌, ◌∙◌, ℕ, List, [], ◌∷◌, ◌++◌, Option, Some, None, Ok, length, sym, ap, subst, arith}
+use Rattle.std.proofs.Common.{◌≡◌, ◌≢◌, ◌∙◌, ℕ, List, [], ◌∷◌, ◌++◌, Option, Some, None, Ok, length, refl, sym, ap, subst, arith}
 use Rattle.std.proofs.KnownBytes.{Appends-nil, Appends-trans, Keeps-trans}
 use Rattle.std.proofs.lemmas.List.{append-nil, append_assoc, length-append}
 use Rattle.std.specs.List.{concat}
+use Rattle.std.specs.Prelude.{IfNone}
 use Rattle.std.specs.Io.KnownBytes.{Appends, Keeps}
 use Rattle.jobs.specs.Due.{DueRun, End, Holds, early, line_due, output_fails, part, text_due, whole}
 use Rattle.jobs.specs.declared.ending.Ending.TheVariants.{Run}
@@ -12,6 +13,11 @@ use Rattle.run_parts.specs.declared.outcome.Outcome.{Outcome}
 use Rattle.run_parts.specs.declared.outcome.Outcome.TheVariants as outcome
 use Rattle.text_output.proofs.Parts.{Appends-keeps}
 use Rattle.text_output.specs.Written.{AppendsPart}
+
+-- what is said where there is no value
+pub if_not_some : {A P : Type 0} (o : Option A) → ((found : A) → o ≢ Some found) → IfNone o P → P
+if_not_some None none said = said
+if_not_some (Some found) none said = absurd (none found refl)
 
 -- nothing is written
 pub keeps_appends : (a b : Option (List ℕ)) → Keeps a b → Appends a b []

@@ -6,7 +6,7 @@ use Rattle.jobs.specs.Given.{files_ending}
 use Rattle.jobs.specs.Jobs.{DueNamed, every_for, files_due, no_run_due}
 use Rattle.jobs.specs.declared.ending.Ending.TheVariants.{Run}
 use Rattle.jobs.specs.declared.file_run.FileForm.{FileForm}
-use Rattle.jobs.proofs.Holding.{holds_more, no_text}
+use Rattle.jobs.proofs.Holding.{holds_more, if_not_some, no_text}
 use Rattle.poke_batch.specs.RunsUnder.{lacks_part, lacks_type}
 use Rattle.jobs.proofs.each.map_each.Goals as goal
 
@@ -40,5 +40,5 @@ returns g c =
     (holds_more (DueNamed gives (every_for c.args.why.now.asked (of_mapping mapping) pickle) c.args.names.now) _
     (Ok (files_ending c.run_files-written.result)) _ _
     (λ lines end due. files_due (rw (sym c.deref.ensures.value) c.in-Ok.ensures.asked)
-    c.in_none.ensures.none due)
+    (if_not_some c.refuse_parts.result c.in_default.not-Some c.refuse_parts.ensures.none) due)
     (subst Written c.of.ensures c.run_files-written.ensures))

@@ -2,6 +2,7 @@ use Rattle.std.proofs.Common.{sym, arith}
 use Rattle.poke_batch.specs.RunsUnder.{is_run, lacks_part, lacks_type}
 use Rattle.poke_batch.proofs.Unresolved.{ends_unresolved}
 use Rattle.run_parts.proofs.Sayings.{ends_more}
+use Rattle.jobs.proofs.Holding.{if_not_some}
 use Rattle.jobs.proofs.Mapped.{met_holds, space_holds}
 use Rattle.jobs.proofs.one_file.map_space.Goals as goal
 
@@ -22,7 +23,8 @@ returns-then-not-why-clause-maps g c = record {
   holds = space_holds c.args.pickle.now.bytes.items c.args.ask.now c.args.terms.now _ _ c.args.why.now.asked
       c.map_new-outcome.result _ _
       (ends_more
-      (λ saying under. is_run (rw (sym c.deref.ensures.value) c.in-Ok.ensures.asked) c.in_none.ensures.none under)
+      (λ saying under. is_run (rw (sym c.deref.ensures.value) c.in-Ok.ensures.asked)
+      (if_not_some c.refuse_parts.result c.in_default.not-Some c.refuse_parts.ensures.none) under)
       (c.map_new-outcome.ensures.ends c.args.pickle.now.bytes.items
       (rw (sym c.deref.ensures.value) c.in-Ok.ensures.asked)));
 }
@@ -34,7 +36,8 @@ returns-clause-maps g c = record {
   holds = met_holds c.args.pickle.now.bytes.items c.args.ask.now c.args.terms.now _ _ c.args.why.now.asked
       c.map_new-outcome.result c.explain_run.result _ _ _ c.if-not-why.false
       (ends_more
-      (λ saying under. is_run (rw (sym c.deref.ensures.value) c.in-Ok.ensures.asked) c.in_none.ensures.none under)
+      (λ saying under. is_run (rw (sym c.deref.ensures.value) c.in-Ok.ensures.asked)
+      (if_not_some c.refuse_parts.result c.in_default.not-Some c.refuse_parts.ensures.none) under)
       (c.map_new-outcome.ensures.ends c.args.pickle.now.bytes.items
       (rw (sym c.deref.ensures.value) c.in-Ok.ensures.asked)))
       c.explain_run.ensures.met;
