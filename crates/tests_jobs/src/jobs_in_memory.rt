@@ -59,7 +59,10 @@ const REFUSED_ROWS: [(&str, &str); 9] = [
     ("bound --why --text wrong.pk P 24", "  wrong.pk:1:29: "),
     ("map --why wrong.pk P a.bin", "  wrong.pk:1:29: "),
     ("each --why wrong.pk P a.bin", "  wrong.pk:1:29: "),
-    ("bound --why --text p.pk R 24", "  no type `R` is declared; "),
+    (
+        "bound --why --text p.pk R 24",
+        "  no type `R` is declared; ",
+    ),
     ("map --why p.pk R a.bin", "  no type `R` is declared; "),
     ("each --why p.pk R a.bin", "  no type `R` is declared; "),
 ];

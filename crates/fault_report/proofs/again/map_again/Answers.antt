@@ -35,8 +35,8 @@ returns-clause-part g c =
     elim c.match-end.branch [
       | in-Ok w ↦ rw w.in-Ok.is tt
       | in-Err+in_ok-fault-in-Err w ↦ rw (w.in-Err.is, w.space-is, w.fault2-is)
-        (earlier_kept (g.S.Space.view c.args.space.now) (g.S.Space.view c.map_watched-end.new.space)
-        c.map_watched-end.ensures.bytes (g.S.Space.view w.part_with.new.space) c.map_watched-end.ensures.failures
-        w.part_with.ensures.keeps.failures type ask w.in-Err.stopped w.in_ok-fault-in-Err.fault
-        w.in_ok-fault-in-Err.ensures.part)
+          (earlier_kept (g.S.Space.view c.args.space.now) (g.S.Space.view c.map_watched-end.new.space)
+          c.map_watched-end.ensures.bytes (g.S.Space.view w.part_with.new.space) c.map_watched-end.ensures.failures
+          w.part_with.ensures.keeps.failures type ask w.in-Err.stopped w.in_ok-fault-in-Err.fault
+          w.in_ok-fault-in-Err.ensures.part)
     ]
