@@ -185,8 +185,8 @@ fn finds_each_type(rt: &impl Abort, alloc: Global, count: u8) -> Result<(), Fail
     for i in 0..count {
         let name = format!(in alloc; "f{i}")?;
         let found = table.find(name.as_bytes()).ok_or("no type")?;
-        assert!(rt; least <= found.node, "{name}");
-        least = found.node.saturating_add(1);
+        assert!(rt; least <= found.node(), "{name}");
+        least = found.node().saturating_add(1);
         let longer = format!(in alloc; "f{i}_")?;
         assert!(rt; table.find(longer.as_bytes()).is_none(), "{longer}");
     }
