@@ -1,2 +1,3 @@
 pub mod Stream
 pub mod SourceView
+pub mod Window
