@@ -15,3 +15,5 @@ mod pages;
 mod reading;
 #[cfg(test)]
 mod streams;
+#[cfg(test)]
+mod windows;
