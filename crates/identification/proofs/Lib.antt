@@ -1,0 +1,6 @@
+pub mod Answered
+pub mod Lines
+pub mod Ranks
+pub mod Sorting
+pub mod Sums
+pub mod Tries
