@@ -1,0 +1,7 @@
+//! Worked rows of files and the formats that fit them. The answers were worked out by hand.
+#![tactic(auto)]
+
+#[cfg(test)]
+mod fits;
+#[cfg(test)]
+mod pickles;
