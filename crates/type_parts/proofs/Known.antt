@@ -1,17 +1,23 @@
 -- What is known of the types of a table, by their nodes.
-use Rattle.std.proofs.Common.{◌≡◌, ◌<◌, ℕ, zero, suc, ◌+◌, ◌-◌, ◌++◌, Bool, true, false, ◌&&◌, List, [], ◌∷◌, length, map, take, drop, get_or, Option, Some, None, Result, Ok, Err, IfOk, refl, sym, ◌∙◌, ap, subst, arith}
-use Rattle.std.specs.Prelude.{slice_get}
+use Rattle.std.proofs.Common.{◌≡◌, ◌<◌, ℕ, zero, suc, ◌+◌, ◌-◌, ◌++◌, Bool, true, false, ◌&&◌, List, [], ◌∷◌, length, map, take, drop, get_or, Some, Result, Ok, Err, IfOk, refl, sym, ◌∙◌, ap, subst, arith}
+use Rattle.std.specs.Prelude.{slice_get, All}
 use Rattle.command_line.specs.declared.path.Step.{Step}
 use Rattle.command_line.specs.declared.pattern.Pattern.{Pattern}
 use Rattle.command_line.specs.declared.pattern.PatternStep.{PatternStep}
 use Rattle.command_line.specs.declared.selection.Column.{Column}
 use Rattle.pickle_types.specs.declared.node.Node.{Node}
-use Rattle.pickle_types.specs.Table.{IsTable, type_of, open_shape}
+use Rattle.pickle_types.specs.declared.node.Field.{Field}
+use Rattle.pickle_types.specs.declared.node.Part.{Part}
+use Rattle.pickle_types.specs.Table.{IsTable, FieldsBelow, PartsBelow, type_of, open_fields, open_parts}
 use Rattle.pickle_types.specs.Types.{PokeType}
 use Rattle.std.proofs.lemmas.List.{map_more}
+use Rattle.std.proofs.lemmas.List.Elements.{All-map}
 use Rattle.std.proofs.lemmas.Option.{same_Some, slice_get-get_or}
 use Rattle.pickle_types.proofs.Tables.{opens}
-use Rattle.type_parts.specs.CanHave.{goal_at, AreKnown, of_step, of_pattern_step, some_part, by_path, by_pattern, any_type, can_have, can_have_each, can_have_columns}
+use Rattle.type_parts.specs.Members.{Member, fields_in, parts_in, field_member, part_member}
+use Rattle.type_parts.specs.Twice.{two_parts, can_match_twice}
+use Rattle.type_parts.specs.declared.member.Standing.{Standing}
+use Rattle.type_parts.specs.CanHave.{Leading, some_member, is_known, MembersBelow, goal_at, AreKnown, of_step, of_pattern_step, some_part, by_path, by_pattern, any_type, can_have, can_have_each, can_have_columns}
 
 there_is : {A : Type 0} (xs : List A) (i : ℕ) → i < length xs → (x : A) × (slice_get xs i ≡ Some x)
 there_is [] i lt = absurd (omega arith)
@@ -43,6 +49,54 @@ pub element_known : (leads : Bool) (nodes : List Node) (known : List Bool) (goal
 element_known true nodes known goal table are i lt e = known_at nodes known goal table are i false lt
 element_known false nodes known goal table are i lt e = cc
 
+-- what holds of all holds of the first, and of those after it
+pub all_first : {A : Type 0} (P : A → Type 0) (x : A) (xs : List A) → All P (x ∷ xs) → P x
+all_first P x xs all = all 0 x (omega arith)
+
+pub all_rest : {A : Type 0} (P : A → Type 0) (x : A) (xs : List A) → All P (x ∷ xs) → All P xs
+all_rest P x xs all k d lt = all (suc k) d (omega (arith, lt))
+
+pub fields_below : (count : ℕ) (fields : List Field) → FieldsBelow count fields →
+    MembersBelow count (map field_member fields)
+fields_below count fields below = All-map (λ (m : Member ℕ). m.type < count) field_member fields below
+
+pub parts_below : (count : ℕ) (parts : List Part) → PartsBelow count parts → MembersBelow count (map part_member parts)
+parts_below count parts below = All-map (λ (m : Member ℕ). m.type < count) part_member parts below
+
+-- a member among others
+pub member_below : {A : Type 0} (count : ℕ) (f : A → Member ℕ) (xs : List A) (k : ℕ) (x : A) →
+    MembersBelow count (map f xs) → k < length xs → x ≡ get_or xs k x → (f x).type < count
+member_below count f [] k x below lt is = absurd (omega (arith, lt))
+member_below count f (y ∷ ys) zero x below lt is =
+    subst (λ z. (f z).type < count) (sym is) (below 0 (f x) (omega arith))
+member_below count f (y ∷ ys) (suc k) x below lt is =
+    member_below count f ys k x (all_rest (λ (m : Member ℕ). m.type < count) (f y) (map f ys) below)
+    (omega (arith, lt)) is
+
+-- members in a table, by what is known of their nodes
+module _ (leading : Leading) (standing : Standing) (nodes : List Node) (known : List Bool) (goal : PokeType → Bool)
+    (table : IsTable nodes) (are : AreKnown nodes known goal) where
+  pub fields_known : (fields : List Field) (number : ℕ) → FieldsBelow (length known) fields →
+      some_member leading (is_known known) standing (map field_member fields) number
+      ≡ some_member leading goal standing (fields_in (open_fields (type_of nodes) fields)) number
+  fields_known [] number below = refl
+  fields_known (field ∷ fields) number below =
+      rw (
+        known_at nodes known goal table are field.node false
+            (all_first (λ f. f.node < length known) field fields below),
+        fields_known fields (number + 1) (all_rest (λ f. f.node < length known) field fields below),
+      ) refl
+
+  pub parts_known : (parts : List Part) (number : ℕ) → PartsBelow (length known) parts →
+      some_member leading (is_known known) standing (map part_member parts) number
+      ≡ some_member leading goal standing (parts_in (open_parts (type_of nodes) parts)) number
+  parts_known [] number below = refl
+  parts_known (part ∷ parts) number below =
+      rw (
+        known_at nodes known goal table are part.node false (all_first (λ p. p.node < length known) part parts below),
+        parts_known parts (number + 1) (all_rest (λ p. p.node < length known) part parts below),
+      ) refl
+
 -- what a step before others leads to
 pub path_before : (nodes : List Node) (steps : List Step) (at : ℕ) (step : Step) (all : List Bool)
     (goal : PokeType → Bool) → 0 < at → drop (at - 1) steps ≡ step ∷ drop (at - 1 + 1) steps →
@@ -59,6 +113,14 @@ pub pattern_before : (nodes : List Node) (steps : List PatternStep) (at : ℕ) (
 pattern_before nodes steps at step all goal lt next are =
     let rest : at - 1 + 1 ≡ at = omega arith in
     subst (λ ss. AreKnown nodes all (by_pattern ss goal)) (sym (next ∙ ap (λ k. step ∷ drop k steps) rest)) are
+
+pub twice_before : (nodes : List Node) (steps : List PatternStep) (at : ℕ) (step : PatternStep) (all : List Bool) →
+    0 < at → drop (at - 1) steps ≡ step ∷ drop (at - 1 + 1) steps →
+    AreKnown nodes all (two_parts step (can_have (drop at steps)) (can_match_twice (drop at steps))) →
+    AreKnown nodes all (can_match_twice (drop (at - 1) steps))
+twice_before nodes steps at step all lt next are =
+    let rest : at - 1 + 1 ≡ at = omega arith in
+    subst (λ ss. AreKnown nodes all (can_match_twice ss)) (sym (next ∙ ap (λ k. step ∷ drop k steps) rest)) are
 
 pub columns_before : (nodes : List Node) (row : List PatternStep) (columns : List Column) (at : ℕ) (column : Column)
     (all : List Bool) → 0 < at → drop (at - 1) columns ≡ column ∷ drop (at - 1 + 1) columns →

@@ -1,3 +1,5 @@
 mod Known
 mod Typed
 mod PartsLaw
+mod TwoMembers
+mod TwiceLaw

@@ -1,9 +1,9 @@
 -- The members of values that fit types, with their types.
-use Rattle.std.proofs.Common.{◌≡◌, ℕ, zero, suc, ◌+◌, ◌++◌, inl, inr, ◌⊎◌, Bool, List, [], ◌∷◌, Option, Some, None, refl, sym, ◌∙◌, ap, subst}
-use Rattle.pickle_types.specs.Types.{PokeType, IntegerOf, OffsetOf, StringOf, ArrayOf, StructOf, IntegralOf, UnionOf, Fields, NoFields, FieldThen, Parts, NoParts, PartThen}
-use Rattle.pickle_meaning.specs.Values.{Naming, Value, Members, Levels, pushed, opened, top_of, gathered}
-use Rattle.pickle_meaning.specs.Means.{Taken}
-use Rattle.pickle_meaning.specs.Fits.{FitsNumber, DigitsFit, Fits, FieldsFit, AlternativeFits, ElementsFit, no_more_fit, one_more_fits}
+use Rattle.std.proofs.Common.{◌≡◌, ℕ, ◌++◌, inl, inr, Bool, List, [], ◌∷◌, Option, Some, None, refl, ◌∙◌, ap}
+use Rattle.pickle_types.specs.Types.{PokeType, Fields, NoFields, FieldThen, Parts, NoParts, PartThen}
+use Rattle.pickle_meaning.specs.Values.{Value, Levels, pushed, top_of}
+use Rattle.type_parts.specs.Members.{Member, fields_in, parts_in}
+use Rattle.pickle_meaning.specs.Fits.{FitsNumber, DigitsFit, Fits, FieldsFit, ElementsFit, no_more_fit, one_more_fits}
 
 -- a value was mapped by a type, as a field of its own or as one of an integral struct
 pub data IsOf (type : PokeType) (v : Value) : Type 0 where
@@ -15,15 +15,10 @@ IsOfOr type None = Unit {0}
 IsOfOr type (Some v) = IsOf type v
 
 -- members, each of the type of its field
-abbrev pub AreOfFields : Fields → List (Option Value) → Type 0
-AreOfFields NoFields xs = xs ≡ []
-AreOfFields (FieldThen name order type constraint label condition rest) [] = ⊥
-AreOfFields (FieldThen name order type constraint label condition rest) (x ∷ xs) = IsOfOr type x × AreOfFields rest xs
-
-abbrev pub AreOfDigits : Parts → List (Option Value) → Type 0
-AreOfDigits NoParts xs = xs ≡ []
-AreOfDigits (PartThen name order type constraint rest) [] = ⊥
-AreOfDigits (PartThen name order type constraint rest) (x ∷ xs) = IsOfOr type x × AreOfDigits rest xs
+abbrev pub AreOf : List (Member PokeType) → List (Option Value) → Type 0
+AreOf [] xs = xs ≡ []
+AreOf (member ∷ rest) [] = ⊥
+AreOf (member ∷ rest) (x ∷ xs) = IsOfOr member.type x × AreOf rest xs
 
 abbrev pub AreElements : PokeType → List (Option Value) → Type 0
 AreElements type [] = Unit {0}
@@ -66,7 +61,7 @@ mutual
   unfolding FitsNumber
 
   pub digits_get : (parts : Parts) (levels : Levels) (s : ℕ) (inside : Levels) → DigitsFit parts levels s inside →
-      Gets levels inside (AreOfDigits parts)
+      Gets levels inside (AreOf (parts_in parts))
   digits_get NoParts levels s inside h = gets_none levels inside h refl
   digits_get (PartThen name order ty c rest) levels s inside h =
       gets_one levels inside (Some h.0) (λ xs are. (as_digits levels s h.1, are))
@@ -77,7 +72,7 @@ mutual
 
   pub fields_get : (m : ℕ) (pinned : Bool) (s : ℕ) (fields : Fields) (levels : Levels) (behind top : ℕ)
       (inside : Levels) (end : ℕ) → FieldsFit m pinned s fields levels behind top inside end →
-      Gets levels inside (AreOfFields fields)
+      Gets levels inside (AreOf (fields_in fields))
   fields_get m pinned s NoFields levels behind top inside end h = gets_none levels inside h.0 refl
   fields_get m pinned s (FieldThen name order ty c label when rest) levels behind top inside end (inl h) =
       gets_one levels inside None (λ xs are. (tt, are))

@@ -1,9 +1,9 @@
 -- The parts that values of a type can have, whatever was read.
-use Rattle.std.specs.Prelude.{◌≡◌, ℕ, ◌+◌, Bool, true, false, ◌&&◌, ◌||◌, nat_eq, List, [], ◌∷◌, map, Option, Some, None}
+use Rattle.std.specs.Prelude.{◌≡◌, ℕ, ◌+◌, ◌<◌, Bool, true, false, ◌&&◌, ◌||◌, nat_eq, List, [], ◌∷◌, map, slice_index_or, All, Option, Some, None}
 use Rattle.std.specs.Str.{bytes_eq}
 use Rattle.pickle_types.specs.declared.node.Node.{Node}
 use Rattle.pickle_types.specs.Table.{type_of, open_shape}
-use Rattle.pickle_types.specs.Types.{PokeType, IntegerOf, OffsetOf, StringOf, ArrayOf, StructOf, IntegralOf, UnionOf, Fields, NoFields, FieldThen, Parts, NoParts, PartThen}
+use Rattle.pickle_types.specs.Types.{PokeType, IntegerOf, OffsetOf, StringOf, ArrayOf, StructOf, IntegralOf, UnionOf}
 use Rattle.pickle_meaning.specs.Values.{Naming}
 use Rattle.command_line.specs.declared.path.Path.{Path}
 use Rattle.command_line.specs.declared.path.Step.{Step}
@@ -16,8 +16,11 @@ use Rattle.command_line.specs.declared.selection.Selection.{Selection}
 use Rattle.command_line.specs.declared.selection.Shape.{Shape}
 use Rattle.command_line.specs.declared.selection.Shape.TheVariants.{Parts as SomeParts, Rows}
 use Rattle.command_line.specs.declared.terms.Terms.{Terms}
+use Rattle.type_parts.specs.Members.{Member, fields_in, parts_in, place_of}
 use Rattle.type_parts.specs.declared.can_have.Hop.{Hop}
 use Rattle.type_parts.specs.declared.can_have.Hop.TheVariants.{To, ToElements, ToFields}
+use Rattle.type_parts.specs.declared.member.Standing.{Standing}
+use Rattle.type_parts.specs.declared.member.Standing.TheVariants.{Apart, Together}
 
 -- ---- where one step leads
 
@@ -55,33 +58,22 @@ of_hop (To step) = of_step step.now
 of_hop ToElements = to_elements
 of_hop ToFields = to_fields
 
+-- whether a step leads to a member whose type is one of these, among members of which the first has a number
+module _ {A : Type 0} (leading : Leading) (goal : A → Bool) (standing : Standing) where
+  abbrev pub some_member : List (Member A) → (number : ℕ) → Bool
+  some_member [] number = false
+  some_member (member ∷ rest) number =
+      (leading.field member.name (place_of standing number) && goal member.type) || some_member rest (number + 1)
+
 -- whether a step leads from a type to a part whose type is one of these
-module _ (leading : Leading) (goal : PokeType → Bool) where
-  -- among the fields of a struct, of which the first stands at a place
-  abbrev pub some_field : Fields → (place : ℕ) → Bool
-  some_field NoFields place = false
-  some_field (FieldThen name order type constraint label condition rest) place =
-      (leading.field name place && goal type) || some_field rest (place + 1)
-
-  abbrev pub some_digit : Parts → (place : ℕ) → Bool
-  some_digit NoParts place = false
-  some_digit (PartThen name order type constraint rest) place =
-      (leading.field name place && goal type) || some_digit rest (place + 1)
-
-  -- a union has one part, at the first place
-  abbrev pub some_alternative : Parts → Bool
-  some_alternative NoParts = false
-  some_alternative (PartThen name order type constraint rest) =
-      (leading.field name 0 && goal type) || some_alternative rest
-
-  abbrev pub some_part : PokeType → Bool
-  some_part (IntegerOf type) = false
-  some_part (OffsetOf type unit) = false
-  some_part StringOf = false
-  some_part (ArrayOf element bound) = leading.element && goal element
-  some_part (StructOf name pinned fields) = some_field fields 0
-  some_part (IntegralOf name type fields) = some_digit fields 0
-  some_part (UnionOf name alternatives) = some_alternative alternatives
+abbrev pub some_part : Leading → (goal : PokeType → Bool) → PokeType → Bool
+some_part leading goal (IntegerOf type) = false
+some_part leading goal (OffsetOf type unit) = false
+some_part leading goal StringOf = false
+some_part leading goal (ArrayOf element bound) = leading.element && goal element
+some_part leading goal (StructOf name pinned fields) = some_member leading goal Apart (fields_in fields) 0
+some_part leading goal (IntegralOf name type fields) = some_member leading goal Apart (parts_in fields) 0
+some_part leading goal (UnionOf name alternatives) = some_member leading goal Together (parts_in alternatives) 0
 
 -- ---- where steps lead, one after the other
 
@@ -138,3 +130,11 @@ goal_at nodes goal node = goal (open_shape (type_of nodes) node.shape)
 -- what is known of the type of each node of a table
 abbrev pub AreKnown : List Node → (known : List Bool) → (goal : PokeType → Bool) → Type 0
 AreKnown nodes known goal = known ≡ map (goal_at nodes goal) nodes
+
+-- what is known at a node
+abbrev pub is_known : (known : List Bool) → (node : ℕ) → Bool
+is_known known node = slice_index_or known node false
+
+-- members whose nodes are below a place
+abbrev pub MembersBelow : ℕ → List (Member ℕ) → Type 0
+MembersBelow count members = All (λ (member : Member ℕ). member.type < count) members

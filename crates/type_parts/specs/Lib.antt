@@ -1,2 +1,4 @@
+pub mod Members
 pub mod CanHave
+pub mod Twice
 pub mod Laws

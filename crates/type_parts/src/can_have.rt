@@ -3,20 +3,21 @@
 //! It is decided from the last step of a path to the first: for each node of the table, whether the rest of the path leads
 //! on from its type. So a path takes at most its steps times the table's fields, however many ways there are to go.
 
-ghost use Rattle.std.specs.Prelude.{◌≡◌, ◌<◌, ◌&&◌, ℕ, Bool, List, length, IfOk};
+ghost use Rattle.std.specs.Prelude.{◌≡◌, ◌<◌, ◌&&◌, ℕ, Bool, List, length, map, IfOk};
 ghost use Rattle.pickle_types.specs.Props.{IsTable-prop};
-ghost use Rattle.pickle_types.specs.Table.{IsTable, NamesBelow, FieldsBelow, PartsBelow, type_of, name_of, open_shape, open_fields, open_parts};
+ghost use Rattle.pickle_types.specs.Table.{IsTable, NamesBelow, type_of, name_of, open_shape};
 ghost use Rattle.pickle_types.specs.TypeTable.{IsInTable, type_named};
 ghost use Rattle.pickle_types.specs.Types.{PokeType};
 ghost use Rattle.pickle_types.specs.declared.node.Node.{Node};
-ghost use Rattle.type_parts.specs.CanHave.{of_hop, of_step, of_pattern_step, is_called, some_field, some_digit, some_alternative, some_part, by_path, by_pattern, any_type, can_have_each, can_have_columns, can_have_shape, can_have_selected, can_have_in, can_have_requested, AreKnown};
+ghost use Rattle.type_parts.specs.CanHave.{of_hop, of_step, of_pattern_step, is_called, is_known, some_member, some_part, by_path, by_pattern, any_type, can_have_each, can_have_columns, can_have_shape, can_have_selected, can_have_in, can_have_requested, AreKnown, MembersBelow};
 
+use crate::member::{Member, Standing};
 use command_line::path::{Path, Step};
 use command_line::pattern::{Pattern, PatternStep};
 use command_line::selection::{Column, Rows, Selection, Shape as Selected};
 use command_line::terms::Terms;
 use pickle_types::table::{Table, TypeId};
-use pickle_types::view::{Field, Name, Node, Part, Shape};
+use pickle_types::view::{Name, Node, Shape};
 use std::alloc::{AllocError, Global};
 
 /// A step from a value to its parts.
@@ -64,15 +65,6 @@ impl<'a> Hop<'a> {
         }
     }
 
-    // Whether it leads to the field or alternative of this name and place, and the type at that node is a known one.
-    fn finds(self, its: &Option<Name>, place: usize, node: usize, known: &[bool]) -> bool
-        requires { node < length known.now }
-        ensures { (nodes : List Node) (goal : PokeType → Bool) → IsTable nodes → AreKnown nodes known.now goal →
-            result ≡ ((of_hop self.entry).field (name_of its.now) place && goal (type_of nodes node)) }
-    {
-        self.leads_to_field(its, place) && known[node]
-    }
-
     // Whether it leads from a type to one of those that are known.
     fn finds_part(self, shape: &Shape, known: &[bool]) -> bool
         requires { NamesBelow (length known.now) shape.now }
@@ -83,55 +75,42 @@ impl<'a> Hop<'a> {
         match shape {
             Shape::Integer(_) | Shape::Offset(_, _) | Shape::String => false,
             Shape::Array(element, _) => self.leads_to_element() && known[*element],
-            Shape::Struct { fields, .. } => self.finds_field(fields.as_slice(), known),
-            Shape::Integral { fields, .. } => self.finds_digit(fields.as_slice(), known),
-            Shape::Union { alternatives, .. } => self.finds_alternative(
-                alternatives.as_slice(),
+            Shape::Struct { fields, .. } => self.finds_member(
+                fields.as_slice(),
+                Standing::Apart,
                 known,
             ),
+            Shape::Integral { fields, .. } => self.finds_member(
+                fields.as_slice(),
+                Standing::Apart,
+                known,
+            ),
+            Shape::Union { alternatives, .. } => {
+                self.finds_member(alternatives.as_slice(), Standing::Together, known)
+            }
         }
     }
 
-    fn finds_field(self, fields: &[Field], known: &[bool]) -> bool
-        requires { FieldsBelow (length known.now) fields.now }
-        ensures { (nodes : List Node) (goal : PokeType → Bool) → IsTable nodes →
-            AreKnown nodes known.now goal →
-            result ≡ some_field (of_hop self.entry) goal (open_fields (type_of nodes) fields.now) 0 }
+    /// Whether it leads to a member whose type is a known one, among members of a type.
+    pub fn finds_member<M: Member>(self, members: &[M], standing: Standing, known: &[bool]) -> bool
+        requires { MembersBelow (length known.now) (map M.member members.now) }
+        ensures { result ≡ some_member (of_hop self.entry) (is_known known.now) standing (map M.member members.now) 0 }
     {
-        for (place, field) in fields.iter().enumerate() {
-            if self.finds(&field.name, place, field.node, known) {
+        for (number, member) in members.iter().enumerate() {
+            if self.finds(member, standing.place(number), known) {
                 return true;
             }
         }
         false
     }
 
-    fn finds_digit(self, parts: &[Part], known: &[bool]) -> bool
-        requires { PartsBelow (length known.now) parts.now }
-        ensures { (nodes : List Node) (goal : PokeType → Bool) → IsTable nodes →
-            AreKnown nodes known.now goal →
-            result ≡ some_digit (of_hop self.entry) goal (open_parts (type_of nodes) parts.now) 0 }
+    /// Whether it leads to a member that stands at this place, and whose type is a known one.
+    pub fn finds<M: Member>(self, member: &M, place: usize, known: &[bool]) -> bool
+        requires { (M.member member.now).type < length known.now }
+        ensures { result ≡ ((of_hop self.entry).field (M.member member.now).name place
+            && is_known known.now (M.member member.now).type) }
     {
-        for (place, part) in parts.iter().enumerate() {
-            if self.finds(&part.name, place, part.node, known) {
-                return true;
-            }
-        }
-        false
-    }
-
-    fn finds_alternative(self, alternatives: &[Part], known: &[bool]) -> bool
-        requires { PartsBelow (length known.now) alternatives.now }
-        ensures { (nodes : List Node) (goal : PokeType → Bool) → IsTable nodes →
-            AreKnown nodes known.now goal →
-            result ≡ some_alternative (of_hop self.entry) goal (open_parts (type_of nodes) alternatives.now) }
-    {
-        for alternative in alternatives {
-            if self.finds(&alternative.name, 0, alternative.node, known) {
-                return true;
-            }
-        }
-        false
+        self.leads_to_field(member.name(), place) && known[member.node()]
     }
 }
 
@@ -165,9 +144,9 @@ pub fn can_have_requested(
 
 /// What parts are looked for among: the nodes of a table.
 #[derive(Clone, Copy)]
-struct Finder<'a> {
-    alloc: Global,
-    nodes: &'a [Node],
+pub(crate) struct Finder<'a> {
+    pub alloc: Global,
+    pub nodes: &'a [Node],
     ghost table: { IsTable nodes.now } by { IsTable-prop nodes.now },
 }
 
@@ -176,15 +155,22 @@ impl Finder<'_> {
     fn any(&self) -> Result<Vec<bool>, AllocError>
         ensures { IfOk result (λ known. AreKnown self.now.nodes.now known.items any_type) }
     {
+        self.all(true)
+    }
+
+    /// The same of each node.
+    pub fn all(&self, each: bool) -> Result<Vec<bool>, AllocError>
+        ensures { IfOk result (λ known. AreKnown self.now.nodes.now known.items (λ type. each)) }
+    {
         let mut known = Vec::new(self.alloc);
         for _ in self.nodes {
-            known.push(true)?;
+            known.push(each)?;
         }
         Ok(known)
     }
 
-    // Of each node, whether a step leads from its type to one of those that are known.
-    fn one_before(&self, hop: Hop<'_>, known: Vec<bool>) -> Result<Vec<bool>, AllocError>
+    /// Of each node, whether a step leads from its type to one of those that are known.
+    pub fn one_before(&self, hop: Hop<'_>, known: Vec<bool>) -> Result<Vec<bool>, AllocError>
         requires { length known.items ≡ length self.now.nodes.now }
         ensures count { IfOk result (λ all. length all.items ≡ length self.now.nodes.now) }
         ensures each { IfOk result (λ all. (goal : PokeType → Bool) → AreKnown self.now.nodes.now known.items goal →

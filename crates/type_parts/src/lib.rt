@@ -3,3 +3,5 @@
 
 pub mod can_have;
 pub mod laws;
+pub mod member;
+pub mod twice;

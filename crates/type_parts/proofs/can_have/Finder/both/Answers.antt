@@ -1,4 +1,4 @@
-use Rattle.std.proofs.Common.{arith, ◌∙◌, ap, ◌++◌, ◌∷◌, []}
+use Rattle.std.proofs.Common.{arith, ◌∙◌}
 use Rattle.type_parts.proofs.Known.{both_more, known_count}
 use Rattle.type_parts.proofs.can_have.Finder.both.Goals as goal
 

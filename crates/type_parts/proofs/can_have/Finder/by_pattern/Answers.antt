@@ -1,4 +1,4 @@
-use Rattle.std.proofs.Common.{arith, ◌≡◌, ◌-◌, drop, length, sym, subst, refl}
+use Rattle.std.proofs.Common.{arith, ◌≡◌, ◌-◌, drop, length, sym, subst}
 use Rattle.std.proofs.lemmas.List.{drop_more, drop_all}
 use Rattle.type_parts.specs.CanHave.{AreKnown, by_pattern}
 use Rattle.type_parts.proofs.Known.{pattern_before}
