@@ -1,0 +1,3 @@
+pub mod Paths
+mod Lines
+mod ListsLaw
