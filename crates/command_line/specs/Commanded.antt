@@ -38,9 +38,12 @@ pub record Fails (line : List (List ℕ)) (error : Error) : Type 0 where
   pub listed : IsTable table
   pub kind : HasKind (fault_of (the_program table) line) error
 
--- only these two commands have an option for the form of their answer
+-- only these commands have an option for the form of their answer
 abbrev pub has_answer_form : (command : List ℕ) → Bool
-has_answer_form command = if bytes_eq command (codes "check") then true else bytes_eq command (codes "types")
+has_answer_form command =
+    if bytes_eq command (codes "check") then true
+    else if bytes_eq command (codes "types") then true
+    else bytes_eq command (codes "formats")
 
 pub record AnswersIn (command mode : List ℕ) (form : AnswerForm) : Type 0 where
   pub named : has_answer_form command ≡ true → NamesAnswer mode form

@@ -15,7 +15,7 @@ use Rattle.command_line.specs.declared.words.arguments.Accepts.{Accepts}
 use Rattle.command_line.specs.declared.words.arguments.Accepts.TheVariants as accepts
 use Rattle.command_line.specs.declared.words.arguments.Argument.{Argument}
 use Rattle.command_line.specs.declared.words.arguments.Kind.{Kind}
-use Rattle.command_line.specs.declared.words.arguments.Kind.TheVariants.{Flag, Valued, Repeated, Positional, Positionals}
+use Rattle.command_line.specs.declared.words.arguments.Kind.TheVariants.{Flag, Valued, Repeated, Positional, Omissible, Positionals}
 
 -- what the parser accepts as a value
 pub data Accepted : Type 0 where
@@ -50,6 +50,10 @@ flag of name = record (option of name []) { kind = Flag }
 
 abbrev pub positional : (of : List Text) → (name : Text) → Row
 positional of name = record (option of name []) { kind = Positional }
+
+-- a positional argument that may be left out
+abbrev pub omissible : (of : List Text) → (name : Text) → Row
+omissible of name = record (option of name []) { kind = Omissible }
 
 -- a number below 2^64
 abbrev pub number : (of : List Text) → (name value : Text) → Row
@@ -98,7 +102,9 @@ abbrev pub mapping_options : List Row
 mapping_options =
     defaulted (option mapping (codes "at") (codes "OFFSET")) (codes "0#b")
     ∷ option mapping (codes "byte") (codes "N")
-    ∷ defaulted (choice mapping (codes "endian") (codes "ORDER") (codes "big" ∷ codes "little" ∷ [])) (codes "big")
+    ∷ option mapping (codes "length") (codes "BYTES")
+    ∷ flag mapping (codes "inside")
+    ∷ choice mapping (codes "endian") (codes "ORDER") (codes "big" ∷ codes "little" ∷ [])
     ∷ defaulted (number mapping (codes "limit") (codes "N")) (codes "1000000000")
     ∷ flag mapping (codes "whole")
     ∷ number mapping (codes "max-output") (codes "N")
@@ -121,7 +127,8 @@ style_options =
     ∷ defaulted (choice (only (codes "each")) (codes "mode") (codes "MODE") (codes "flat" ∷ codes "json" ∷ []))
     (codes "flat")
     ∷ choice (only (codes "bound")) (codes "mode") (codes "MODE") modes
-    ∷ defaulted (choice (codes "check" ∷ codes "types" ∷ []) (codes "mode") (codes "MODE") forms) (codes "text")
+    ∷ defaulted (choice (codes "check" ∷ codes "types" ∷ codes "formats" ∷ []) (codes "mode") (codes "MODE") forms)
+    (codes "text")
     ∷ defaulted (choice printing (codes "numbers") (codes "FORM") numbers) (codes "decimal")
     ∷ choice (only (codes "bound")) (codes "numbers") (codes "FORM") numbers
     ∷ defaulted (choice printing (codes "chars") (codes "FORM") chars) (codes "numbers")
@@ -131,6 +138,8 @@ style_options =
     ∷ option (only (codes "bound")) (codes "elements") (codes "N")
     ∷ defaulted (choice printing (codes "faults") (codes "FORM") forms) (codes "text")
     ∷ defaulted (option (only (codes "show")) (codes "depth") (codes "N")) (codes "6")
+    ∷ option (only (codes "types")) (codes "parts") (codes "NAME")
+    ∷ defaulted (option (only (codes "types")) (codes "depth") (codes "N")) (codes "6")
     ∷ defaulted (choice (only (codes "show")) (codes "color") (codes "WHEN")
     (codes "auto" ∷ codes "always" ∷ codes "never" ∷ [])) (codes "auto")
     ∷ flag printing (codes "why")
@@ -155,10 +164,11 @@ abbrev pub positionals : List Row
 positionals =
     positional (codes "map" ∷ codes "show" ∷ codes "each" ∷ codes "bound" ∷ codes "check" ∷ codes "types" ∷ [])
     (codes "PICKLE")
-    ∷ positional (codes "map" ∷ codes "show" ∷ codes "each" ∷ codes "bound" ∷ []) (codes "TYPE")
-    ∷ positional (codes "map" ∷ codes "show" ∷ codes "dump" ∷ []) (codes "FILE")
+    ∷ omissible (codes "map" ∷ codes "show" ∷ codes "each" ∷ codes "bound" ∷ []) (codes "TYPE")
+    ∷ omissible (codes "map" ∷ codes "show" ∷ []) (codes "FILE")
+    ∷ positional (only (codes "dump")) (codes "FILE")
     ∷ record (positional (only (codes "each")) (codes "FILE")) { kind = Positionals }
-    ∷ record (positional (only (codes "bound")) (codes "BITS")) { accepted = ANumber }
+    ∷ record (omissible (only (codes "bound")) (codes "BITS")) { accepted = ANumber }
     ∷ []
 
 -- the arguments of all commands
@@ -192,6 +202,7 @@ with_kind Flag name rule = record rule { long = Some name; action = Some SetTrue
 with_kind Valued name rule = record rule { long = Some name; value_names = 1 }
 with_kind Repeated name rule = record rule { long = Some name; value_names = 1; action = Some Append }
 with_kind Positional name rule = record rule { required = true }
+with_kind Omissible name rule = rule
 with_kind Positionals name rule =
     record rule { range = Some (record { start_inclusive = 0; end_inclusive = 18446744073709551615 }) }
 

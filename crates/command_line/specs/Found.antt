@@ -9,7 +9,8 @@ use Rattle.text_output.specs.declared.mode.Mode.{Mode}
 use Rattle.text_output.specs.declared.style.Style.{Style}
 use Rattle.text_output.specs.Styles.{plain}
 use Rattle.command_line.specs.Numerals.{IsNumber, IsNoNumber}
-use Rattle.command_line.specs.Starts.{NamesStart, IsNoStart, NamesBytes, IsNoBytes}
+use Rattle.command_line.specs.Starts.{NamesStart, IsNoStart, NamesBytes, IsNoBytes, NamesWindow, IsNoWindow}
+use Rattle.command_line.specs.Subjects.{HasPart, IsTypeOf, pickle_of, type_before, word_after}
 use Rattle.command_line.specs.Flags.{FlagIn}
 use Rattle.command_line.specs.Selects.{Selects, PartBeside}
 use Rattle.command_line.specs.Styles.{NamesNumbers, NamesChars, NamesElementsOr, IsNoElementsIfAny, NamesColor, NamesFaults}
@@ -18,6 +19,8 @@ use Rattle.command_line.specs.declared.selection.Choice.{Choice}
 use Rattle.command_line.specs.declared.selection.Choice.TheVariants.{Part, Parts, Columns}
 use Rattle.command_line.specs.declared.start.Start.{Start}
 use Rattle.command_line.specs.declared.start.Start.TheVariants.{Bit}
+use Rattle.command_line.specs.declared.subject.Subject.{Subject}
+use Rattle.command_line.specs.declared.subject.Subject.TheVariants.{Named}
 use Rattle.command_line.specs.declared.terms.Terms.{Terms}
 use Rattle.command_line.specs.declared.words.mapping.MappingWords.{MappingWords}
 use Rattle.command_line.specs.declared.words.Job.{Job}
@@ -58,6 +61,17 @@ abbrev pub NamesOrder : List ℕ → Order → Type 0
 NamesOrder word Big = word ≢ codes "little"
 NamesOrder word Little = word ≡ codes "little"
 
+-- the order that an argument names, or none if it wasn't given
+abbrev pub NamesOrderIfAny : Option (List ℕ) → Option Order → Type 0
+NamesOrderIfAny None order = order ≡ None
+NamesOrderIfAny (Some word) None = ⊥
+NamesOrderIfAny (Some word) (Some order) = NamesOrder word order
+
+-- the same, and big-endian if it wasn't given
+abbrev pub NamesOrderOrBig : Option (List ℕ) → Order → Type 0
+NamesOrderOrBig None order = order ≡ Big
+NamesOrderOrBig (Some word) order = NamesOrder word order
+
 -- how a printed value looks, with so many elements by default
 pub record NamesStyle (found : Found) (default : Option ℕ) (style : Style) : Type 0 where
   pub numbers : NamesNumbers (word_in found (codes "numbers")) style.numbers
@@ -89,18 +103,27 @@ no_terms = record {
 abbrev pub StartsAt : Found → Start → Type 0
 StartsAt found start = NamesStart (first_value found (codes "byte")) (word_in found (codes "at")) start
 
--- what a mapping is given: its start, its byte order, its limit of steps, its pickle and its type
-pub record AsksMapping (found : Found) (start : Start) (order : Order) (limit : ℕ) (pickle name : List ℕ) : Type 0 where
+-- what is mapped of which pickle, by the argument for the type
+pub record AsksSubject (found : Found) (type : Option (List ℕ)) (subject : Subject) : Type 0 where
+  pub read_from : pickle_of subject ≡ word_in found (codes "PICKLE")
+  pub typed : IsTypeOf (word_in found (codes "PICKLE")) type subject
+  pub part : HasPart (one_text found (codes "inside")) subject
+
+-- where a mapping starts, after how many bytes from there its file ends, and its limit of steps
+pub record AsksMapping (found : Found) (start : Start) (window : Option ℕ) (limit : ℕ) : Type 0 where
   pub starts : StartsAt found start
-  pub order_named : NamesOrder (word_in found (codes "endian")) order
+  pub ends : NamesWindow (first_value found (codes "length")) window
   pub most_steps : NumberIn (first_value found (codes "limit")) 1000000000 limit
-  pub read_from : pickle ≡ word_in found (codes "PICKLE")
-  pub type_named : name ≡ word_in found (codes "TYPE")
+
+-- its byte order, if one is named
+abbrev pub AsksOrder : Found → Option Order → Type 0
+AsksOrder found order = NamesOrderIfAny (first_value found (codes "endian")) order
 
 -- the words of a mapping are what its arguments request
-abbrev pub AsksMappingOf : Found → MappingWords → Type 0
-AsksMappingOf found words =
-    AsksMapping found words.start words.order words.limit (string_bytes words.pickle) (string_bytes words.name)
+pub record AsksMappingOf (found : Found) (type : Option (List ℕ)) (words : MappingWords) : Type 0 where
+  pub subject : AsksSubject found type words.subject
+  pub mapping : AsksMapping found words.start words.window words.limit
+  pub order : AsksOrder found words.order
 
 -- the most bytes that are read of a file without a length, if such a file is read
 abbrev pub Spools : Found → Option ℕ → Type 0
@@ -110,11 +133,18 @@ Spools found most = NumberIfAny (first_value found (codes "spool")) most
 abbrev pub IsInMode : Found → Mode → Type 0
 IsInMode found mode = NamesMode (word_in found (codes "mode")) mode
 
--- bounds of a type of a pickle over so many bits
+-- the argument for the type, if it isn't left out before the argument of this name, and that argument
+abbrev pub type_in : Found → (after : List ℕ) → Option (List ℕ)
+type_in found after = type_before (first_value found (codes "TYPE")) (first_value found after)
+
+abbrev pub after_type_in : Found → (after : List ℕ) → Option (List ℕ)
+after_type_in found after = word_after (first_value found (codes "TYPE")) (first_value found after)
+
+-- bounds of a type of a pickle over so many bits; a type that is left out is `-`
 pub record AsksBound (found : Found) (pickle name : List ℕ) (bits : ℕ) : Type 0 where
   pub read_from : pickle ≡ word_in found (codes "PICKLE")
-  pub type_named : name ≡ word_in found (codes "TYPE")
-  pub over : NumberIn (first_value found (codes "BITS")) 0 bits
+  pub type_named : name ≡ unwrap_or (type_in found (codes "BITS")) (codes "-")
+  pub over : NumberIn (after_type_in found (codes "BITS")) 0 bits
 
 -- the files that arguments name, or the file from which a list of names is read
 abbrev pub NamesFiles : Found → FileNames → Type 0
@@ -140,8 +170,13 @@ elements_by_default (Shown color depth) = Some 16
 
 -- what a type is mapped over: the one file that an argument names, or many, of which each line may be written at once
 abbrev pub IsOver : Found → Over → Type 0
-IsOver found (File file) = string_bytes file ≡ word_in found (codes "FILE")
+IsOver found (File file) = string_bytes file ≡ unwrap_or (after_type_in found (codes "FILE")) []
 IsOver found (Files names flush) = NamesFiles found names × FlagIn (one_text found (codes "flush")) flush
+
+-- the argument for the type; before many files it is left out only if their names are in a list
+abbrev pub type_over : Found → Over → Option (List ℕ)
+type_over found (File file) = type_in found (codes "FILE")
+type_over found (Files names flush) = first_value found (codes "TYPE")
 
 -- whether how much is done is shown
 abbrev pub ShowsProgress : Found → Bool → Type 0
@@ -155,8 +190,9 @@ choice_of (Printed mode faults) (Files names flush) = Columns
 
 -- a request is what arguments request
 pub record AsksRequest (found : Found) (request : Request) : Type 0 where
-  pub mapping : AsksMapping found request.start request.order request.limit (string_bytes request.pickle)
-      (string_bytes request.name)
+  pub subject : AsksSubject found (type_over found request.over) request.subject
+  pub mapping : AsksMapping found request.start request.window request.limit
+  pub order : AsksOrder found request.order
   pub spools : Spools found request.spool
   pub terms : HasTerms found (choice_of request.form request.over) (elements_by_default request.form) request.terms
   pub form : IsInForm found request.form
@@ -174,10 +210,11 @@ DumpsBytes found size = NamesBytes (first_value found (codes "length")) (word_in
 -- a job is what the arguments of its command request
 abbrev pub Asks : Found → Job → Type 0
 Asks found (Map at order limit mode pickle name file) =
-    AsksMapping found (Bit at) order limit (string_bytes pickle) (string_bytes name)
+    AsksSubject found (type_in found (codes "FILE")) (Named pickle name)
+    × AsksMapping found (Bit at) None limit × NamesOrderOrBig (first_value found (codes "endian")) order
     × IsInMode found mode × ReportsIn found Text × Spools found None × ShowsProgress found false
     × HasTerms found Parts None no_terms
-    × (string_bytes file ≡ word_in found (codes "FILE"))
+    × (string_bytes file ≡ unwrap_or (after_type_in found (codes "FILE")) [])
 Asks found (job.Request request) = AsksRequest found request
 Asks found (Bound pickle name bits) =
     AsksBound found (string_bytes pickle) (string_bytes name) bits × FlagIn (one_text found (codes "text")) false
@@ -185,7 +222,11 @@ Asks found (BoundText pickle name bits mode style) = AsksBound found (string_byt
     × FlagIn (one_text found (codes "text")) true × NamesModeIfAny (first_value found (codes "mode")) mode
     × NamesStyle found None style
 Asks found (Check pickle) = string_bytes pickle ≡ word_in found (codes "PICKLE")
-Asks found (Types pickle) = string_bytes pickle ≡ word_in found (codes "PICKLE")
+Asks found (Types pickle) =
+    (string_bytes pickle ≡ word_in found (codes "PICKLE")) × (first_value found (codes "parts") ≡ None)
+Asks found (job.Parts pickle name depth) = (string_bytes pickle ≡ word_in found (codes "PICKLE"))
+    × (first_value found (codes "parts") ≡ Some (string_bytes name))
+    × NamesElementsOr (Some 6) (first_value found (codes "depth")) depth
 Asks found Formats = Unit {0}
 Asks found (Dump from size ruler file) = DumpsFrom found from × DumpsBytes found size
     × FlagIn (one_text found (codes "no-ruler")) (not ruler) × (string_bytes file ≡ word_in found (codes "FILE"))
@@ -208,6 +249,7 @@ IsJobOf command (job.Request request) = IsRequestOf command request.form request
 IsJobOf command (Bound pickle name bits) = command ≡ Some (codes "bound")
 IsJobOf command (BoundText pickle name bits mode style) = command ≡ Some (codes "bound")
 IsJobOf command (Types pickle) = command ≡ Some (codes "types")
+IsJobOf command (job.Parts pickle name depth) = command ≡ Some (codes "types")
 IsJobOf command Formats = command ≡ Some (codes "formats")
 IsJobOf command (Dump from size ruler file) = command ≡ Some (codes "dump")
 IsJobOf command (Check pickle) =
@@ -215,9 +257,10 @@ IsJobOf command (Check pickle) =
     × IsOther command (codes "bound") × IsOther command (codes "types") × IsOther command (codes "formats")
     × IsOther command (codes "dump")
 
--- the arguments of a mapping name no start
-abbrev pub StartsNowhere : Found → Type 0
-StartsNowhere found = IsNoStart (first_value found (codes "byte")) (word_in found (codes "at"))
+-- the arguments of a mapping name no start, or no number of bytes from there on
+abbrev pub IsNoExtent : Found → Type 0
+IsNoExtent found = IsNoStart (first_value found (codes "byte")) (word_in found (codes "at"))
+    ⊎ IsNoWindow (first_value found (codes "length"))
 
 -- the arguments of a dump don't name bytes: one of them isn't such a number or offset
 abbrev pub IsNoRange : Found → Type 0
@@ -227,4 +270,4 @@ IsNoRange found = IsNoBytes (first_value found (codes "skip")) (word_in found (c
 -- the arguments of a bound have something else than a number where one belongs
 abbrev pub IsNoBound : Found → Type 0
 IsNoBound found =
-    IsNoNumberIfAny (first_value found (codes "BITS")) ⊎ IsNoElementsIfAny (first_value found (codes "elements"))
+    IsNoNumberIfAny (after_type_in found (codes "BITS")) ⊎ IsNoElementsIfAny (first_value found (codes "elements"))

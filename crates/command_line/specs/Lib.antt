@@ -7,6 +7,7 @@ pub mod Paths
 pub mod Patterns
 pub mod Commands
 pub mod Flags
+pub mod Subjects
 pub mod Lines
 pub mod Ties
 pub mod Selects

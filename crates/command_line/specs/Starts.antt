@@ -30,6 +30,17 @@ abbrev pub IsNoStart : Option (List ℕ) → List ℕ → Type 0
 IsNoStart (Some byte) offset = (start : Start) → ¬ (NamesByte byte start)
 IsNoStart None offset = IsNoOffset offset
 
+-- the number of bytes that an argument is, if it was given
+abbrev pub NamesWindow : Option (List ℕ) → Option ℕ → Type 0
+NamesWindow None bytes = bytes ≡ None
+NamesWindow (Some word) None = ⊥
+NamesWindow (Some word) (Some bytes) = IsByteCount word bytes
+
+-- it was given, and is none
+abbrev pub IsNoWindow : Option (List ℕ) → Type 0
+IsNoWindow None = ⊥
+IsNoWindow (Some word) = (bytes : ℕ) → ¬ (IsByteCount word bytes)
+
 -- a number of bytes if it was given, and else an offset of whole bytes
 abbrev pub NamesBytes : Option (List ℕ) → List ℕ → ℕ → Type 0
 NamesBytes (Some count) offset bytes = IsByteCount count bytes

@@ -1,6 +1,6 @@
 //! How an answer about a pickle is printed.
 
-/// How `check` and `types` print what they find.
+/// How `check`, `types` and `formats` print what they find.
 #[derive(Clone, Copy, Debug, Drop, PartialEq, Eq)]
 pub enum AnswerForm {
     /// In words and columns.

@@ -12,5 +12,6 @@ pub mod pattern;
 pub mod request;
 pub mod selection;
 pub mod start;
+pub mod subject;
 pub mod terms;
 pub mod words;

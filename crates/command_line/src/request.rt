@@ -6,6 +6,7 @@ ghost use Rattle.command_line.specs.Requests.{faults_in};
 use crate::color::Color;
 use crate::fault_form::FaultForm;
 use crate::start::Start;
+use crate::subject::Subject;
 use crate::terms::Terms;
 use bit_space::Order;
 use text_output::mode::Mode;
@@ -15,8 +16,12 @@ use text_output::mode::Mode;
 pub struct Request {
     /// Where the mapping starts in each file.
     pub start: Start,
-    /// The byte order of the run.
-    pub order: Order,
+    /// After how many bytes the file ends, counted from the byte that the mapping starts in. `None` is the file's end,
+    /// which it isn't beyond.
+    pub window: Option<u64>,
+    /// The byte order of the run. `None` is the one that the head of the pickle says, if the subject is by the head, and
+    /// else big-endian.
+    pub order: Option<Order>,
     /// The most steps of each mapping.
     pub limit: u64,
     /// The most bytes of a file without a length that are read into memory. `None` opens no such file.
@@ -27,11 +32,9 @@ pub struct Request {
     pub form: Form,
     /// Whether a terminal shows how much is done.
     pub progress: bool,
-    /// The argument that names the pickle: a path, `-` for standard input, or `+` and the name of an installed one.
-    pub pickle: String,
-    /// The name of the type to map.
-    pub name: String,
-    /// What the type is mapped over.
+    /// What is mapped.
+    pub subject: Subject,
+    /// What it is mapped over.
     pub over: Over,
 }
 

@@ -13,22 +13,25 @@ mod style;
 mod ties;
 mod usage;
 
-ghost use Rattle.std.specs.Prelude.{◌≡◌, ◌≢◌, ◌⊎◌, ℕ, List, [], Some, codes, map, string_bytes, MatchResult, IfOk, IfErr, OnOk, true, false};
+ghost use Rattle.std.specs.Prelude.{◌≡◌, ◌≢◌, ◌⊎◌, ℕ, List, [], Option, Some, codes, map, string_bytes, unwrap_or, None, MatchResult, IfOk, IfErr, OnOk, true, false};
 ghost use Rattle.clap.specs.Matches.{found_of, first_value};
 ghost use Rattle.command_line.specs.Commanded.{Finds, Fails, AsksOf, AnswersIn, IsAskedBy, IsJobAskedBy, IsRefused, IsUnread, IsMisread, IsMisplaced, FailsTo, has_no_size};
 ghost use Rattle.command_line.specs.Ties.{keeps_ties};
 ghost use Rattle.command_line.specs.Misread.{FailsFor, MisreadRequest, Misread, Misplaced};
 ghost use Rattle.command_line.specs.Lines.{command_line};
 ghost use Rattle.command_line.specs.Words.{IsCheckOf, IsBareCheckOf, NamesMode, NamesModeIfAny};
-ghost use Rattle.command_line.specs.Found.{word_in, NumberIfAny, HasTerms, no_terms, NamesFiles, StartsNowhere};
+ghost use Rattle.command_line.specs.Found.{word_in, NumberIfAny, NumberIn, HasTerms, no_terms, NamesFiles, IsNoExtent, NamesOrderIfAny, NamesOrderOrBig, after_type_in};
 ghost use Rattle.command_line.specs.Found.{Asks, IsJobOf, IsNoRange, IsNoBound, IsNoNumberIfAny};
+ghost use Rattle.command_line.specs.Styles.{IsNoElementsIfAny};
 ghost use Rattle.command_line.specs.declared.words.WordFault.TheVariants.{Memory};
 
 use crate::answer_form::AnswerForm;
 use crate::fault_form::FaultForm;
+use crate::numerals::whole_number;
 use crate::request::{FileNames, Form, Over, Request};
 use crate::selection::Choice;
 use crate::start::Start;
+use crate::subject::{BY_HEAD, Subject, has_type};
 use crate::terms::Terms;
 use arguments::arguments;
 use bit_space::Order;
@@ -36,7 +39,7 @@ use bytes::bytes_in;
 use clap::ArgMatches;
 use clap::error::ErrorKind;
 use commands::{PROGRAM, SHOWN_ELEMENTS, SHOWN_LEVELS, program};
-use found::{flag_of, number_if_any, number_of, word, word_of};
+use found::{after_type, flag_of, number_if_any, type_word, word, word_of};
 use line::{command_line, without_help_of_help};
 use mapping::mapping_words;
 use parser::Ties;
@@ -47,10 +50,14 @@ use style::{answer_of, color_of, depth_of, faults_of, style_of};
 use text_output::mode::Mode;
 use text_output::style::{Chars, Numbers, Style};
 use thiserror::Error;
-use ties::{is_given, keeps_ties};
+use ties::{has_words, is_given, keeps_ties};
 
 /// The usage error for arguments that are wrong, but whose escaped forms clap accepts.
 const WRONG_WORD: &str = "error: an argument has bytes that aren't printed\n";
+
+/// The usage error for an option that is about the head of a pickle beside a type.
+const NO_HEAD: &str =
+    "error: --inside needs a PICKLE +NAME, without a TYPE or with -\n\nFor more information, try '--help'.\n";
 
 /// The job that the arguments request.
 #[derive(Debug, Drop, PartialEq, Eq)]
@@ -65,17 +72,19 @@ pub enum Job {
         name: String,
         file: String,
     },
-    /// Map a type over one file or many, as a request says. A map of one file has at least one term, a start that is
-    /// counted from the file's end, refusals and faults in JSON, or a limit on the bytes of a file without a length.
+    /// Map a type over one file or many, as a request says. A map of one file has at least one term, a type that the
+    /// pickle's head says, a start that is counted from the file's end, a place where the file ends, refusals and faults
+    /// in JSON, or a limit on the bytes of a file without a length.
     Request(Request),
-    /// Print the most steps and slots that a mapping of a type over `bits` bits takes.
+    /// Print the most steps and slots that a mapping of a type over `bits` bits takes. The type `-` of an installed pickle
+    /// is the one that its head says.
     Bound {
         pickle: String,
         name: String,
         bits: u64,
     },
     /// Print the most steps and slots that a mapping of a type over `bits` bits takes, and the most bytes of its
-    /// printed value in `mode`, or in every mode, in a style.
+    /// printed value in `mode`, or in every mode, in a style. The type `-` is as above.
     BoundText {
         pickle: String,
         name: String,
@@ -90,6 +99,12 @@ pub enum Job {
     /// Print the types that a pickle declares.
     Types {
         pickle: String,
+    },
+    /// Print the parts that values of a type of a pickle can have, to at most so many levels below the value, or to all.
+    Parts {
+        pickle: String,
+        name: String,
+        depth: Option<u64>,
     },
     /// Print the pickles that are installed.
     Formats,
@@ -136,7 +151,7 @@ pub struct Asked {
     pub why: bool,
     /// Whether the job is a dump of which no size was given.
     pub default_size: bool,
-    /// How a check or a list of types is printed. Other jobs have words.
+    /// How a check, a list of types or the list of formats is printed. Other jobs have words.
     pub answer: AnswerForm,
 }
 
@@ -197,7 +212,7 @@ fn read_matches(
 {
     match matches.subcommand() {
         Some((command, found)) => read_tied(alloc, command, found, words),
-        None => Err(WordFault::Usage(usage_of(alloc, words)?)),
+        None => Err(WordFault::Usage(usage_of(alloc, words, Ties::With)?)),
     }
 }
 
@@ -214,18 +229,47 @@ fn read_tied(
         (FailsFor (IsMisread command.now (found_of found.now)) (IsMisplaced command.now (found_of found.now))) }
 {
     if !keeps_ties(command, found) {
-        return Err(WordFault::Usage(usage_of(alloc, words)?));
+        return Err(WordFault::Usage(untied_usage(alloc, command, found, words)?));
     }
-    read_found(alloc, command, found)
+    read_found(alloc, command, found, words)
 }
 
-fn read_found(alloc: Global, command: &str, found: &ArgMatches<'_>) -> Result<Asked, WordFault>
+// The usage error for arguments that break a tie.
+fn untied_usage(
+    alloc: Global,
+    command: &str,
+    found: &ArgMatches<'_>,
+    words: &[String],
+) -> Result<String, AllocError> {
+    if leaves_type_out(command, found) {
+        usage_of(alloc, words, Ties::WithoutType)
+    } else {
+        usage_of(alloc, words, Ties::With)
+    }
+}
+
+// Whether TYPE is left out among the arguments of a command, which are enough without it.
+fn leaves_type_out(command: &str, found: &ArgMatches<'_>) -> bool {
+    match command {
+        "map" | "show" => has_words(found, "FILE") && !is_given(found, "FILE"),
+        "bound" => has_words(found, "BITS") && !is_given(found, "BITS"),
+        "each" => !is_given(found, "TYPE") && has_type(word(found, "PICKLE"), None),
+        _ => false,
+    }
+}
+
+fn read_found(
+    alloc: Global,
+    command: &str,
+    found: &ArgMatches<'_>,
+    words: &[String],
+) -> Result<Asked, WordFault>
     ensures asks { IfOk result (AsksOf command.now (found_of found.now)) }
     ensures misread { IfErr result
         (FailsFor (Misread command.now (found_of found.now)) (Misplaced command.now (found_of found.now))) }
 {
     Ok(Asked {
-        job: read_command(alloc, command, found)?,
+        job: read_command(alloc, command, found, words)?,
         why: flag_of(found, "why"),
         default_size: has_no_size(command, found),
         answer: answer_form(command, found),
@@ -237,7 +281,7 @@ fn answer_form(command: &str, found: &ArgMatches<'_>) -> AnswerForm
     ensures { AnswersIn command.now (word_in (found_of found.now) (codes "mode")) result }
 {
     match command {
-        "check" | "types" => answer_of(word(found, "mode")),
+        "check" | "types" | "formats" => answer_of(word(found, "mode")),
         _ => AnswerForm::Text,
     }
 }
@@ -268,7 +312,7 @@ fn word_fault(alloc: Global, error: &clap::Error, words: &[String]) -> Result<Wo
             Ok(WordFault::Help(help_of(alloc, error, words)?))
         }
         ErrorKind::OutOfMemory => Ok(WordFault::Memory),
-        _ => Ok(WordFault::Usage(usage_of(alloc, words)?)),
+        _ => Ok(WordFault::Usage(usage_of(alloc, words, Ties::With)?)),
     }
 }
 
@@ -284,13 +328,19 @@ fn help_of(alloc: Global, error: &clap::Error, words: &[String]) -> Result<Strin
 // The usage error for arguments. clap's message repeats some of them, and an argument with a line feed could pass for a
 // line of the message. clap therefore reads the escaped arguments once more, and its message on those is printed. No
 // option, command or value of an option has a backslash, so an argument that was wrong stays wrong.
-fn usage_of(alloc: Global, words: &[String]) -> Result<String, AllocError> {
+fn usage_of(alloc: Global, words: &[String], ties: Ties) -> Result<String, AllocError> {
     let shown = shown_words(alloc, words)?;
     let named = after_name(alloc, shown.as_slice())?;
-    match program(alloc, arguments(), Ties::With)?.try_get_matches_from(named.as_slice()) {
+    match program(alloc, arguments(), ties)?.try_get_matches_from(named.as_slice()) {
+        Ok(_matches) if has_inside(words) => String::from_str(alloc, NO_HEAD),
         Ok(_matches) => String::from_str(alloc, WRONG_WORD),
         Err(error) => text_of(alloc, &error),
     }
+}
+
+// Whether a type of the pickle's head is requested. clap knows nothing of what that needs.
+fn has_inside(words: &[String]) -> bool {
+    words.iter().any(|word| word.as_str() == "--inside")
 }
 
 fn text_of(alloc: Global, error: &clap::Error) -> Result<String, AllocError> {
@@ -303,7 +353,12 @@ fn text_of(alloc: Global, error: &clap::Error) -> Result<String, AllocError> {
     }
 }
 
-fn read_command(alloc: Global, command: &str, found: &ArgMatches<'_>) -> Result<Job, WordFault>
+fn read_command(
+    alloc: Global,
+    command: &str,
+    found: &ArgMatches<'_>,
+    words: &[String],
+) -> Result<Job, WordFault>
     ensures asks { IfOk result (Asks (found_of found.now)) }
     ensures command { IfOk result (IsJobOf (Some command.now)) }
     ensures misread { IfErr result
@@ -313,7 +368,7 @@ fn read_command(alloc: Global, command: &str, found: &ArgMatches<'_>) -> Result<
         "map" => read_map(alloc, found),
         "show" => read_show(alloc, found),
         "each" => read_each(alloc, found),
-        "bound" => read_bound(alloc, found),
+        "bound" => read_bound(alloc, found, words),
         "types" => read_types(alloc, found),
         "formats" => Ok(Job::Formats),
         "dump" => read_dump(alloc, found),
@@ -324,56 +379,77 @@ fn read_command(alloc: Global, command: &str, found: &ArgMatches<'_>) -> Result<
 fn read_map(alloc: Global, found: &ArgMatches<'_>) -> Result<Job, WordFault>
     ensures asks { IfOk result (Asks (found_of found.now)) }
     ensures command { IfOk result (IsJobOf (Some (codes "map"))) }
-    ensures offset { IfErr result (λ fault. fault ≡ WordFault.Offset → StartsNowhere (found_of found.now)) }
+    ensures offset { IfErr result (λ fault. fault ≡ WordFault.Offset → IsNoExtent (found_of found.now)) }
     ensures misread { IfErr result
-        (FailsFor (MisreadRequest (found_of found.now) Choice.Parts) (StartsNowhere (found_of found.now))) }
+        (FailsFor (MisreadRequest (found_of found.now) Choice.Parts) (IsNoExtent (found_of found.now))) }
 {
     let terms = terms_of(alloc, found, Choice::Parts, None)?;
     let spool = spool_of(alloc, found)?;
-    let file = word_of(alloc, found, "FILE")?;
-    let mapping = mapping_words(alloc, found)?;
+    let file = file_of(alloc, found)?;
+    let mapping = mapping_words(alloc, found, type_word(found, "FILE"))?;
     let mode = mode_of(word(found, "mode"));
     let progress = flag_of(found, "progress");
-    match (mapping.start, faults_of(word(found, "faults"))) {
-        (Start::Bit(at), FaultForm::Text) if spool.is_none() && !progress && has_no_terms(&terms) =>
-            Ok(Job::Map {
+    let is_plain = is_plain(spool, mapping.window, progress, &terms);
+    match (
+        mapping.start,
+        mapping.subject,
+        faults_of(word(found, "faults")),
+    ) {
+        (Start::Bit(at), Subject::Named { pickle, name }, FaultForm::Text) if is_plain => Ok(
+            Job::Map {
                 at,
-                order: mapping.order,
+                order: order_or_big(mapping.order),
                 limit: mapping.limit,
                 mode,
-                pickle: mapping.pickle,
-                name: mapping.name,
+                pickle,
+                name,
                 file,
-            }),
-        (start, faults) => Ok(Job::Request(Request {
+            },
+        ),
+        (start, subject, faults) => Ok(Job::Request(Request {
             start,
+            window: mapping.window,
             order: mapping.order,
             limit: mapping.limit,
             spool,
             terms,
             form: Form::Printed { mode, faults },
             progress,
-            pickle: mapping.pickle,
-            name: mapping.name,
+            subject,
             over: Over::File(file),
         })),
     }
 }
 
+// The file that an argument names.
+fn file_of(alloc: Global, found: &ArgMatches<'_>) -> Result<String, AllocError>
+    ensures { IfOk result
+        (λ file. string_bytes file ≡ unwrap_or (after_type_in (found_of found.now) (codes "FILE")) []) }
+{
+    String::from_str(alloc, after_type(found, "FILE").unwrap_or(""))
+}
+
+fn order_or_big(order: Option<Order>) -> Order
+    ensures { (word : Option (List ℕ)) → NamesOrderIfAny word order → NamesOrderOrBig word result }
+{
+    order.unwrap_or(Order::Big)
+}
+
 fn read_show(alloc: Global, found: &ArgMatches<'_>) -> Result<Job, WordFault>
     ensures asks { IfOk result (Asks (found_of found.now)) }
     ensures command { IfOk result (IsJobOf (Some (codes "show"))) }
-    ensures offset { IfErr result (λ fault. fault ≡ WordFault.Offset → StartsNowhere (found_of found.now)) }
+    ensures offset { IfErr result (λ fault. fault ≡ WordFault.Offset → IsNoExtent (found_of found.now)) }
     ensures misread { IfErr result
-        (FailsFor (MisreadRequest (found_of found.now) Choice.Part) (StartsNowhere (found_of found.now))) }
+        (FailsFor (MisreadRequest (found_of found.now) Choice.Part) (IsNoExtent (found_of found.now))) }
 {
     let spool = spool_of(alloc, found)?;
     let terms = terms_of(alloc, found, Choice::Part, Some(SHOWN_ELEMENTS))?;
     let depth = depth_of(alloc, found, Some(SHOWN_LEVELS))?;
-    let file = word_of(alloc, found, "FILE")?;
-    let mapping = mapping_words(alloc, found)?;
+    let file = file_of(alloc, found)?;
+    let mapping = mapping_words(alloc, found, type_word(found, "FILE"))?;
     Ok(Job::Request(Request {
         start: mapping.start,
+        window: mapping.window,
         order: mapping.order,
         limit: mapping.limit,
         spool,
@@ -383,8 +459,7 @@ fn read_show(alloc: Global, found: &ArgMatches<'_>) -> Result<Job, WordFault>
             depth,
         },
         progress: flag_of(found, "progress"),
-        pickle: mapping.pickle,
-        name: mapping.name,
+        subject: mapping.subject,
         over: Over::File(file),
     }))
 }
@@ -392,16 +467,17 @@ fn read_show(alloc: Global, found: &ArgMatches<'_>) -> Result<Job, WordFault>
 fn read_each(alloc: Global, found: &ArgMatches<'_>) -> Result<Job, WordFault>
     ensures asks { IfOk result (Asks (found_of found.now)) }
     ensures command { IfOk result (IsJobOf (Some (codes "each"))) }
-    ensures offset { IfErr result (λ fault. fault ≡ WordFault.Offset → StartsNowhere (found_of found.now)) }
+    ensures offset { IfErr result (λ fault. fault ≡ WordFault.Offset → IsNoExtent (found_of found.now)) }
     ensures misread { IfErr result
-        (FailsFor (MisreadRequest (found_of found.now) Choice.Columns) (StartsNowhere (found_of found.now))) }
+        (FailsFor (MisreadRequest (found_of found.now) Choice.Columns) (IsNoExtent (found_of found.now))) }
 {
     let spool = spool_of(alloc, found)?;
     let terms = terms_of(alloc, found, Choice::Columns, None)?;
     let names = names_in(alloc, found)?;
-    let mapping = mapping_words(alloc, found)?;
+    let mapping = mapping_words(alloc, found, found.get_str("TYPE"))?;
     Ok(Job::Request(Request {
         start: mapping.start,
+        window: mapping.window,
         order: mapping.order,
         limit: mapping.limit,
         spool,
@@ -411,8 +487,7 @@ fn read_each(alloc: Global, found: &ArgMatches<'_>) -> Result<Job, WordFault>
             faults: faults_of(word(found, "faults")),
         },
         progress: flag_of(found, "progress"),
-        pickle: mapping.pickle,
-        name: mapping.name,
+        subject: mapping.subject,
         over: Over::Files {
             names,
             flush: flag_of(found, "flush"),
@@ -472,6 +547,13 @@ fn terms_of(
     })
 }
 
+// Whether a mapping has nothing that a plain one lacks.
+fn is_plain(spool: Option<u64>, window: Option<u64>, progress: bool, terms: &Terms) -> bool
+    ensures { result ≡ true → (spool ≡ None) × (window ≡ None) × (progress ≡ false) × (terms.now ≡ no_terms) }
+{
+    spool.is_none() && window.is_none() && !progress && has_no_terms(terms)
+}
+
 fn has_no_terms(terms: &Terms) -> bool
     ensures { result ≡ true → terms.now ≡ no_terms }
 {
@@ -505,7 +587,7 @@ fn mode_of(word: &str) -> Mode
     }
 }
 
-fn read_bound(alloc: Global, found: &ArgMatches<'_>) -> Result<Job, WordFault>
+fn read_bound(alloc: Global, found: &ArgMatches<'_>, words: &[String]) -> Result<Job, WordFault>
     ensures asks { IfOk result (Asks (found_of found.now)) }
     ensures command { IfOk result (IsJobOf (Some (codes "bound"))) }
     ensures usage { IfErr result (λ fault. (fault ≡ Memory) ⊎ IsNoBound (found_of found.now)) }
@@ -513,8 +595,8 @@ fn read_bound(alloc: Global, found: &ArgMatches<'_>) -> Result<Job, WordFault>
     ensures misread { IfErr result (FailsFor (IsNoBound (found_of found.now)) ⊥) }
 {
     let pickle = word_of(alloc, found, "PICKLE")?;
-    let name = word_of(alloc, found, "TYPE")?;
-    let bits = number_of(alloc, found, "BITS", "<BITS>", 0)?;
+    let name = String::from_str(alloc, type_word(found, "BITS").unwrap_or(BY_HEAD))?;
+    let bits = bits_in(alloc, found, words)?;
     if flag_of(found, "text") {
         return Ok(Job::BoundText {
             pickle,
@@ -525,6 +607,23 @@ fn read_bound(alloc: Global, found: &ArgMatches<'_>) -> Result<Job, WordFault>
         });
     }
     Ok(Job::Bound { pickle, name, bits })
+}
+
+// The number of bits of a bound.
+fn bits_in(alloc: Global, found: &ArgMatches<'_>, words: &[String]) -> Result<u64, WordFault>
+    ensures ok { IfOk result (NumberIn (after_type_in (found_of found.now) (codes "BITS")) 0) }
+    ensures err { IfErr result
+        (λ fault. (fault ≡ Memory) ⊎ IsNoNumberIfAny (after_type_in (found_of found.now) (codes "BITS"))) }
+    ensures fault { IfErr result (λ fault. fault ≢ WordFault.Offset) }
+    ensures misread { IfErr result (FailsFor (IsNoNumberIfAny (after_type_in (found_of found.now) (codes "BITS"))) ⊥) }
+{
+    let Some(word) = after_type(found, "BITS") else {
+        return Ok(0);
+    };
+    match whole_number(word.as_bytes()) {
+        Some(bits) => Ok(bits),
+        None => Err(WordFault::Usage(usage_of(alloc, words, Ties::With)?)),
+    }
 }
 
 // The mode that is requested, if one is.
@@ -550,10 +649,16 @@ fn read_check(alloc: Global, found: &ArgMatches<'_>) -> Result<Job, WordFault>
 fn read_types(alloc: Global, found: &ArgMatches<'_>) -> Result<Job, WordFault>
     ensures asks { IfOk result (Asks (found_of found.now)) }
     ensures command { IfOk result (IsJobOf (Some (codes "types"))) }
-    ensures memory { IfErr result (λ fault. fault ≡ Memory) }
+    ensures misread { IfErr result (FailsFor (IsNoElementsIfAny (first_value (found_of found.now) (codes "depth"))) ⊥) }
 {
-    Ok(Job::Types {
-        pickle: word_of(alloc, found, "PICKLE")?,
+    let pickle = word_of(alloc, found, "PICKLE")?;
+    let Some(name) = found.get_str("parts") else {
+        return Ok(Job::Types { pickle });
+    };
+    Ok(Job::Parts {
+        pickle,
+        name: String::from_str(alloc, name)?,
+        depth: depth_of(alloc, found, Some(SHOWN_LEVELS))?,
     })
 }
 

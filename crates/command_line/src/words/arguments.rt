@@ -17,6 +17,8 @@ pub enum Kind {
     Repeated,
     /// A word that must be given, by its place.
     Positional,
+    /// The same, but TYPE may be left out before it, or is TYPE. The ties say when.
+    Omissible,
     /// Any number of words, by their place.
     Positionals,
 }
@@ -125,14 +127,33 @@ const ARGUMENTS: &[Argument] = &[
         help: "The byte where the value begins, as 446, 0x1be or, from the end of FILE, -512 [default: 0]",
         ..OPTION
     },
-    // The byte order of numbers whose field has neither `big` nor `little` before its type.
+    // FILE ends for the mapping BYTES bytes after the byte that the value begins in, or where it ends anyway. The number is
+    // `446` or `0x1be`. Places are still those in the whole FILE.
+    Argument {
+        of: &["map", "show", "each"],
+        name: "length",
+        value: "BYTES",
+        is_rare: true,
+        help: "After how many bytes from there FILE ends, as 446 or 0x1be [default: where it does]",
+        ..OPTION
+    },
+    // Map the type of the format [inside other bytes](COOKBOOK.md#a-format-inside-other-bytes), which the head of +NAME
+    // says, instead of the type of whole files. TYPE is left out or `-`.
+    Argument {
+        of: &["map", "show", "each"],
+        name: "inside",
+        is_rare: true,
+        help: "Map the type that the head of +NAME says for the format inside other bytes [default: the type of whole files]",
+        ..FLAG
+    },
+    // The byte order of numbers whose field has neither `big` nor `little` before its type. Without the option it is the
+    // one that the head of +NAME says, if TYPE is left out or `-`, and else big-endian.
     Argument {
         of: &["map", "show", "each"],
         name: "endian",
         value: "ORDER",
         accepts: Accepts::OneOf(&["big", "little"]),
-        default: Some("big"),
-        help: "The byte order",
+        help: "The byte order [default: big, without TYPE that of the head]",
         ..OPTION
     },
     // The mapping takes at most N steps. If it needs more it ends with `fault Limit`.
@@ -145,7 +166,8 @@ const ARGUMENTS: &[Argument] = &[
         help: "The most steps of the mapping, 0 to 18446744073709551615",
         ..OPTION
     },
-    // Accept only a value that ends where FILE ends. Reject any other with `fault Left`.
+    // Accept only a value that ends where FILE ends, or with `--length` where that ends it. Reject any other with
+    // `fault Left`.
     Argument {
         of: &["map", "show", "each"],
         name: "whole",
@@ -297,9 +319,10 @@ const ARGUMENTS: &[Argument] = &[
     // How the answer is printed. `json` prints JSON objects on standard output, also for a pickle that is refused or
     // can't be read. `check` prints one object, such as `{"accepted":true}` or `{"refused":"Syntax","byte":4}`. With
     // `--why` it also has `warnings`, or the members `line`, `column`, `end`, `says` and `write`. `types` prints an object
-    // for each type, with its name, its kind, the text of its declaration and its fields.
+    // for each type, with its name, its kind, the text of its declaration and its fields. `formats` prints an object for
+    // each pickle, with what applies if TYPE is left out.
     Argument {
-        of: &["check", "types"],
+        of: &["check", "types", "formats"],
         name: "mode",
         value: "MODE",
         accepts: Accepts::OneOf(&["text", "json"]),
@@ -393,6 +416,25 @@ const ARGUMENTS: &[Argument] = &[
         value: "N",
         default: Some("6"),
         help: "The most levels of parts below the value that are shown, or all",
+        ..OPTION
+    },
+    // List the parts that values of the type NAME can have, instead of the types: what `--get` may name. Each part has a line:
+    // its path, a tab, and its type in the words of `show`. In mode `json` it has an object.
+    Argument {
+        of: &["types"],
+        name: "parts",
+        value: "NAME",
+        help: "List the parts that values of the type NAME can have",
+        ..OPTION
+    },
+    // List at most N levels of parts below the value, or `all`.
+    Argument {
+        of: &["types"],
+        name: "depth",
+        value: "N",
+        default: Some("6"),
+        tie: Tie::Needs("parts"),
+        help: "The most levels of parts below the value that are listed, or all",
         ..OPTION
     },
     // Whether types are dimmed. With `auto` they are if standard output is a terminal and the environment has no NO_COLOR.
@@ -510,11 +552,19 @@ const ARGUMENTS: &[Argument] = &[
     Argument {
         of: &["map", "show", "each", "bound"],
         name: "TYPE",
-        help: "The name of the type to map",
+        kind: Kind::Omissible,
+        help: "The name of the type to map. Left out or - after +NAME, it is the one that the pickle's head says",
         ..POSITIONAL
     },
     Argument {
-        of: &["map", "show", "dump"],
+        of: &["map", "show"],
+        name: "FILE",
+        kind: Kind::Omissible,
+        help: "The file of the bytes",
+        ..POSITIONAL
+    },
+    Argument {
+        of: &["dump"],
         name: "FILE",
         help: "The file of the bytes",
         ..POSITIONAL
@@ -530,6 +580,7 @@ const ARGUMENTS: &[Argument] = &[
     Argument {
         of: &["bound"],
         name: "BITS",
+        kind: Kind::Omissible,
         accepts: Accepts::Number,
         help: "The size of a file in bits, 0 to 18446744073709551615",
         ..POSITIONAL

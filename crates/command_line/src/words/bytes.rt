@@ -3,7 +3,7 @@ ghost use Rattle.std.specs.Prelude.{◌≡◌, ℕ, ◌*◌, IfOk, IfErr, OnErr,
 ghost use Rattle.clap.specs.Matches.{found_of, first_value};
 ghost use Rattle.command_line.specs.Numerals.{IsByteCount};
 ghost use Rattle.command_line.specs.OffsetWord.{IsOffsetWord, IsNoOffset, IsNoByteOffset};
-ghost use Rattle.command_line.specs.Starts.{NamesStart, IsNoStart, NamesBytes, IsNoBytes};
+ghost use Rattle.command_line.specs.Starts.{NamesStart, IsNoStart, NamesBytes, IsNoBytes, NamesWindow, IsNoWindow};
 ghost use Rattle.command_line.specs.Found.{word_in};
 ghost use Rattle.command_line.specs.declared.words.WordFault.TheVariants.{Offset};
 
@@ -25,6 +25,18 @@ pub fn start_of(found: &ArgMatches<'_>) -> Result<Start, WordFault>
     match found.get_str("byte") {
         Some(word) => byte_start(word.as_bytes()).ok_or(WordFault::Offset),
         None => Ok(Start::Bit(bits_of(word(found, "at"))?)),
+    }
+}
+
+/// After how many bytes from there the file ends, if that is given.
+pub fn window_of(found: &ArgMatches<'_>) -> Result<Option<u64>, WordFault>
+    ensures ok { IfOk result (NamesWindow (first_value (found_of found.now) (codes "length"))) }
+    ensures err { IfErr result (λ fault. fault ≡ Offset) }
+    ensures refused { OnErr result (IsNoWindow (first_value (found_of found.now) (codes "length"))) }
+{
+    match found.get_str("length") {
+        Some(word) => Ok(Some(plain_bytes(word)?)),
+        None => Ok(None),
     }
 }
 

@@ -26,7 +26,7 @@ pub const SHOWN_LEVELS: u64 = 6;
 
 const PROGRAM_SHORT_HELP: &str = "\
 Many files, one line each:
-  find . -name '*.png' -print0 | poke_batch each --files0-from - +png Png
+  find . -name '*.png' -print0 | poke_batch each --files0-from - +png
 
 PICKLE is a path, - for standard input, or +NAME for a pickle that is installed: `poke_batch formats`.
 `poke_batch COMMAND -h` lists the options of a command, `--help` also explains them.";
@@ -139,12 +139,16 @@ least width of its values as an offset, such as 24#b.
 
 With --mode json each line is an object, with the name, the kind, the text of the declaration and the fields.
 
-Example:
+With --parts NAME the parts that values of that type can have are listed instead: what --get may name. Each line has a path,
+a tab and a type. Elements are [*].
+
+Examples:
   echo 'type P = struct { uint<8> a; uint<16> b; };' | poke_batch types -
+  poke_batch types --parts Png +png
 
 Exit status:
   0  the lines were printed
-  2  refused: the arguments or the pickle
+  2  refused: the arguments, the pickle, or the name of a type
   3  memory, a file, standard input or an output failed",
 };
 
@@ -153,11 +157,14 @@ const FORMATS: Verb = Verb {
     about: "Prints the name, the type, the options and a sentence of each pickle that is installed",
     help: "\
 Each pickle has a line: its name, a tab, the type to map, a tab, the options to map it with, a tab, and a sentence. A pickle
-that is named png is read by +png instead of a path. The pickles are in the folder that POKE_BATCH_PICKLES names, else
-in ../share/poke_batch/pickles from the program.
+that is named png is read by +png instead of a path. Without TYPE, that type and these options apply. The pickles are in
+the folder that POKE_BATCH_PICKLES names, else in ../share/poke_batch/pickles from the program.
+
+With --mode json each line is an object. inside is the type that --inside maps:
+  {\"name\":\"png\",\"type\":\"Png\",\"endian\":\"big\",\"whole\":false,\"inside\":\"Embedded\",\"description\":\"A PNG image.\"}
 
 Example:
-  poke_batch map +png Png picture.png
+  poke_batch map +png picture.png
 
 Exit status:
   0  the lines were printed

@@ -1,8 +1,8 @@
 //! What clap found for the arguments of a command.
-ghost use Rattle.std.specs.Prelude.{◌≡◌, ◌≢◌, ◌⊎◌, IfOk, IfErr, string_bytes};
+ghost use Rattle.std.specs.Prelude.{◌≡◌, ◌≢◌, ◌⊎◌, IfOk, IfErr, option_map, string_bytes};
 ghost use Rattle.clap.specs.Matches.{found_of, first_value, one_text};
 ghost use Rattle.command_line.specs.Numerals.{IsNumber, IsNoNumber};
-ghost use Rattle.command_line.specs.Found.{word_in, NumberIn, NumberIfAny, IsNoNumberIfAny};
+ghost use Rattle.command_line.specs.Found.{after_type_in, type_in, word_in, NumberIn, NumberIfAny, IsNoNumberIfAny};
 ghost use Rattle.command_line.specs.Flags.{FlagIn};
 ghost use Rattle.command_line.specs.Misread.{FailsFor};
 ghost use Rattle.command_line.specs.declared.words.WordFault.TheVariants.{Memory};
@@ -20,7 +20,27 @@ pub fn word<'a>(found: &ArgMatches<'a>, name: &str) -> &'a str
     found.get_str(name).unwrap_or("")
 }
 
-/// A copy of that text.
+/// The argument for the type. If the argument `after` it isn't given, its own is left out.
+pub fn type_word<'a>(found: &ArgMatches<'a>, after: &str) -> Option<&'a str>
+    ensures { option_map (λ word. word.now) result ≡ type_in (found_of found.now) after.now }
+{
+    match found.get_str(after) {
+        Some(_) => found.get_str("TYPE"),
+        None => None,
+    }
+}
+
+/// The argument `after` the type, which is in the place of a type that is left out.
+pub fn after_type<'a>(found: &ArgMatches<'a>, after: &str) -> Option<&'a str>
+    ensures { option_map (λ word. word.now) result ≡ after_type_in (found_of found.now) after.now }
+{
+    match found.get_str(after) {
+        Some(word) => Some(word),
+        None => found.get_str("TYPE"),
+    }
+}
+
+/// A copy of the text of an argument.
 pub fn word_of(alloc: Global, found: &ArgMatches<'_>, name: &str) -> Result<String, AllocError>
     ensures { IfOk result (λ text. string_bytes text ≡ word_in (found_of found.now) name.now) }
 {

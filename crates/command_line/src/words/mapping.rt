@@ -1,52 +1,94 @@
 //! What a mapping is given, as arguments request it.
-ghost use Rattle.std.specs.Prelude.{◌≡◌, ◌≢◌, IfOk, IfErr, codes};
+ghost use Rattle.std.specs.Prelude.{◌≡◌, ◌≢◌, IfOk, IfErr, codes, option_map};
 ghost use Rattle.clap.specs.Matches.{found_of, first_value};
-ghost use Rattle.command_line.specs.Found.{NumberIn, NamesOrder, AsksMappingOf, StartsNowhere, IsNoNumberIfAny};
+ghost use Rattle.command_line.specs.Found.{NumberIn, NamesOrder, AsksOrder, AsksSubject, AsksMappingOf, IsNoExtent, IsNoNumberIfAny};
 ghost use Rattle.command_line.specs.Misread.{FailsFor};
+ghost use Rattle.command_line.specs.Subjects.{is_inside};
 ghost use Rattle.command_line.specs.declared.words.WordFault.TheVariants.{Offset};
 
 use crate::start::Start;
+use crate::subject::{HeadType, Subject, is_by_head};
 use crate::words::WordFault;
-use crate::words::bytes::start_of;
+use crate::words::bytes::{start_of, window_of};
 use crate::words::commands::DEFAULT_LIMIT;
-use crate::words::found::{number_of, word, word_of};
+use crate::words::found::{flag_of, number_of, word, word_of};
 use bit_space::Order;
 use clap::ArgMatches;
-use std::alloc::Global;
+use std::alloc::{AllocError, Global};
 
 /// What every command that maps is given, over one file or many.
 #[derive(Drop)]
 pub struct MappingWords {
     /// Where the mapping starts.
     pub start: Start,
-    /// The byte order of the run.
-    pub order: Order,
+    /// After how many bytes from there the file ends, if that is given.
+    pub window: Option<u64>,
+    /// The byte order of the run, if one is given.
+    pub order: Option<Order>,
     /// The most steps of each mapping.
     pub limit: u64,
-    /// The argument that names the pickle.
-    pub pickle: String,
-    /// The name of the type to map.
-    pub name: String,
+    /// What is mapped.
+    pub subject: Subject,
 }
 
-/// What the arguments of a command that maps request.
-pub fn mapping_words(alloc: Global, found: &ArgMatches<'_>) -> Result<MappingWords, WordFault>
-    ensures asks { IfOk result (AsksMappingOf (found_of found.now)) }
-    ensures offset { IfErr result (λ fault. fault ≡ Offset → StartsNowhere (found_of found.now)) }
+/// What the arguments of a command that maps request, of which `name` is the one for the type.
+pub fn mapping_words(
+    alloc: Global,
+    found: &ArgMatches<'_>,
+    name: Option<&str>,
+) -> Result<MappingWords, WordFault>
+    ensures asks { IfOk result (AsksMappingOf (found_of found.now) (option_map (λ name. name.now) name.entry)) }
+    ensures offset { IfErr result (λ fault. fault ≡ Offset → IsNoExtent (found_of found.now)) }
     ensures misread { IfErr result (FailsFor (IsNoNumberIfAny (first_value (found_of found.now) (codes "limit")))
-        (StartsNowhere (found_of found.now))) }
+        (IsNoExtent (found_of found.now))) }
 {
     Ok(MappingWords {
-        order: order_of(word(found, "endian")),
+        order: order_of(found),
         limit: limit_of(alloc, found)?,
-        pickle: word_of(alloc, found, "PICKLE")?,
-        name: word_of(alloc, found, "TYPE")?,
+        subject: subject_of(alloc, found, name)?,
         start: start_of(found)?,
+        window: window_of(found)?,
     })
 }
 
-// The byte order that an argument names: `little`, or the default, big-endian, for any other.
-fn order_of(word: &str) -> Order
+// What is mapped: the type that is named, or one that the head of the pickle says.
+fn subject_of(
+    alloc: Global,
+    found: &ArgMatches<'_>,
+    name: Option<&str>,
+) -> Result<Subject, AllocError>
+    ensures { IfOk result (AsksSubject (found_of found.now) (option_map (λ name. name.now) name.entry)) }
+{
+    let pickle = word_of(alloc, found, "PICKLE")?;
+    if is_by_head(&pickle, name) {
+        let part = head_type(flag_of(found, "inside"));
+        return Ok(Subject::ByHead { pickle, part });
+    }
+    let name = String::from_str(alloc, name.unwrap_or(""))?;
+    Ok(Subject::Named { pickle, name })
+}
+
+fn head_type(inside: bool) -> HeadType
+    ensures { is_inside result ≡ inside }
+{
+    match inside {
+        true => HeadType::Inside,
+        false => HeadType::Documented,
+    }
+}
+
+// The byte order that is given, if one is.
+fn order_of(found: &ArgMatches<'_>) -> Option<Order>
+    ensures { AsksOrder (found_of found.now) result }
+{
+    match found.get_str("endian") {
+        Some(word) => Some(named_order(word)),
+        None => None,
+    }
+}
+
+// The byte order that an argument names: `little`, or big-endian for any other.
+fn named_order(word: &str) -> Order
     ensures { NamesOrder word.now result }
 {
     match word {

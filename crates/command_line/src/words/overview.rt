@@ -4,13 +4,17 @@
 /// with "Without arguments".
 pub const PROGRAM_HELP: &str = "\
 PICKLE is a path, - for standard input, or +NAME for a pickle that is installed, as +png: `poke_batch formats` lists
-these. They are in the folder that POKE_BATCH_PICKLES names, else in ../share/poke_batch/pickles from the program.
+these. They are in the folder that POKE_BATCH_PICKLES names, else in ../share/poke_batch/pickles from the program. With
++NAME the TYPE may be left out: then the pickle's head says the type and the options. A TYPE of - means the same.
 OFFSET is a number, # and a unit: b for bits, B for bytes, or a number of bits, as 8#b, 1#B or 2#4.
 
 Options of map, show and each:
   --at OFFSET      where the value begins in FILE [default: 0#b]
   --byte N         the byte where the value begins, as 446, 0x1be or, from the end of FILE, -512 [default: 0]
-  --endian ORDER   the byte order (big or little) [default: big]
+  --length BYTES   after how many bytes from there FILE ends, as 446 or 0x1be [default: where it does]
+  --inside         map the type that the head of +NAME says for the format inside other bytes
+                   [default: the type of whole files]
+  --endian ORDER   the byte order (big or little) [default: big, without TYPE that of the head]
   --limit N        the most steps of the mapping, 0 to 18446744073709551615 [default: 1000000000]
   --whole          accept only a value that ends where FILE does [default: any end]
   --max-output N   the most bytes of the printed value, 0 to 18446744073709551615 [default: any length]
@@ -56,14 +60,16 @@ Options of bound:
   --elements N     with --text, for so many elements of an array, or all [default: all]
   --why            explain why the pickle or TYPE is refused [default: no]
 
-Options of check and types:
+Options of check, types and formats:
   --mode MODE      how the answer is printed (text or json) [default: text]
+
+Options of types:
+  --parts NAME     list the parts that values of the type NAME can have
+  --depth N        the most levels of parts below the value that are listed, or all [default: 6]
+  --why            explain why the pickle is refused [default: no]
 
 Options of check:
   --why            explain why the pickle is refused, or what an accepted one can't mean [default: no]
-
-Options of types:
-  --why            explain why the pickle is refused [default: no]
 
 Options of dump:
   --from OFFSET    the first byte, in whole bytes [default: 0#B]

@@ -1,5 +1,5 @@
 //! The arguments of the table, as the parser reads them.
-ghost use Rattle.std.specs.Prelude.{◌≡◌, [], IfOk, option_map};
+ghost use Rattle.std.specs.Prelude.{◌≡◌, [], false, IfOk, option_map};
 ghost use Rattle.clap.specs.Walk.{Rule};
 ghost use Rattle.clap.specs.Simple.{App, new_rule};
 ghost use Rattle.command_line.specs.Commands.{IsArg, IsApp, rule_of_argument, rules_of, with_rules, before_if, has, accepted, names_of, with_kind, with_letter, with_default, with_values};
@@ -8,11 +8,14 @@ use crate::words::arguments::{Accepts, Argument, Kind, Tie};
 use clap::{Arg, ArgAction, Command};
 use std::alloc::{AllocError, Global};
 
-/// Whether the program has the ties between its arguments: those that exclude or require one another, and the values
-/// that may begin with `-`. The contract of the parser says what it finds only for a program without ties.
+/// Whether the program has the ties between its arguments: those that exclude or require one another, the words that
+/// must be given, and the values that may begin with `-`. The contract of the parser says what it finds only for a
+/// program without ties.
 #[derive(Clone, Copy)]
 pub enum Ties {
     With,
+    /// With those where TYPE is left out, which is then no argument.
+    WithoutType,
     Without,
 }
 
@@ -45,10 +48,20 @@ fn with_row<'a>(
     ensures { IfOk result (λ made. (app : App) → ties ≡ Ties.Without → IsApp app command.entry
         → IsApp (with_rules app (before_if (has name.now row.now) (rule_of_argument row.now) [])) made) }
 {
+    if is_left_out(row, ties) {
+        return Ok(command);
+    }
     if !has(row, name) {
         return Ok(command);
     }
     command.arg(argument(alloc, row, ties)?)
+}
+
+// Whether the program has no such argument in any command.
+fn is_left_out(row: &Argument, ties: Ties) -> bool
+    ensures { ties ≡ Ties.Without → result ≡ false }
+{
+    matches!(ties, Ties::WithoutType) && row.name == "TYPE"
 }
 
 // Whether a command has the argument.
@@ -63,7 +76,7 @@ fn argument<'a>(alloc: Global, row: &Argument, ties: Ties) -> Result<Arg<'a>, Al
 {
     let arg = free_argument(alloc, row);
     match ties {
-        Ties::With => with_tie(arg, row),
+        Ties::With | Ties::WithoutType => with_tie(required(arg, row), row),
         Ties::Without => Ok(arg),
     }
 }
@@ -97,6 +110,7 @@ fn with_kind<'a>(arg: Arg<'a>, row: &Argument) -> Arg<'a>
             .value_name(row.value)
             .action(ArgAction::Append),
         Kind::Positional => arg.required(true),
+        Kind::Omissible => arg,
         Kind::Positionals => arg.num_args(0..),
     }
 }
@@ -127,6 +141,14 @@ fn with_values<'a>(arg: Arg<'a>, row: &Argument) -> Arg<'a>
     match row.accepts {
         Accepts::Number => arg.value_parser(clap::value_parser!(u64)),
         Accepts::OneOf(words) => arg.value_parser(words),
+        _ => arg,
+    }
+}
+
+// Required, though TYPE may be left out before it.
+fn required<'a>(arg: Arg<'a>, row: &Argument) -> Arg<'a> {
+    match row.kind {
+        Kind::Omissible => arg.required(true),
         _ => arg,
     }
 }

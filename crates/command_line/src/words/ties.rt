@@ -1,8 +1,10 @@
 //! The ties between arguments, which the parser's own program doesn't have.
-ghost use Rattle.std.specs.Prelude.{◌≡◌};
-ghost use Rattle.clap.specs.Matches.{found_of};
-ghost use Rattle.command_line.specs.Ties.{is_given, are_apart, needs, is_either_given, keeps_map_ties, keeps_each_ties, keeps_bound_ties, keeps_dump_ties, keeps_ties};
+ghost use Rattle.std.specs.Prelude.{◌≡◌, codes, option_map};
+ghost use Rattle.clap.specs.Matches.{found_of, first_value};
+ghost use Rattle.command_line.specs.Ties.{is_given, are_apart, needs, is_either_given, is_typed, has_words, keeps_inside, keeps_file_ties, keeps_map_ties, keeps_each_ties, keeps_text_ties, keeps_bound_ties, keeps_types_ties, keeps_dump_ties, keeps_ties};
 
+use crate::subject::{has_type, is_by_head};
+use crate::words::found::{after_type, type_word, word};
 use clap::ArgMatches;
 use clap::parser::ValueSource;
 
@@ -12,9 +14,10 @@ pub fn keeps_ties(command: &str, found: &ArgMatches<'_>) -> bool
 {
     match command {
         "map" => keeps_map_ties(found),
-        "show" => are_apart(found, "byte", "at"),
+        "show" => keeps_file_ties(found),
         "each" => keeps_each_ties(found),
         "bound" => keeps_bound_ties(found),
+        "types" => keeps_types_ties(found),
         "dump" => keeps_dump_ties(found),
         _ => true,
     }
@@ -23,17 +26,34 @@ pub fn keeps_ties(command: &str, found: &ArgMatches<'_>) -> bool
 fn keeps_map_ties(found: &ArgMatches<'_>) -> bool
     ensures { result ≡ keeps_map_ties (found_of found.now) }
 {
-    are_apart(found, "byte", "at") && needs(found, "rows", "get") && needs(found, "header", "rows")
+    keeps_file_ties(found) && needs(found, "rows", "get") && needs(found, "header", "rows")
+}
+
+fn keeps_file_ties(found: &ArgMatches<'_>) -> bool
+    ensures { result ≡ keeps_file_ties (found_of found.now) }
+{
+    are_apart(found, "byte", "at")
+        && has_words(found, "FILE")
+        && keeps_inside(found, type_word(found, "FILE"))
 }
 
 fn keeps_each_ties(found: &ArgMatches<'_>) -> bool
     ensures { result ≡ keeps_each_ties (found_of found.now) }
 {
-    are_apart(found, "byte", "at") && is_either_given(found, "FILE", "files0-from")
+    are_apart(found, "byte", "at")
+        && is_either_given(found, "FILE", "files0-from")
+        && is_typed(found, found.get_str("TYPE"))
+        && keeps_inside(found, found.get_str("TYPE"))
 }
 
 fn keeps_bound_ties(found: &ArgMatches<'_>) -> bool
     ensures { result ≡ keeps_bound_ties (found_of found.now) }
+{
+    has_words(found, "BITS") && keeps_text_ties(found)
+}
+
+fn keeps_text_ties(found: &ArgMatches<'_>) -> bool
+    ensures { result ≡ keeps_text_ties (found_of found.now) }
 {
     needs(found, "mode", "text")
         && needs(found, "numbers", "text")
@@ -41,10 +61,35 @@ fn keeps_bound_ties(found: &ArgMatches<'_>) -> bool
         && needs(found, "elements", "text")
 }
 
+fn keeps_types_ties(found: &ArgMatches<'_>) -> bool
+    ensures { result ≡ keeps_types_ties (found_of found.now) }
+{
+    needs(found, "depth", "parts")
+}
+
 fn keeps_dump_ties(found: &ArgMatches<'_>) -> bool
     ensures { result ≡ keeps_dump_ties (found_of found.now) }
 {
     are_apart(found, "skip", "from") && are_apart(found, "length", "size")
+}
+
+/// Whether TYPE and the argument after it are given, of which TYPE may be left out beside an installed pickle.
+pub fn has_words(found: &ArgMatches<'_>, after: &str) -> bool
+    ensures { result ≡ has_words (found_of found.now) after.now }
+{
+    after_type(found, after).is_some() && is_typed(found, type_word(found, after))
+}
+
+fn is_typed(found: &ArgMatches<'_>, name: Option<&str>) -> bool
+    ensures { result ≡ is_typed (found_of found.now) (option_map (λ name. name.now) name.entry) }
+{
+    has_type(word(found, "PICKLE"), name)
+}
+
+fn keeps_inside(found: &ArgMatches<'_>, name: Option<&str>) -> bool
+    ensures { result ≡ keeps_inside (found_of found.now) (option_map (λ name. name.now) name.entry) }
+{
+    !is_given(found, "inside") || is_by_head(word(found, "PICKLE"), name)
 }
 
 fn are_apart(found: &ArgMatches<'_>, name: &str, other: &str) -> bool
