@@ -5,12 +5,13 @@
 # The options of a command.
 _poke_batch_options_of() {
     case $1 in
-        map) echo '--at --byte --endian --limit --whole --max-output --slots --get --spool --progress --rows --header --absent --mode --numbers --chars --elements --faults --why --help' ;;
-        show) echo '--at --byte --endian --limit --whole --max-output --slots --get --spool --progress --elements --depth --color --help' ;;
-        each) echo '--at --byte --endian --limit --whole --max-output --slots --get --spool --progress --absent --mode --numbers --chars --elements --faults --why --flush --files0-from --help' ;;
+        map) echo '--at --byte --length --inside --endian --limit --whole --max-output --slots --get --spool --progress --rows --header --absent --mode --numbers --chars --elements --faults --why --help' ;;
+        show) echo '--at --byte --length --inside --endian --limit --whole --max-output --slots --get --spool --progress --elements --depth --color --help' ;;
+        each) echo '--at --byte --length --inside --endian --limit --whole --max-output --slots --get --spool --progress --absent --mode --numbers --chars --elements --faults --why --flush --files0-from --help' ;;
         bound) echo '--text --mode --numbers --chars --elements --why --help' ;;
-        check | types) echo '--mode --why --help' ;;
-        formats) echo '--help' ;;
+        check) echo '--mode --why --help' ;;
+        types) echo '--mode --parts --depth --why --help' ;;
+        formats) echo '--mode --help' ;;
         dump) echo '--from --size --skip --length --no-ruler --help' ;;
         '') echo '--help --version' ;;
     esac
@@ -18,7 +19,7 @@ _poke_batch_options_of() {
 
 # Whether an option has a value.
 _poke_batch_takes_value_of() {
-    [[ $1 =~ ^(--(at|byte|endian|limit|max-output|slots|get|spool|rows|absent|mode|numbers|chars|elements|faults|depth|color|files0-from|from|size|skip|length)|-[sn])$ ]]
+    [[ $1 =~ ^(--(at|byte|length|endian|limit|max-output|slots|get|spool|rows|absent|mode|numbers|chars|elements|faults|depth|parts|color|files0-from|from|size|skip)|-[sn])$ ]]
 }
 
 # The words that an option of a command accepts, if it is a choice.
@@ -28,7 +29,7 @@ _poke_batch_words_of() {
         map/--absent | each/--absent) echo 'fault empty' ;;
         map/--mode | bound/--mode) echo 'flat tree json lines' ;;
         each/--mode) echo 'flat json' ;;
-        check/--mode | types/--mode | map/--faults | each/--faults) echo 'text json' ;;
+        check/--mode | types/--mode | formats/--mode | map/--faults | each/--faults) echo 'text json' ;;
         map/--numbers | each/--numbers | bound/--numbers) echo 'decimal hex digits' ;;
         map/--chars | each/--chars | bound/--chars) echo 'numbers text' ;;
         show/--color) echo 'auto always never' ;;

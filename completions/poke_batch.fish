@@ -3,7 +3,7 @@
 # tools/options: options with a value
 # Whether an option has a value.
 function __poke_batch_takes_value
-    contains -- $argv[1] --at --byte --endian --limit --max-output --slots --get --spool --rows --absent --mode --numbers --chars --elements --faults --depth --color --files0-from --from --size --skip --length -s -n
+    contains -- $argv[1] --at --byte --length --endian --limit --max-output --slots --get --spool --rows --absent --mode --numbers --chars --elements --faults --depth --parts --color --files0-from --from --size --skip -s -n
 end
 # tools/options: end
 
@@ -90,6 +90,8 @@ complete -c poke_batch -n '__poke_batch_has 1 help' -a 'map show each bound chec
 
 complete -c poke_batch -n '__poke_batch_is map show each' -l at -xa '(__poke_batch_offsets)' -d 'Where the value begins in FILE'
 complete -c poke_batch -n '__poke_batch_is map show each' -l byte -x -d 'The byte where the value begins'
+complete -c poke_batch -n '__poke_batch_is map show each' -l length -x -d 'After how many bytes from there FILE ends'
+complete -c poke_batch -n '__poke_batch_is map show each' -l inside -d 'Map the type that the head of +NAME says for the format inside other bytes'
 complete -c poke_batch -n '__poke_batch_is map show each' -l endian -xa 'big little' -d 'The byte order'
 complete -c poke_batch -n '__poke_batch_is map show each' -l limit -x -d 'The most steps of the mapping'
 complete -c poke_batch -n '__poke_batch_is map show each' -l whole -d 'Accept only a value that ends where FILE does'
@@ -107,7 +109,7 @@ complete -c poke_batch -n '__poke_batch_is bound' -l text -d 'Print the most byt
 complete -c poke_batch -n '__poke_batch_is map' -l mode -xa 'flat tree json lines' -d 'How the value is printed'
 complete -c poke_batch -n '__poke_batch_is each' -l mode -xa 'flat json' -d 'How the value is printed'
 complete -c poke_batch -n '__poke_batch_is bound' -l mode -xa 'flat tree json lines' -d 'In this mode alone, with --text'
-complete -c poke_batch -n '__poke_batch_is check types' -l mode -xa 'text json' -d 'How the answer is printed'
+complete -c poke_batch -n '__poke_batch_is check types formats' -l mode -xa 'text json' -d 'How the answer is printed'
 complete -c poke_batch -n '__poke_batch_is map each' -l numbers -xa 'decimal hex digits' -d 'How numbers are printed'
 complete -c poke_batch -n '__poke_batch_is bound' -l numbers -xa 'decimal hex digits' -d 'For numbers in this form, with --text'
 complete -c poke_batch -n '__poke_batch_is map each' -l chars -xa 'numbers text' -d 'How arrays of char are printed'
@@ -117,6 +119,8 @@ complete -c poke_batch -n '__poke_batch_is show' -l elements -x -d 'The most ele
 complete -c poke_batch -n '__poke_batch_is bound' -l elements -x -d 'For so many elements of an array, with --text'
 complete -c poke_batch -n '__poke_batch_is map each' -l faults -xa 'text json' -d 'How a refusal or a fault is printed'
 complete -c poke_batch -n '__poke_batch_is show' -l depth -x -d 'The most levels of parts below the value that are shown'
+complete -c poke_batch -n '__poke_batch_is types' -l parts -x -d 'List the parts that values of the type NAME can have'
+complete -c poke_batch -n '__poke_batch_is types' -l depth -x -d 'The most levels of parts below the value that are listed'
 complete -c poke_batch -n '__poke_batch_is show' -l color -xa 'auto always never' -d 'When colors are printed'
 complete -c poke_batch -n '__poke_batch_is map each' -l why -d 'Explain why the pickle or TYPE is refused'
 complete -c poke_batch -n '__poke_batch_is bound' -l why -d 'Explain why the pickle or TYPE is refused'
