@@ -1,11 +1,10 @@
 -- Answers in JSON.
 use Rattle.std.proofs.Common.{◌≡◌, ◌≢◌, Bool, ℕ, List, [], Option, Result, Ok, Err, IfOk, OnOk, OnErr, ap, refl, sym, subst}
-use Rattle.std.specs.Io.KnownBytes.{Appends, Keeps}
+use Rattle.std.specs.Io.KnownBytes.{Appends}
 use Rattle.jobs.specs.Due.{End, Holds, early, part, whole}
 use Rattle.jobs.specs.Given.{ending_of}
 use Rattle.jobs.specs.Jobs.{DueCheck, DueReport, DueTypes, answer_due, failure_due, refusal_due, report_due, report_text, types_due, unreported}
-use Rattle.jobs.specs.declared.ending.Ending.{Ending}
-use Rattle.jobs.specs.declared.ending.Ending.TheVariants.{Run, Silent}
+use Rattle.jobs.specs.declared.ending.Ending.TheVariants.{Silent}
 use Rattle.jobs.proofs.Holding.{appends_keeps, holds_after, holds_more, keeps_before, keeps_before_part, no_part, part_keeps, part_text, whole_text}
 use Rattle.pickle_json.specs.Checks.{Answers, AnswersPart}
 use Rattle.pickle_json.specs.TypeObjects.{TypesInJson, refused_types, told_types}

@@ -8,33 +8,33 @@ use Rattle.command_line.specs.declared.answer_form.AnswerForm.{AnswerForm}
 use Rattle.command_line.specs.declared.words.Asked.{Asked}
 use Rattle.command_line.specs.declared.words.Job.{Job}
 use Rattle.command_line.specs.declared.words.Job.TheVariants as job
+use Rattle.part_lists.specs.PartRuns.{PartsAs}
 use Rattle.jobs.specs.Due.{DueOver, DueRun, End, Holds}
-use Rattle.jobs.specs.Given.{DueAnswer, IsAskedAbout, IsOverFiles, done, of_bound, of_check, of_text, of_types}
+use Rattle.jobs.specs.Given.{DueAnswer, IsAskedAbout, IsOverFiles, done, of_bound, of_check, of_parts, of_text, of_types}
 use Rattle.jobs.specs.Gives.{Gives}
-use Rattle.jobs.specs.Jobs.{DueCheckIn, DueTypesIn, HoldsAtEnd, HoldsJob}
+use Rattle.jobs.specs.Jobs.{DueBound, DueCheckIn, DueTextBound, DueTypesIn, HoldsAtEnd, HoldsJob}
 use Rattle.jobs.specs.declared.pickles.Question.{Question}
-use Rattle.poke_batch.specs.Runs.{BoundsAs}
-use Rattle.text_bounds.specs.TextRuns.{TextBoundsAs}
 
 -- the answer of a question is that of its job
 pub question_holds : (gives : Gives) (why : Bool) (asked : Job) (form : AnswerForm) (word : List ℕ)
     (question : Question)
     (out out' : Option (List ℕ)) (end : End) → IsAskedAbout form word asked question
-    → Holds (DueOver gives word (DueAnswer why question)) out out' end → HoldsJob gives why asked form out out' end
+    → Holds (DueOver gives word (DueAnswer why word question)) out out' end → HoldsJob gives why asked form out out' end
 question_holds gives why _ form word _ out out' end (of_check is) h =
     subst (λ w. Holds (DueOver gives w (DueCheckIn why form)) out out' end) is h
 question_holds gives why _ form word _ out out' end (of_types is) h =
     subst (λ w. Holds (DueOver gives w (DueTypesIn why form)) out out' end) is h
+question_holds gives why _ form word _ out out' end (of_parts {pickle = pickle} {depth = depth} given is same) h =
+    subst (λ n. Holds (DueOver gives (string_bytes pickle) (λ bytes. DueRun (PartsAs bytes n depth form))) out out' end)
+    same (subst (λ w. Holds (DueOver gives w (λ bytes. DueRun (PartsAs bytes given.now depth form))) out out' end) is h)
 question_holds gives why _ form word _ out out' end (of_bound {pickle = pickle} {bits = bits} given is same) h =
-    subst (λ n. Holds (DueOver gives (string_bytes pickle) (λ bytes. DueRun (BoundsAs bytes n bits))) out out' end) same
-    (subst (λ w. Holds (DueOver gives w (λ bytes. DueRun (BoundsAs bytes given.now bits))) out out' end) is h)
+    subst (λ n. Holds (DueOver gives (string_bytes pickle) (DueBound (string_bytes pickle) n bits)) out out' end) same
+    (subst (λ w. Holds (DueOver gives w (DueBound w given.now bits)) out out' end) is h)
 question_holds gives why _ form word _ out out' end
     (of_text {pickle = pickle} {bits = bits} {mode = mode} {style = style} given is same) h =
-    subst (λ n. Holds (DueOver gives (string_bytes pickle) (λ bytes. DueRun (TextBoundsAs bytes n bits style mode)))
+    subst (λ n. Holds (DueOver gives (string_bytes pickle) (DueTextBound (string_bytes pickle) n bits style mode))
     out out' end) same
-    (subst (λ w. Holds (DueOver gives w (λ bytes. DueRun (TextBoundsAs bytes given.now bits style mode))) out out' end)
-    is
-    h)
+    (subst (λ w. Holds (DueOver gives w (DueTextBound w given.now bits style mode)) out out' end) is h)
 
 -- what standard output holds of a job, where it returns
 pub done_holds : (gives : Gives) (why : Bool) (asked : Asked) (out out' : Option (List ℕ)) (end : End)
@@ -58,3 +58,4 @@ only_formats (job.Bound pickle name bits) over map request dump = absurd over
 only_formats (job.BoundText pickle name bits mode style) over map request dump = absurd over
 only_formats (job.Check pickle) over map request dump = absurd over
 only_formats (job.Types pickle) over map request dump = absurd over
+only_formats (job.Parts pickle name depth) over map request dump = absurd over

@@ -7,7 +7,7 @@ use Rattle.command_line.specs.declared.fault_form.FaultForm.{FaultForm}
 use Rattle.jobs.specs.Aims.{IsAskOf}
 use Rattle.jobs.specs.Every.{AppendsFile, CutsFile, unmapped_text}
 use Rattle.jobs.specs.FaultNames.{failure_of}
-use Rattle.jobs.specs.Files.{Every, IsFormed, RunsOver, runs, starts_nowhere, RunsFile, no_text, unopened, no_cache, opened, WritesRun, AppendsRun, AppendsOver, CutsRun, CutsOver}
+use Rattle.jobs.specs.Files.{Every, IsFormed, RunsOver, runs, RunsFile, no_text, unopened, no_cache, opened, WritesRun, AppendsRun, AppendsOver, CutsRun, CutsOver}
 use Rattle.jobs.specs.Gives.{Gives}
 use Rattle.jobs.specs.Opened.{FailsNamed, not_text, not_opened, no_pages}
 use Rattle.jobs.specs.declared.fault.FileFault.{FileFault}
@@ -24,6 +24,7 @@ use Rattle.run_parts.specs.declared.status.Status.{Status}
 use Rattle.text_output.proofs.Parts.{Appends-keeps}
 use Rattle.text_output.specs.Written.{AppendsPart}
 use Rattle.jobs.proofs.Holding.{upto_part, upto_whole}
+use Rattle.spool.specs.Window.{seen}
 
 -- what is written of a file that wasn't mapped
 unmapped_formed : (form : FileForm) (why : Bool) (name : List ℕ) (ended : Outcome) (lines : List ℕ) →
@@ -72,13 +73,13 @@ unmapped_cut Runs every name ended lines (Err e) out out' quiet run part = recor
 -- the line of a file that was mapped
 line_of : {Takes : Option (List ℕ) → Option (List ℕ) → List ℕ → Type 0} (every : Every) (file after : SpaceView)
     (MayFail : Type 0) (ask : Ask) (faults : FaultForm) (name : List ℕ) (status : Status) (out out' : Option (List ℕ))
-    → every.form ≡ Line faults → IsAskOf every.aim file.len ask → (HasRisen file.failures after.failures → MayFail)
+    → every.form ≡ Line faults → (HasRisen file.failures after.failures → MayFail)
     → (h : TellsFile faults (MapsUnder every.pickle ask every.terms file after) Takes name status out out')
-    → WritesRun (RunsOver every file MayFail) every name status (file_line faults name (in_memory h.ended) h.text)
-line_of every file after MayFail ask faults name status out out' form is may h = record {
+    → WritesRun (RunsOver every ask file MayFail) every name status (file_line faults name (in_memory h.ended) h.text)
+line_of every file after MayFail ask faults name status out out' form may h = record {
   ended = in_memory h.ended;
   text = h.text;
-  run = runs is may h.ends;
+  run = runs may h.ends;
   status_is = h.status_is;
   formed = subst
       (λ f. IsFormed f every.why name (in_memory h.ended) h.text (file_line faults name (in_memory h.ended) h.text))
@@ -87,52 +88,52 @@ line_of every file after MayFail ask faults name status out out' form is may h =
 
 pub line_written : (every : Every) (file after : SpaceView) (MayFail : Type 0) (ask : Ask) (faults : FaultForm)
     (name : List ℕ) (status : Status) (out out' out'' : Option (List ℕ))
-    → every.form ≡ Line faults → IsAskOf every.aim file.len ask → (HasRisen file.failures after.failures → MayFail)
+    → every.form ≡ Line faults → (HasRisen file.failures after.failures → MayFail)
     → TellsFile faults (MapsUnder every.pickle ask every.terms file after) Appends name status out out'
     → Keeps out' out''
-    → AppendsOver file MayFail every name out out'' status
-line_written every file after MayFail ask faults name status out out' out'' form is may h keeps = record {
+    → AppendsOver ask file MayFail every name out out'' status
+line_written every file after MayFail ask faults name status out out' out'' form may h keeps = record {
   line = file_line faults name (in_memory h.ended) h.text;
-  written = line_of every file after MayFail ask faults name status out out' form is may h;
+  written = line_of every file after MayFail ask faults name status out out' form may h;
   appends = Appends-keeps out out' out'' _ h.takes keeps;
 }
 
 -- that line, and an output that failed after it, or in it
 pub line_unflushed : (every : Every) (file after : SpaceView) (MayFail : Type 0) (ask : Ask) (faults : FaultForm)
     (name : List ℕ) (status : Status) (out out' out'' : Option (List ℕ))
-    → every.form ≡ Line faults → IsAskOf every.aim file.len ask → (HasRisen file.failures after.failures → MayFail)
+    → every.form ≡ Line faults → (HasRisen file.failures after.failures → MayFail)
     → TellsFile faults (MapsUnder every.pickle ask every.terms file after) Appends name status out out'
     → Keeps out' out''
-    → CutsOver file MayFail every name out out''
-line_unflushed every file after MayFail ask faults name status out out' out'' form is may h keeps = record {
+    → CutsOver ask file MayFail every name out out''
+line_unflushed every file after MayFail ask faults name status out out' out'' form may h keeps = record {
   status = status;
   line = file_line faults name (in_memory h.ended) h.text;
-  written = line_of every file after MayFail ask faults name status out out' form is may h;
+  written = line_of every file after MayFail ask faults name status out out' form may h;
   appends = upto_whole out out'' _ (Appends-keeps out out' out'' _ h.takes keeps);
 }
 
 pub line_cut : (every : Every) (file after : SpaceView) (MayFail : Type 0) (ask : Ask) (faults : FaultForm)
     (name : List ℕ) (status : Status) (out out' : Option (List ℕ))
-    → every.form ≡ Line faults → IsAskOf every.aim file.len ask → (HasRisen file.failures after.failures → MayFail)
+    → every.form ≡ Line faults → (HasRisen file.failures after.failures → MayFail)
     → TellsFile faults (MapsUnder every.pickle ask every.terms file after) AppendsPart name status out out'
-    → CutsOver file MayFail every name out out'
-line_cut every file after MayFail ask faults name status out out' form is may h = record {
+    → CutsOver ask file MayFail every name out out'
+line_cut every file after MayFail ask faults name status out out' form may h = record {
   status = status;
   line = file_line faults name (in_memory h.ended) h.text;
-  written = line_of every file after MayFail ask faults name status out out' form is may h;
+  written = line_of every file after MayFail ask faults name status out out' form may h;
   appends = upto_part out out' _ h.takes;
 }
 
 -- the object of a file that was mapped
 object_of : (every : Every) (file after : SpaceView) (MayFail : Type 0) (ask : Ask) (name lines : List ℕ) (kept : Kept)
-    (status : Status) → every.form ≡ Object → (every.why ≡ false → lines ≡ []) → IsAskOf every.aim file.len ask
+    (status : Status) → every.form ≡ Object → (every.why ≡ false → lines ≡ [])
     → (HasRisen file.failures after.failures → MayFail)
     → HoldsRun (MapsUnder every.pickle ask every.terms file after) kept → status ≡ outcome_status kept.outcome
-    → WritesRun (RunsOver every file MayFail) every name status (kept_object kept name lines)
-object_of every file after MayFail ask name lines kept status form quiet is may h same = record {
+    → WritesRun (RunsOver every ask file MayFail) every name status (kept_object kept name lines)
+object_of every file after MayFail ask name lines kept status form quiet may h same = record {
   ended = in_memory h.ended;
   text = kept.text.items;
-  run = runs is may h.ends;
+  run = runs may h.ends;
   status_is = same ∙ ap outcome_status h.outcome_is;
   formed = subst (λ f. IsFormed f every.why name (in_memory h.ended) kept.text.items (kept_object kept name lines))
       (sym form) (lines, quiet, ap (λ ended. file_object name ended kept.text.items lines) h.outcome_is);
@@ -140,32 +141,32 @@ object_of every file after MayFail ask name lines kept status form quiet is may 
 
 pub object_written : {E : Type 0} (every : Every) (file after : SpaceView) (MayFail : Type 0) (ask : Ask)
     (name lines : List ℕ) (kept : Kept) (r : Result Status E) (out out' : Option (List ℕ))
-    → every.form ≡ Object → (every.why ≡ false → lines ≡ []) → IsAskOf every.aim file.len ask
+    → every.form ≡ Object → (every.why ≡ false → lines ≡ [])
     → (HasRisen file.failures after.failures → MayFail)
     → HoldsRun (MapsUnder every.pickle ask every.terms file after) kept
     → IfOk r (λ status. status ≡ outcome_status kept.outcome) → OnOk r (Appends out out' (kept_object kept name lines))
-    → IfOk r (AppendsOver file MayFail every name out out')
-object_written every file after MayFail ask name lines kept (Err e) out out' form quiet is may h same whole = tt
-object_written every file after MayFail ask name lines kept (Ok status) out out' form quiet is may h same whole =
+    → IfOk r (AppendsOver ask file MayFail every name out out')
+object_written every file after MayFail ask name lines kept (Err e) out out' form quiet may h same whole = tt
+object_written every file after MayFail ask name lines kept (Ok status) out out' form quiet may h same whole =
     record {
       line = kept_object kept name lines;
-      written = object_of every file after MayFail ask name lines kept status form quiet is may h same;
+      written = object_of every file after MayFail ask name lines kept status form quiet may h same;
       appends = whole;
     }
 
 pub object_cut : {E : Type 0} (every : Every) (file after : SpaceView) (MayFail : Type 0) (ask : Ask)
     (name lines : List ℕ) (kept : Kept) (r : Result Status E) (out out' : Option (List ℕ))
-    → every.form ≡ Object → (every.why ≡ false → lines ≡ []) → IsAskOf every.aim file.len ask
+    → every.form ≡ Object → (every.why ≡ false → lines ≡ [])
     → (HasRisen file.failures after.failures → MayFail)
     → HoldsRun (MapsUnder every.pickle ask every.terms file after) kept
     → OnErr r (AppendsPart out out' (kept_object kept name lines))
-    → OnErr r (CutsOver file MayFail every name out out')
-object_cut every file after MayFail ask name lines kept (Ok status) out out' form quiet is may h part = tt
-object_cut every file after MayFail ask name lines kept (Err e) out out' form quiet is may h part = record {
+    → OnErr r (CutsOver ask file MayFail every name out out')
+object_cut every file after MayFail ask name lines kept (Ok status) out out' form quiet may h part = tt
+object_cut every file after MayFail ask name lines kept (Err e) out out' form quiet may h part = record {
   status = outcome_status kept.outcome;
   line = kept_object kept name lines;
   written =
-      object_of every file after MayFail ask name lines kept (outcome_status kept.outcome) form quiet is may h refl;
+      object_of every file after MayFail ask name lines kept (outcome_status kept.outcome) form quiet may h refl;
   appends = upto_part out out' _ part;
 }
 
@@ -177,43 +178,47 @@ fails_run gives every name fault (not_opened h) = unopened h
 fails_run gives every name fault no_pages = no_cache
 
 -- a file that is opened, of which a read may fail
-may_more : (every : Every) (file : SpaceView) (A B : Type 0) (ended : Outcome) (text : List ℕ) → (A → B)
-    → RunsOver every file A ended text → RunsOver every file B ended text
-may_more every file A B _ _ more (starts_nowhere none) = starts_nowhere none
-may_more every file A B _ _ more (runs {after = after} is may ends) =
-    runs {after = after} is (λ risen. more (may risen)) ends
+may_more : (every : Every) (ask : Ask) (file : SpaceView) (A B : Type 0) (ended : Outcome) (text : List ℕ) → (A → B)
+    → RunsOver every ask file A ended text → RunsOver every ask file B ended text
+may_more every ask file A B _ _ more (runs {after = after} may ends) =
+    runs {after = after} (λ risen. more (may risen)) ends
 
-opened_run : (gives : Gives) (every : Every) (name line : List ℕ) (file : SpaceView)
+opened_run : (gives : Gives) (every : Every) (name line : List ℕ) (file sight : SpaceView) (ask : Ask)
     (MayFail : Type 0) (status : Status)
-    → gives.is_file name every.spool file → (MayFail → gives.is_failing name)
-    → WritesRun (RunsOver every file MayFail) every name status line
+    → gives.is_file name every.spool file → IsAskOf every.aim file.len ask → sight ≡ seen every.window ask.start file
+    → (MayFail → gives.is_failing name)
+    → WritesRun (RunsOver every ask sight MayFail) every name status line
     → WritesRun (RunsFile gives every name) every name status line
-opened_run gives every name line file MayFail status is may written = record {
+opened_run gives every name line file sight ask MayFail status is asked same may written = record {
   ended = written.ended;
   text = written.text;
-  run = opened is (may_more every file MayFail (gives.is_failing name) written.ended written.text may written.run);
+  run = opened is asked (subst
+      (λ view. RunsOver every ask view (gives.is_failing name) written.ended written.text) same
+      (may_more every ask sight MayFail (gives.is_failing name) written.ended written.text may written.run));
   status_is = written.status_is;
   formed = written.formed;
 }
 
-pub opened_written : (gives : Gives) (every : Every) (name : List ℕ) (file : SpaceView) (MayFail : Type 0)
-    (out out' out'' : Option (List ℕ)) (status : Status) → gives.is_file name every.spool file
+pub opened_written : (gives : Gives) (every : Every) (name : List ℕ) (file sight : SpaceView) (ask : Ask)
+    (MayFail : Type 0) (out out' : Option (List ℕ)) (status : Status) → gives.is_file name every.spool file
+    → IsAskOf every.aim file.len ask → sight ≡ seen every.window ask.start file
     → (MayFail → gives.is_failing name)
-    → AppendsOver file MayFail every name out out' status → Keeps out' out''
-    → AppendsFile gives every name out out'' status
-opened_written gives every name file MayFail out out' out'' status is may h keeps = record {
+    → AppendsOver ask sight MayFail every name out out' status
+    → AppendsFile gives every name out out' status
+opened_written gives every name file sight ask MayFail out out' status is asked same may h = record {
   line = h.line;
-  written = opened_run gives every name h.line file MayFail status is may h.written;
-  appends = Appends-keeps out out' out'' h.line h.appends keeps;
+  written = opened_run gives every name h.line file sight ask MayFail status is asked same may h.written;
+  appends = h.appends;
 }
 
-pub opened_cut : (gives : Gives) (every : Every) (name : List ℕ) (file : SpaceView) (MayFail : Type 0)
-    (out out' : Option (List ℕ)) → gives.is_file name every.spool file → (MayFail → gives.is_failing name)
-    → CutsOver file MayFail every name out out' → CutsFile gives every name out out'
-opened_cut gives every name file MayFail out out' is may h = record {
+pub opened_cut : (gives : Gives) (every : Every) (name : List ℕ) (file sight : SpaceView) (ask : Ask)
+    (MayFail : Type 0) (out out' : Option (List ℕ)) → gives.is_file name every.spool file
+    → IsAskOf every.aim file.len ask → sight ≡ seen every.window ask.start file → (MayFail → gives.is_failing name)
+    → CutsOver ask sight MayFail every name out out' → CutsFile gives every name out out'
+opened_cut gives every name file sight ask MayFail out out' is asked same may h = record {
   status = h.status;
   line = h.line;
-  written = opened_run gives every name h.line file MayFail h.status is may h.written;
+  written = opened_run gives every name h.line file sight ask MayFail h.status is asked same may h.written;
   appends = h.appends;
 }
 

@@ -1,6 +1,6 @@
 -- What standard output holds where lines are due.
 use Rattle.std.proofs.Common.{◌≡◌, ◌≢◌, ◌∙◌, ℕ, List, [], ◌∷◌, ◌++◌, Option, Some, None, Ok, length, refl, sym, ap, subst, arith}
-use Rattle.std.proofs.KnownBytes.{Appends-nil, Appends-trans, Keeps-trans}
+use Rattle.std.proofs.KnownBytes.{Appends-trans}
 use Rattle.std.proofs.lemmas.List.{append-nil, append_assoc, length-append}
 use Rattle.std.specs.List.{concat}
 use Rattle.std.specs.Prelude.{IfNone}

@@ -1,4 +1,6 @@
 mod Holding
+mod Sighted
+mod Chosen
 mod Answered
 mod Mapped
 mod Dumped

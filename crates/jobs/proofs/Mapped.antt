@@ -1,25 +1,22 @@
 -- What standard output holds of a mapping over a space.
-use Rattle.std.proofs.Common.{◌≡◌, ◌<◌, ◌≤◌, ◌^◌, ℕ, Bool, true, List, [], Option, Some, None, IsSome, Ok, refl, sym, subst, arith}
-use Rattle.std.proofs.KnownBytes.{Keeps-refl, Keeps-trans}
-use Rattle.std.specs.Io.KnownBytes.{Appends, Keeps}
+use Rattle.std.proofs.Common.{◌≡◌, ◌≤◌, ℕ, Bool, true, List, Option, Ok, subst, arith}
+use Rattle.std.proofs.KnownBytes.{Keeps-trans}
+use Rattle.std.specs.Io.KnownBytes.{Keeps}
 use Rattle.bit_space.specs.SpaceView.{HasRisen, SpaceView}
 use Rattle.command_line.specs.declared.ask.Ask.{Ask}
 use Rattle.command_line.specs.declared.terms.Terms.{Terms}
 use Rattle.jobs.specs.Due.{DueRun, Holds}
 use Rattle.jobs.specs.Given.{AddsMet, adds_met, adds_none, cuts_met}
-use Rattle.jobs.specs.Jobs.{DueDump, DueSpace, EndsDump, dump_done, dump_due, dump_unread, dump_unwritten, front_due, met_due, run_due}
+use Rattle.jobs.specs.Jobs.{DueSpace, met_due, run_due}
 use Rattle.jobs.specs.declared.ending.Ending.TheVariants.{Run}
 use Rattle.jobs.proofs.Holding.{holds_more, keeps_before, keeps_before_part, part_keeps, part_text, run_holds, whole_text}
 use Rattle.poke_batch.specs.RunsUnder.{MapsRequested}
 use Rattle.run_parts.specs.Outcomes.{EndsAs, cuts, outcome_saying, outcome_status, reports, writes}
 use Rattle.run_parts.specs.Told.{Saying}
-use Rattle.run_parts.specs.declared.outcome.Failure.TheVariants as failure
 use Rattle.run_parts.specs.declared.outcome.Outcome.{Outcome}
-use Rattle.run_parts.specs.declared.outcome.Outcome.TheVariants as outcome
 use Rattle.run_parts.specs.declared.status.Status.{Status}
 use Rattle.run_parts.specs.declared.status.Status.TheVariants.{Done, Fault, Refused, Outside}
 use Rattle.text_output.proofs.Parts.{Appends-keeps}
-use Rattle.text_output.specs.Written.{AppendsPart}
 
 -- a run, after which nothing more is written
 pub ends_keep : (IsRight : Saying → Type 0) (ended : Outcome) (out mid out' : Option (List ℕ))

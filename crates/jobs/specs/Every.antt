@@ -22,6 +22,7 @@ abbrev pub every_of : Typed → Every
 every_of typed = record {
   pickle = typed.pickle.now.bytes.items;
   aim = aim_of typed.mapping;
+  window = typed.mapping.window;
   terms = typed.mapping.terms.now;
   spool = typed.mapping.spool;
   form = typed.form;

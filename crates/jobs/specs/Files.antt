@@ -25,6 +25,7 @@ use Rattle.text_output.specs.declared.mode.Mode.TheVariants.{Json}
 use Rattle.run_parts.specs.Told.{AppendsUpTo}
 use Rattle.run_parts.specs.declared.status.Status.{Status}
 use Rattle.run_parts.specs.declared.status.Status.TheVariants.{Done, Fault, Refused, Outside}
+use Rattle.spool.specs.Window.{seen}
 
 -- in JSON a file has an object, in other modes a line
 abbrev pub file_form : Mode → FaultForm → FileForm
@@ -41,11 +42,12 @@ rank Outside = 3
 abbrev pub greater : Status → Status → Status
 greater a b = if nat_lt (rank a) (rank b) then b else a
 
--- what the run of every file is given: the pickle, what is mapped and under which terms, how many bytes of a file
--- without a length are read, the form of what is written, and whether reasons are requested
+-- what the run of every file is given: the pickle, what is mapped and under which terms, after how many bytes a file
+-- ends, how many bytes of one without a length are read, the form of what is written, and whether reasons are requested
 pub record Every : Type 0 where
   pub pickle : List ℕ
   pub aim : Aim
+  pub window : Option ℕ
   pub terms : Terms
   pub spool : Option ℕ
   pub form : FileForm
@@ -57,13 +59,12 @@ IsFormed (Line faults) why name ended text line = line ≡ file_line faults name
 IsFormed Object why name ended text line =
     (reasons : List ℕ) × (why ≡ false → reasons ≡ []) × (line ≡ file_object name ended text reasons)
 
--- how the run over an open file ends, and the text that it writes; whether a read of the file may fail
-pub data RunsOver (every : Every) (file : SpaceView) (MayFail : Type 0) : Outcome → (text : List ℕ) → Type 0 where
-  starts_nowhere : start_bit every.aim.start file.len ≡ None → RunsOver every file MayFail outcome.Offset []
-  runs : {after : SpaceView} {ask : Ask} {ended : Outcome} {text : List ℕ} → IsAskOf every.aim file.len ask
-      → (HasRisen file.failures after.failures → MayFail)
+-- how the run over what is seen of an open file ends, and the text that it writes; whether a read may fail
+pub data RunsOver (every : Every) (ask : Ask) (file : SpaceView) (MayFail : Type 0) : Outcome →
+    (text : List ℕ) → Type 0 where
+  runs : {after : SpaceView} {ended : Outcome} {text : List ℕ} → (HasRisen file.failures after.failures → MayFail)
       → EndsAs (MapsUnder every.pickle ask every.terms file after) ended (Some []) (Some text)
-      → RunsOver every file MayFail (in_memory ended) text
+      → RunsOver every ask file MayFail (in_memory ended) text
 
 -- a line or an object is written of a run that is like this, with its exit status
 pub record WritesRun (Runs : Outcome → (text : List ℕ) → Type 0) (every : Every) (name : List ℕ) (status : Status)
@@ -81,8 +82,12 @@ module _ (gives : Gives) where
     unopened : {fault : FileFault} → gives.is_unopened name every.spool fault →
         RunsFile every name (outcome.Failed (failure_of fault)) []
     no_cache : RunsFile every name (outcome.Failed failure.Memory) []
-    opened : {file : SpaceView} {ended : Outcome} {text : List ℕ} → gives.is_file name every.spool file →
-        RunsOver every file (gives.is_failing name) ended text → RunsFile every name ended text
+    starts_nowhere : {file : SpaceView} → gives.is_file name every.spool file
+        → start_bit every.aim.start file.len ≡ None → RunsFile every name outcome.Offset []
+    opened : {file : SpaceView} {ask : Ask} {ended : Outcome} {text : List ℕ} → gives.is_file name every.spool file
+        → IsAskOf every.aim file.len ask
+        → RunsOver every ask (seen every.window ask.start file) (gives.is_failing name) ended text
+        → RunsFile every name ended text
 
   -- the lines that are written of files, one after the other, with the greatest exit status
   pub data WritesRuns (every : Every) : (names : List (List ℕ)) → Status → (lines : List (List ℕ)) → Type 0 where
@@ -107,13 +112,14 @@ pub record CutsRun (Runs : Outcome → (text : List ℕ) → Type 0) (every : Ev
   pub written : WritesRun Runs every name status line
   pub appends : AppendsUpTo out out' line
 
--- the same over an open file
-abbrev pub AppendsOver : SpaceView → (MayFail : Type 0) → Every → (name : List ℕ) → (out out' : Option (List ℕ)) →
-    Status → Type 0
-AppendsOver file MayFail every = AppendsRun (RunsOver every file MayFail) every
+-- the same over what is seen of an open file
+abbrev pub AppendsOver : Ask → SpaceView → (MayFail : Type 0) → Every → (name : List ℕ) →
+    (out out' : Option (List ℕ)) → Status → Type 0
+AppendsOver ask file MayFail every = AppendsRun (RunsOver every ask file MayFail) every
 
-abbrev pub CutsOver : SpaceView → (MayFail : Type 0) → Every → (name : List ℕ) → (out out' : Option (List ℕ)) → Type 0
-CutsOver file MayFail every = CutsRun (RunsOver every file MayFail) every
+abbrev pub CutsOver : Ask → SpaceView → (MayFail : Type 0) → Every → (name : List ℕ) →
+    (out out' : Option (List ℕ)) → Type 0
+CutsOver ask file MayFail every = CutsRun (RunsOver every ask file MayFail) every
 
 -- what is written of many files whose names are these, one after the other, with the greatest exit status
 pub record AppendsFiles (Writes : (names : List (List ℕ)) → Status → (lines : List (List ℕ)) → Type 0)

@@ -1,19 +1,22 @@
 -- What jobs give to their runs, and what these write.
-use Rattle.std.specs.Prelude.{◌≡◌, ◌≤◌, Bool, ℕ, List, Option, Some, IsSome, Result, Ok, Err, String, string_bytes}
+use Rattle.std.specs.Prelude.{◌≡◌, ◌≤◌, Bool, ℕ, List, Option, Some, IsSome, Result, Ok, Err, String, option_map, string_bytes}
 use Rattle.std.specs.Borrow.{Bor}
 use Rattle.std.specs.declared.alloc.Global.{Global}
 use Rattle.std.specs.Io.KnownBytes.{Appends, Keeps}
 use Rattle.bit_space.specs.SpaceView.{SpaceView}
 use Rattle.command_line.specs.declared.ask.Ask.{Ask}
+use Rattle.command_line.specs.declared.request.Request.{Request}
 use Rattle.command_line.specs.declared.terms.Terms.{Terms}
 use Rattle.command_line.specs.declared.answer_form.AnswerForm.{AnswerForm}
 use Rattle.command_line.specs.declared.words.Job.{Job}
 use Rattle.command_line.specs.declared.words.Job.TheVariants as job
+use Rattle.jobs.specs.Aims.{of_type}
+use Rattle.jobs.specs.Chosen.{chosen, first_order}
 use Rattle.jobs.specs.Due.{DueRun, End, Holds}
 use Rattle.jobs.specs.FaultNames.{list_failure}
 use Rattle.jobs.specs.Gives.{Gives}
 use Rattle.jobs.specs.Files.{Every}
-use Rattle.jobs.specs.Jobs.{DueCheckIn, DueFiles, DueSpace, DueTypesIn, HoldsDump}
+use Rattle.jobs.specs.Jobs.{DueBound, DueCheckIn, DueFiles, DueIfAny, DueMapping, DueSpace, DueTextBound, DueTypesIn, HoldsDump}
 use Rattle.jobs.specs.Names.{AreListed, AreListedFirst, AreNamed, AreNamedFirst, StopsList}
 use Rattle.jobs.specs.declared.dumps.Range.{Range}
 use Rattle.jobs.specs.declared.ending.Ending.{Ending}
@@ -23,7 +26,7 @@ use Rattle.jobs.specs.declared.fault.FileFault.TheVariants as fault
 use Rattle.jobs.specs.declared.names.ListFault.{ListFault}
 use Rattle.jobs.specs.declared.pickles.Question.{Question}
 use Rattle.jobs.specs.declared.pickles.Question.TheVariants as about
-use Rattle.poke_batch.specs.Runs.{BoundsAs}
+use Rattle.part_lists.specs.PartRuns.{PartsAs}
 use Rattle.run_parts.specs.Outcomes.{outcome_status}
 use Rattle.run_parts.specs.declared.dump.DumpFault.{DumpFault}
 use Rattle.run_parts.specs.declared.dump.DumpFault.TheVariants as dump
@@ -32,7 +35,6 @@ use Rattle.run_parts.specs.declared.outcome.Outcome.{Outcome}
 use Rattle.run_parts.specs.declared.outcome.Outcome.TheVariants as outcome
 use Rattle.run_parts.specs.declared.status.Status.{Status}
 use Rattle.run_parts.specs.declared.status.Status.TheVariants.{Fault}
-use Rattle.text_bounds.specs.TextRuns.{TextBoundsAs}
 use Rattle.text_output.specs.Written.{AppendsPart}
 use Rattle.text_output.specs.declared.mode.Mode.{Mode}
 use Rattle.text_output.specs.declared.style.Style.{Style}
@@ -43,12 +45,21 @@ abbrev pub HoldsRange : Gives → (path : List ℕ) → Range → (out out' : Op
 HoldsRange gives path range out out' = HoldsDump gives path range.from range.size range.ruler out out'
 
 -- what is due of a question about a pickle
-abbrev pub DueAnswer : (why : Bool) → Question → (pickle : List ℕ) → (lines : List (List ℕ)) → Option End → Type 0
-DueAnswer why (about.Check form) pickle = DueCheckIn why form pickle
-DueAnswer why (about.Types form) pickle = DueTypesIn why form pickle
-DueAnswer why (about.Bound name bits) pickle = DueRun (BoundsAs pickle name.now bits)
-DueAnswer why (about.BoundText name texts) pickle =
-    DueRun (TextBoundsAs pickle name.now texts.bits texts.style texts.mode)
+abbrev pub DueAnswer : (why : Bool) → (word : List ℕ) → Question → (pickle : List ℕ) → (lines : List (List ℕ)) →
+    Option End → Type 0
+DueAnswer why word (about.Check form) pickle = DueCheckIn why form pickle
+DueAnswer why word (about.Types form) pickle = DueTypesIn why form pickle
+DueAnswer why word (about.Parts name depth form) pickle = DueRun (PartsAs pickle name.now depth form)
+DueAnswer why word (about.Bound name bits) pickle = DueBound word name.now bits pickle
+DueAnswer why word (about.BoundText name texts) pickle =
+    DueTextBound word name.now texts.bits texts.style texts.mode pickle
+
+-- what is due of a request whose terms are settled, once its pickle says which type is mapped
+abbrev pub DueSettled : Gives → (why : Bool) → Request → (pickle : List ℕ) →
+    (lines : List (List ℕ)) → Option End → Type 0
+DueSettled gives why request pickle = DueIfAny (λ requested. DueMapping gives why requested request.over pickle)
+    (option_map (λ found. of_type request found.name (first_order request.order found.order) request.terms)
+    (chosen request.subject pickle))
 
 -- that question is the one of a job, about the pickle that an argument names
 pub data IsAskedAbout (form : AnswerForm) (word : List ℕ) : Job → Question → Type 0 where
@@ -56,6 +67,9 @@ pub data IsAskedAbout (form : AnswerForm) (word : List ℕ) : Job → Question �
       IsAskedAbout form word (job.Check pickle) (about.Check form)
   of_types : {pickle : String Global} → word ≡ string_bytes pickle →
       IsAskedAbout form word (job.Types pickle) (about.Types form)
+  of_parts : {pickle name : String Global} {depth : Option ℕ} (given : Bor (List ℕ)) → word ≡ string_bytes pickle
+      → given.now ≡ string_bytes name
+      → IsAskedAbout form word (job.Parts pickle name depth) (about.Parts given depth form)
   of_bound : {pickle name : String Global} {bits : ℕ} (given : Bor (List ℕ)) → word ≡ string_bytes pickle
       → given.now ≡ string_bytes name
       → IsAskedAbout form word (job.Bound pickle name bits) (about.Bound given bits)
@@ -74,6 +88,7 @@ IsOverFiles (job.Bound pickle name bits) = ⊥
 IsOverFiles (job.BoundText pickle name bits mode style) = ⊥
 IsOverFiles (job.Check pickle) = ⊥
 IsOverFiles (job.Types pickle) = ⊥
+IsOverFiles (job.Parts pickle name depth) = ⊥
 
 -- a run over a space whose view is so afterwards; the view at the run's end has no more failures
 pub record MapsSpace (pickle : List ℕ) (ask : Ask) (terms : Terms) (space space' : SpaceView) (why : Bool)

@@ -1,20 +1,23 @@
 -- What each job is due to write to standard output, and how it ends then, by what an opener gives for its arguments.
-use Rattle.std.specs.Prelude.{◌≡◌, ◌≢◌, ◌<◌, ℕ, Bool, true, false, List, [], ◌∷◌, ◌++◌, Option, Some, None, IsSome, Result, Ok, Err, length, codes, string_bytes}
+use Rattle.std.specs.Prelude.{◌≡◌, ◌≢◌, ◌<◌, ℕ, Bool, true, List, [], ◌∷◌, ◌++◌, Option, Some, None, IsSome, Result, Ok, Err, length, codes, string_bytes}
 use Rattle.std.specs.Io.KnownBytes.{Keeps}
 use Rattle.bit_space.specs.SpaceView.{HasRisen, SpaceView}
 use Rattle.command_line.specs.Found.{no_terms}
 use Rattle.command_line.specs.Starts.{start_bit}
+use Rattle.command_line.specs.Subjects.{pickle_of}
 use Rattle.command_line.specs.declared.answer_form.AnswerForm.{AnswerForm}
 use Rattle.command_line.specs.declared.answer_form.AnswerForm.TheVariants as answer
 use Rattle.command_line.specs.declared.ask.Ask.{Ask}
 use Rattle.command_line.specs.declared.request.FileNames.{FileNames}
 use Rattle.command_line.specs.declared.request.Over.{Over}
 use Rattle.command_line.specs.declared.request.Over.TheVariants.{File, Files}
+use Rattle.command_line.specs.declared.request.Request.{Request}
 use Rattle.command_line.specs.declared.terms.Terms.{Terms}
 use Rattle.command_line.specs.declared.words.Asked.{Asked}
 use Rattle.command_line.specs.declared.words.Job.{Job}
 use Rattle.command_line.specs.declared.words.Job.TheVariants as job
 use Rattle.jobs.specs.Aims.{IsAskOf, Requested, of_request, plain_request}
+use Rattle.jobs.specs.Chosen.{bound_type}
 use Rattle.jobs.specs.Due.{DueOver, DueRun, End, Holds}
 use Rattle.jobs.specs.Files.{Every, WritesRuns, file_form}
 use Rattle.jobs.specs.Gives.{Gives}
@@ -27,6 +30,7 @@ use Rattle.pickle_json.specs.Checks.{ChecksInJson}
 use Rattle.pickle_json.specs.TypeObjects.{TypesInJson}
 use Rattle.poke_batch.specs.FileObject.{lines_json, text_lines}
 use Rattle.pickle_types.specs.Types.{PokeType}
+use Rattle.part_lists.specs.PartRuns.{PartsAs}
 use Rattle.poke_batch.specs.Runs.{ChecksAs, BoundsAs, IsAsked}
 use Rattle.poke_batch.specs.RunsUnder.{HasNoRun, MapsRequested}
 use Rattle.type_parts.specs.CanHave.{can_have_requested}
@@ -42,8 +46,11 @@ use Rattle.run_parts.specs.declared.outcome.Failure.TheVariants as failure
 use Rattle.run_parts.specs.declared.outcome.Outcome.{Outcome}
 use Rattle.run_parts.specs.declared.outcome.Outcome.TheVariants as outcome
 use Rattle.run_parts.specs.declared.status.Status.{Status}
-use Rattle.run_parts.specs.declared.status.Status.TheVariants.{Done, Fault}
+use Rattle.run_parts.specs.declared.status.Status.TheVariants.{Done, Fault, Refused}
 use Rattle.text_bounds.specs.TextRuns.{TextBoundsAs}
+use Rattle.text_output.specs.declared.mode.Mode.{Mode}
+use Rattle.text_output.specs.declared.style.Style.{Style}
+use Rattle.spool.specs.Window.{seen}
 
 -- lines that explain an outcome, as a member of the object that reports it, if there are any
 abbrev pub some_notes : (lines : List ℕ) → List ℕ
@@ -91,6 +98,7 @@ abbrev pub every_for : (why : Bool) → Requested → (pickle : List ℕ) → Ev
 every_for why requested pickle = record {
   pickle = pickle;
   aim = requested.aim;
+  window = requested.window;
   terms = requested.terms;
   spool = requested.spool;
   form = file_form requested.aim.mode requested.faults;
@@ -106,6 +114,24 @@ pub data DueSpace (pickle : List ℕ) (ask : Ask) (terms : Terms) (file after : 
   met_due : {ended : Outcome} (met : List ℕ) → MapsRequested pickle ask terms file after (outcome_saying ended)
       → outcome_status ended ≡ Fault → why ≡ true → IsSome terms.look
       → DueSpace pickle ask terms file after why (met ∷ []) (Some (Ok (Run ended)))
+
+-- of what the head of a pickle says: nothing but a usage error if it doesn't say that
+pub data DueIfAny {A : Type 0} (Due : A → (lines : List (List ℕ)) → Option End → Type 0) : Option A →
+    (lines : List (List ℕ)) → Option End → Type 0 where
+  due_of : {found : A} {lines : List (List ℕ)} {end : Option End} → Due found lines end →
+      DueIfAny Due (Some found) lines end
+  usage_due : DueIfAny Due None [] (Some (Ok (Silent Refused)))
+  usage_unwritten : DueIfAny Due None [] (Some (Ok (Run (outcome.Failed failure.Memory))))
+
+-- of bounds of a type over so many bits, and of the bound of its text, by the arguments for the pickle and for the type
+abbrev pub DueBound : (word name : List ℕ) (bits : ℕ) → (pickle : List ℕ) →
+    (lines : List (List ℕ)) → Option End → Type 0
+DueBound word name bits pickle = DueIfAny (λ type. DueRun (BoundsAs pickle type bits)) (bound_type word name pickle)
+
+abbrev pub DueTextBound : (word name : List ℕ) (bits : ℕ) → Style → Option Mode → (pickle : List ℕ) →
+    (lines : List (List ℕ)) → Option End → Type 0
+DueTextBound word name bits style mode pickle =
+    DueIfAny (λ type. DueRun (TextBoundsAs pickle type bits style mode)) (bound_type word name pickle)
 
 -- of files: a line for each, and the greatest exit status; before the rest of them, or if a name is lacking, a line for
 -- each of the first
@@ -136,7 +162,7 @@ module _ (gives : Gives) (why : Bool) where
     maps : {file after : SpaceView} {lines : List (List ℕ)} {end : Option End} (ask : Ask)
         → gives.is_file path requested.spool file → IsAskOf requested.aim file.len ask
         → (HasRisen file.failures after.failures → gives.is_failing path)
-        → DueSpace pickle ask requested.terms file after why lines end
+        → DueSpace pickle ask requested.terms (seen requested.window ask.start file) after why lines end
         → DueFile requested path pickle lines end
     unopened : {fault : FileFault} → gives.is_unopened path requested.spool fault →
         DueFile requested path pickle [] (Some (Err fault))
@@ -152,22 +178,30 @@ module _ (gives : Gives) (why : Bool) where
         → can_have_requested requested.terms type ≡ true
         → DueNamed gives (every_for why requested pickle) files lines end → DueEach requested files pickle lines end
 
-  -- of a requested mapping
-  abbrev pub DueRequest : Requested → Over → (lines : List (List ℕ)) → Option End → Type 0
-  DueRequest requested (File file) = DueOver gives requested.pickle (DueFile requested (string_bytes file))
-  DueRequest requested (Files files flush) = DueOver gives requested.pickle (DueEach requested files)
+  -- of a requested mapping over one file, or over many
+  abbrev pub DueMapping : Requested → Over → (pickle : List ℕ) → (lines : List (List ℕ)) → Option End → Type 0
+  DueMapping requested (File file) = DueFile requested (string_bytes file)
+  DueMapping requested (Files files flush) = DueEach requested files
+
+  -- of a request, once the pickle says which type is mapped
+  abbrev pub DueRequest : Request → (lines : List (List ℕ)) → Option End → Type 0
+  DueRequest request = DueOver gives (pickle_of request.subject) (λ pickle.
+      DueIfAny (λ requested. DueMapping requested request.over pickle) (of_request request pickle))
 
   -- of each job that isn't a dump
   abbrev pub DueJob : Job → AnswerForm → (lines : List (List ℕ)) → Option End → Type 0
   DueJob (job.Map at order limit mode pickle name file) form =
-      DueRequest (plain_request (string_bytes pickle) (string_bytes name) at order limit mode no_terms) (File file)
-  DueJob (job.Request request) form = DueRequest (of_request request) request.over
+      DueOver gives (string_bytes pickle)
+      (DueFile (plain_request (string_bytes name) at order limit mode no_terms) (string_bytes file))
+  DueJob (job.Request request) form = DueRequest request
   DueJob (job.Bound pickle name bits) form =
-      DueOver gives (string_bytes pickle) (λ bytes. DueRun (BoundsAs bytes (string_bytes name) bits))
+      DueOver gives (string_bytes pickle) (DueBound (string_bytes pickle) (string_bytes name) bits)
   DueJob (job.BoundText pickle name bits mode style) form =
-      DueOver gives (string_bytes pickle) (λ bytes. DueRun (TextBoundsAs bytes (string_bytes name) bits style mode))
+      DueOver gives (string_bytes pickle) (DueTextBound (string_bytes pickle) (string_bytes name) bits style mode)
   DueJob (job.Check pickle) form = DueOver gives (string_bytes pickle) (DueCheckIn why form)
   DueJob (job.Types pickle) form = DueOver gives (string_bytes pickle) (DueTypesIn why form)
+  DueJob (job.Parts pickle name depth) form =
+      DueOver gives (string_bytes pickle) (λ bytes. DueRun (PartsAs bytes (string_bytes name) depth form))
   DueJob job.Formats form = λ lines end. ⊥
   DueJob (job.Dump from size ruler file) form = λ lines end. ⊥
 

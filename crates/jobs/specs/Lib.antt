@@ -1,3 +1,4 @@
+pub mod Chosen
 pub mod Aims
 pub mod FaultNames
 pub mod Gives

@@ -1,7 +1,7 @@
 //! A type of a pickle, mapped over many files, whose names are in the arguments or in a list.
 ghost use Rattle.std.specs.Prelude.{◌≡◌, Ok};
 ghost use Rattle.jobs.specs.Aims.{of_mapping};
-ghost use Rattle.jobs.specs.Due.{DueOver, Holds};
+ghost use Rattle.jobs.specs.Due.{Holds};
 ghost use Rattle.jobs.specs.Every.{IsTyped, every_of};
 ghost use Rattle.jobs.specs.Files.{greater, rank};
 ghost use Rattle.jobs.specs.Given.{HoldsList, HoldsWords, files_ending};
@@ -9,7 +9,6 @@ ghost use Rattle.jobs.specs.Jobs.{DueEach, DueNamed};
 
 use crate::aside::Aside;
 use crate::ending::Ending;
-use crate::fault::FileFault;
 use crate::file_run::{FileForm, Typed, flush, run_name};
 use crate::names::{ListFault, read_name};
 use crate::opener::{NamedPickle, Opener};
@@ -23,27 +22,10 @@ use poke_batch::status::Status;
 use std::alloc::Global;
 use std::io::{BufReader, Read, Write};
 
-/// Maps a type of a pickle over many files, and writes a line for each. Ends with the greatest exit status of all.
+/// Maps a type of a pickle that was read over many files, and writes a line for each. Ends with the greatest exit status
+/// of all.
 #[inline(never)]
-pub fn map_files<P: Opener, A: Aside, O: Write>(
-    alloc: Global,
-    opener: &P,
-    mapping: Mapping<'_>,
-    names: &FileNames,
-    out: &mut O,
-    aside: &mut A,
-    why: &mut Why<'_>,
-) -> Result<Ending, FileFault>
-    ensures { let requested = of_mapping mapping.entry in
-        let due = DueEach (P.gives opener.now) why.old.asked requested names.now in
-        Holds (DueOver (P.gives opener.now) requested.pickle due) (O.contents out.old) (O.contents out.new) result }
-{
-    let pickle = opener.read_pickle(mapping.pickle)?;
-    Ok(map_each(alloc, opener, mapping, &pickle, names, out, aside, why))
-}
-
-// Maps a type of a pickle that was read over many files.
-fn map_each<P: Opener, A: Aside, O: Write>(
+pub fn map_each<P: Opener, A: Aside, O: Write>(
     alloc: Global,
     opener: &P,
     mapping: Mapping<'_>,

@@ -18,15 +18,17 @@ use crate::settings::Mapping;
 use crate::why::reasons_of;
 use bit_space::{OpenFault, Paged, Space};
 use pickle_types::table::{Table, TypeId};
+use poke_batch::ask::Ask;
 use poke_batch::each::{Kept, map_file, run_file};
 use poke_batch::fault_form::FaultForm;
 use poke_batch::file_line::{put_file_line, put_name};
 use poke_batch::file_object::put_file_object;
 use poke_batch::mode::Mode;
-use poke_batch::outcome::Outcome;
+use poke_batch::outcome::{Failure, Outcome};
 use poke_batch::status::Status;
 use poke_batch::type_run::TypeRun;
 use poke_batch::write::{WriteFault, put};
+use spool::Window;
 use std::alloc::Global;
 use std::io::Write;
 
@@ -83,7 +85,7 @@ pub fn run_name<P: Opener, A: Aside, O: Write>(
 {
     aside.show();
     let status = match open_named(opener, typed, name) {
-        Ok(mut space) => run_space(typed, kept, name, &mut space, aside, out)?,
+        Ok(bytes) => run_opened(opener, typed, kept, name, bytes, aside, out)?,
         Err(fault) => run_unopened(opener, typed, name, fault, aside, out)?,
     };
     if typed.mapping.flush {
@@ -95,20 +97,45 @@ pub fn run_name<P: Opener, A: Aside, O: Write>(
 }
 
 // Opens the file of a name.
-fn open_named<P: Opener>(
-    opener: &P,
-    typed: Typed<'_>,
-    name: &[u8],
-) -> Result<Paged<P::Bytes>, FileFault>
+fn open_named<P: Opener>(opener: &P, typed: Typed<'_>, name: &[u8]) -> Result<P::Bytes, FileFault>
     ensures ok { IfOk result
-        (λ space. (P.gives opener.now).is_file name.now typed.entry.mapping.spool (P.Bytes.view space)) }
+        (λ bytes. (P.gives opener.now).is_file name.now typed.entry.mapping.spool (P.Bytes.view bytes)) }
     ensures err { IfErr result (FailsNamed (P.gives opener.now) name.now typed.entry.mapping.spool) }
 {
-    let Ok(path) = str::from_utf8(name) else {
-        return Err(OpenFault::NotOpened.into());
+    match str::from_utf8(name) {
+        Ok(path) => opener.open(path, typed.mapping.spool, false),
+        Err(_) => Err(OpenFault::NotOpened.into()),
+    }
+}
+
+// Maps a type over a file that was opened, as far as the mapping sees it, and writes the run in its form.
+fn run_opened<P: Opener, A: Aside, O: Write>(
+    opener: &P,
+    typed: Typed<'_>,
+    kept: &mut Kept,
+    name: &[u8],
+    bytes: P::Bytes,
+    aside: &mut A,
+    out: &mut O,
+) -> Result<Status, WriteFault>
+    requires typed { IsTyped typed }
+    requires ready { IsReady (nodes_of typed.table.now) typed.mapping.terms.now.most_slots kept.old }
+    requires opened { (P.gives opener.now).is_file name.now typed.mapping.spool (P.Bytes.view bytes) }
+    ensures ready { IsReady (nodes_of typed.entry.table.now) typed.entry.mapping.terms.now.most_slots kept.new }
+    ensures ok { IfOk result
+        (AppendsFile (P.gives opener.now) (every_of typed.entry) name.now (O.contents out.old) (O.contents out.new)) }
+    ensures err { OnErr result
+        (CutsFile (P.gives opener.now) (every_of typed.entry) name.now (O.contents out.old) (O.contents out.new)) }
+{
+    let Some(ask) = typed.mapping.ask_in(&bytes) else {
+        return put_unmapped(typed.form, name, Outcome::Offset, b"", out);
     };
-    let bytes = opener.open(path, typed.mapping.spool, false)?;
-    Ok(Paged::new(typed.alloc, bytes)?)
+    let window = Window::from_start(bytes, ask.start, typed.mapping.window);
+    let Ok(mut space) = Paged::new(typed.alloc, window) else {
+        let outcome = Outcome::Failed(Failure::Memory);
+        return put_unmapped(typed.form, name, outcome, b"", out);
+    };
+    run_space(typed, &ask, kept, name, &mut space, aside, out)
 }
 
 /// Writes what waits to be written.
@@ -187,9 +214,10 @@ fn put_line(lines: &mut Vec<u8>, reason: &str) -> Result<(), WriteFault> {
     put(lines, b"\n")
 }
 
-// Maps a type over an open file, and writes the run in its form.
+// Maps a type over what is seen of an open file, and writes the run in its form.
 fn run_space<S: Space, A: Aside, O: Write>(
     typed: Typed<'_>,
+    ask: &Ask<'_>,
     kept: &mut Kept,
     name: &[u8],
     space: &mut S,
@@ -198,22 +226,21 @@ fn run_space<S: Space, A: Aside, O: Write>(
 ) -> Result<Status, WriteFault>
     requires typed { IsTyped typed }
     requires ready { IsReady (nodes_of typed.table.now) typed.mapping.terms.now.most_slots kept.old }
+    requires asked { ask.now.name.now ≡ typed.mapping.name.now }
     ensures ready { IsReady (nodes_of typed.entry.table.now) typed.entry.mapping.terms.now.most_slots kept.new }
     ensures ok { let risen = HasRisen (S.view space.old).failures (S.view space.new).failures in IfOk result
-        (AppendsOver (S.view space.old) risen (every_of typed.entry) name.now (O.contents out.old)
+        (AppendsOver ask.now (S.view space.old) risen (every_of typed.entry) name.now (O.contents out.old)
         (O.contents out.new)) }
     ensures err { let risen = HasRisen (S.view space.old).failures (S.view space.new).failures in OnErr result
-        (CutsOver (S.view space.old) risen (every_of typed.entry) name.now (O.contents out.old) (O.contents out.new)) }
+        (CutsOver ask.now (S.view space.old) risen (every_of typed.entry) name.now (O.contents out.old)
+        (O.contents out.new)) }
     ensures keeps { SpaceKeeps (S.view space.old) (S.view space.new) }
 {
-    let Some(ask) = typed.mapping.ask_in(space) else {
-        return put_unmapped(typed.form, name, Outcome::Offset, b"", out);
-    };
     let run = TypeRun {
         alloc: typed.alloc,
         table: typed.table,
         id: typed.id,
-        ask: &ask,
+        ask,
         terms: typed.mapping.terms,
     };
     match typed.form {

@@ -6,18 +6,19 @@
 
 mod answers;
 pub mod aside;
+pub mod by_head;
 mod dumps;
 pub mod each;
 pub mod ending;
 pub mod fault;
 pub mod file_run;
-pub mod head;
 pub mod names;
 pub mod one_file;
 pub mod opener;
 mod pickles;
 pub mod run;
 pub mod settings;
+mod usage;
 pub mod why;
 
 pub use answers::report_in_json;

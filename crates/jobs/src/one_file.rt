@@ -2,19 +2,19 @@
 ghost use Rattle.std.specs.Prelude.{◌≡◌};
 ghost use Rattle.bit_space.specs.SpaceView.{Keeps};
 ghost use Rattle.jobs.specs.Aims.{of_mapping};
-ghost use Rattle.jobs.specs.Due.{DueOver, Holds};
+ghost use Rattle.jobs.specs.Due.{Holds};
 ghost use Rattle.jobs.specs.Endings.{is_mapped};
 ghost use Rattle.jobs.specs.Given.{AddsMet, MapsSpace};
 ghost use Rattle.jobs.specs.Jobs.{DueFile};
 
 use crate::ending::Ending;
 use crate::fault::FileFault;
-use crate::head::wants_little;
 use crate::opener::{NamedPickle, Opener};
 use crate::settings::Mapping;
 use crate::why::{Why, explain, explain_parts, reasons_of};
 use bit_space::{Order, Paged, Space};
 use command_line::start::Start;
+use pickle_heads::head_of;
 use poke_batch::ask::Ask;
 use poke_batch::outcome::{Failure, Outcome};
 use poke_batch::resolve::{refuse_parts, resolve};
@@ -22,36 +22,37 @@ use poke_batch::status::Status;
 use poke_batch::terms::Terms;
 use poke_batch::type_run::TypeRun;
 use poke_batch::write::{WriteFault, put};
+use spool::Window;
 use std::alloc::Global;
 use std::io::Write;
 
 /// How the name of a pickle's file ends.
 const PICKLE_ENDING: &str = ".pk";
 
-/// Maps a type of a pickle over the file at a path.
+/// Maps a type of a pickle that was read over the file at a path.
 #[inline(never)]
 pub fn map_file<P: Opener, O: Write>(
     alloc: Global,
     opener: &P,
     mapping: Mapping<'_>,
+    pickle: &NamedPickle,
     path: &str,
     out: &mut O,
     why: &mut Why<'_>,
 ) -> Result<Ending, FileFault>
-    ensures { let requested = of_mapping mapping.entry in
-        let due = DueFile (P.gives opener.now) why.old.asked requested path.now in
-        Holds (DueOver (P.gives opener.now) requested.pickle due) (O.contents out.old) (O.contents out.new) result }
+    ensures { let due = DueFile (P.gives opener.now) why.old.asked (of_mapping mapping.entry) path.now in
+        Holds (due pickle.now.bytes.items) (O.contents out.old) (O.contents out.new) result }
 {
-    let pickle = opener.read_pickle(mapping.pickle)?;
     let bytes = opener.open(path, mapping.spool, mapping.progress)?;
-    let mut space = Paged::new(alloc, bytes)?;
-    let Some(ask) = &mapping.ask_in(&space) else {
-        tell_start(alloc, why, mapping.start, space.len());
+    let Some(ask) = &mapping.ask_in(&bytes) else {
+        tell_start(alloc, why, mapping.start, bytes.len());
         return Ok(Ending::Run(Outcome::Offset));
     };
-    let outcome = map_space(alloc, &pickle, ask, mapping.terms, &mut space, out, why);
+    let window = Window::from_start(bytes, ask.start, mapping.window);
+    let mut space = Paged::new(alloc, window)?;
+    let outcome = map_space(alloc, pickle, ask, mapping.terms, &mut space, out, why);
     if outcome.status() == Status::Fault {
-        tell_arguments(path, ask.order, &pickle, why);
+        tell_arguments(path, ask.order, pickle, why);
     }
     Ok(Ending::Run(outcome))
 }
@@ -148,7 +149,8 @@ fn tell_arguments(path: &str, order: Order, pickle: &NamedPickle, why: &mut Why<
             b"  FILE ends in .pk: are PICKLE and FILE swapped?\n",
         );
     }
-    if order == Order::Big && wants_little(&pickle.bytes) {
+    let head = head_of(b"", &pickle.bytes);
+    if order == Order::Big && head.options.order == Some(Order::Little) {
         tell(why.text, b"  the pickle's head says: --endian little\n");
     }
 }

@@ -4,6 +4,7 @@ ghost use Rattle.std.specs.Prelude.{◌≡◌, ℕ, List, Option, IfOk, IfErr, I
 ghost use Rattle.bit_space.specs.SpaceView.{HasRisen, Keeps};
 ghost use Rattle.jobs.specs.Gives.{Gives};
 ghost use Rattle.jobs.specs.Opened.{lengthless_with};
+ghost use Rattle.spool.specs.Window.{cut_at};
 
 use crate::fault::FileFault;
 use bit_space::Space;
@@ -73,9 +74,10 @@ pub trait Opener {
     /// Why the file at a path isn't opened, in words.
     fn reason(&self, path: &str, lengthless: Lengthless) -> &'static str;
 
-    /// A read fails only of a file of which one may fail: of another, a space that was opened has no more failures later.
-    ghost failing: { (o : Self) (path : List ℕ) (spool : Option ℕ) (space after : Self.Bytes)
+    /// A read fails only of a file of which one may fail: of another, a space that was opened has no more failures later,
+    /// as far as it is seen.
+    ghost failing: { (o : Self) (path : List ℕ) (spool : Option ℕ) (space after : Self.Bytes) (end end' : ℕ)
         → (gives o).is_file path spool (Self.Bytes.view space)
-        → Keeps (Self.Bytes.view space) (Self.Bytes.view after)
+        → Keeps (cut_at end (Self.Bytes.view space)) (cut_at end' (Self.Bytes.view after))
         → HasRisen (Self.Bytes.view space).failures (Self.Bytes.view after).failures → (gives o).is_failing path };
 }

@@ -2,14 +2,18 @@
 ghost use Rattle.std.specs.Prelude.{◌≡◌, IfNone, IfSome, Ok};
 ghost use Rattle.jobs.specs.Due.{DueOver, Holds};
 ghost use Rattle.jobs.specs.Given.{DueAnswer, IsAskedAbout, IsOverFiles};
+ghost use Rattle.jobs.specs.Jobs.{DueBound, DueTextBound};
 ghost use Rattle.jobs.specs.declared.ending.Ending.TheVariants.{Run};
 
 use crate::answers::{check_in_json, types_in_json};
+use crate::by_head::bound_type;
 use crate::ending::Ending;
 use crate::fault::FileFault;
 use crate::opener::{NamedPickle, Opener};
+use crate::usage::refuse;
 use crate::why::{Why, explain, warn};
 use command_line::answer_form::AnswerForm;
+use part_lists::run::parts_outcome;
 use poke_batch::outcome::Outcome;
 use poke_batch::run::{bound_outcome, check_outcome};
 use poke_batch::types::types_outcome;
@@ -26,10 +30,22 @@ pub enum Question<'a> {
     Check(AnswerForm),
     /// The types that it declares, in a form.
     Types(AnswerForm),
+    /// The parts that values of a type can have, to at most so many levels or to all, in a form.
+    Parts {
+        name: &'a [u8],
+        depth: Option<u64>,
+        form: AnswerForm,
+    },
     /// The bounds of a mapping of a type over so many bits.
-    Bound { name: &'a [u8], bits: u64 },
+    Bound {
+        name: &'a [u8],
+        bits: u64,
+    },
     /// The same bounds, and the most bytes of the printed value.
-    BoundText { name: &'a [u8], texts: Texts },
+    BoundText {
+        name: &'a [u8],
+        texts: Texts,
+    },
 }
 
 /// The question of a job that reads a pickle alone, and the argument that names the pickle.
@@ -40,6 +56,18 @@ pub fn question_of(asked: &Asked) -> Option<(&str, Question<'_>)>
     match &asked.job {
         Job::Check { pickle } => Some((pickle, Question::Check(asked.answer))),
         Job::Types { pickle } => Some((pickle, Question::Types(asked.answer))),
+        Job::Parts {
+            pickle,
+            name,
+            depth,
+        } => {
+            let question = Question::Parts {
+                name: name.as_bytes(),
+                depth: *depth,
+                form: asked.answer,
+            };
+            Some((pickle, question))
+        }
         Job::Bound { pickle, name, bits } => {
             let name = name.as_bytes();
             Some((pickle, Question::Bound { name, bits: *bits }))
@@ -73,22 +101,23 @@ pub fn answer_about<P: Opener, O: Write>(
     out: &mut O,
     why: &mut Why<'_>,
 ) -> Result<Ending, FileFault>
-    ensures { Holds (DueOver (P.gives opener.now) word.now (DueAnswer why.old.asked question.entry))
+    ensures { Holds (DueOver (P.gives opener.now) word.now (DueAnswer why.old.asked word.now question.entry))
         (O.contents out.old) (O.contents out.new) result }
 {
     let pickle = opener.read_pickle(word)?;
-    Ok(answer(alloc, &pickle, question, out, why))
+    Ok(answer(alloc, &pickle, word, question, out, why))
 }
 
 // Answers a question about a pickle.
 fn answer<O: Write>(
     alloc: Global,
     pickle: &NamedPickle,
+    word: &str,
     question: Question<'_>,
     out: &mut O,
     why: &mut Why<'_>,
 ) -> Ending
-    ensures { Holds (DueAnswer why.old.asked question.entry pickle.now.bytes.items)
+    ensures { Holds (DueAnswer why.old.asked word.now question.entry pickle.now.bytes.items)
         (O.contents out.old) (O.contents out.new) (Ok result) }
 {
     match question {
@@ -103,14 +132,58 @@ fn answer<O: Write>(
             let outcome = types_outcome(alloc, &pickle.bytes, out);
             end_in_words(alloc, outcome, pickle, b"", why)
         }
-        Question::Bound { name, bits } => {
+        Question::Parts { name, depth, form } => {
+            let outcome = parts_outcome(alloc, &pickle.bytes, name, depth, form, out);
+            end_in_words(alloc, outcome, pickle, name, why)
+        }
+        Question::Bound { name, bits } => answer_bound(alloc, pickle, word, name, bits, out, why),
+        Question::BoundText { name, texts } => {
+            answer_text_bound(alloc, pickle, word, name, texts, out, why)
+        }
+    }
+}
+
+// Prints the bounds of a mapping of a type over so many bits.
+fn answer_bound<O: Write>(
+    alloc: Global,
+    pickle: &NamedPickle,
+    word: &str,
+    name: &[u8],
+    bits: u64,
+    out: &mut O,
+    why: &mut Why<'_>,
+) -> Ending
+    ensures { Holds (DueBound word.now name.now bits pickle.now.bytes.items)
+        (O.contents out.old) (O.contents out.new) (Ok result) }
+{
+    match bound_type(word, name, &pickle.bytes) {
+        Ok(name) => {
             let outcome = bound_outcome(alloc, &pickle.bytes, name, bits, out);
             end_in_words(alloc, outcome, pickle, name, why)
         }
-        Question::BoundText { name, texts } => {
+        Err(missing) => refuse(why, word, missing),
+    }
+}
+
+// Prints the same bounds, and the most bytes of the printed value.
+fn answer_text_bound<O: Write>(
+    alloc: Global,
+    pickle: &NamedPickle,
+    word: &str,
+    name: &[u8],
+    texts: Texts,
+    out: &mut O,
+    why: &mut Why<'_>,
+) -> Ending
+    ensures { Holds (DueTextBound word.now name.now texts.bits texts.style texts.mode pickle.now.bytes.items)
+        (O.contents out.old) (O.contents out.new) (Ok result) }
+{
+    match bound_type(word, name, &pickle.bytes) {
+        Ok(name) => {
             let outcome = bound_text_outcome(alloc, &pickle.bytes, name, texts, out);
             end_in_words(alloc, outcome, pickle, name, why)
         }
+        Err(missing) => refuse(why, word, missing),
     }
 }
 

@@ -1,21 +1,23 @@
 //! A job, done over an opener and a writer.
-ghost use Rattle.std.specs.Prelude.{◌≡◌};
+ghost use Rattle.std.specs.Prelude.{◌≡◌, ◌≢◌};
 ghost use Rattle.jobs.specs.Aims.{of_mapping};
-ghost use Rattle.jobs.specs.Due.{Holds};
-ghost use Rattle.jobs.specs.Given.{IsOverFiles, done};
-ghost use Rattle.jobs.specs.Jobs.{DueRequest, HoldsAtEnd};
+ghost use Rattle.jobs.specs.Due.{DueOver, Holds};
+ghost use Rattle.jobs.specs.Given.{DueSettled, IsOverFiles, done};
+ghost use Rattle.jobs.specs.Jobs.{DueFile, DueMapping, DueRequest, HoldsAtEnd};
 
 use crate::aside::Aside;
+use crate::by_head::{Chosen, choose, first_order};
 use crate::dumps::{Range, dump_file};
-use crate::each::map_files;
+use crate::each::map_each;
 use crate::ending::Ending;
 use crate::fault::FileFault;
 use crate::one_file::map_file;
-use crate::opener::Opener;
+use crate::opener::{NamedPickle, Opener};
 use crate::pickles::{answer_about, question_of};
-use crate::settings::Mapping;
+use crate::settings::{Mapping, settle_terms};
+use crate::usage::refuse;
 use crate::why::Why;
-use command_line::request::Over;
+use command_line::request::{Over, Request};
 use poke_batch::terms::Terms;
 use poke_batch::words::{Asked, Job};
 use std::alloc::Global;
@@ -23,18 +25,19 @@ use std::io::Write;
 
 /// Does a job, and returns how it ended. What it prints is written to `out`; the line of its ending, [`Ending::tell`], is
 /// the caller's to write. `None` is returned for the list of formats, which isn't read by an opener. Reasons go to `why`, if
-/// they are requested, and those of one file among many to `aside`.
+/// they are requested, and those of one file among many to `aside`. The usage error for a type that the head of the
+/// pickle doesn't say is a reason that needs no request. A request gets the terms that the head says.
 ///
 /// A [`FileFault`] is returned if the pickle or the file can't be opened or read, or if a read fails in a dump.
 pub fn run_job<P: Opener, O: Write, A: Aside>(
     alloc: Global,
     opener: &P,
-    asked: &Asked,
+    asked: &mut Asked,
     out: &mut O,
     aside: &mut A,
     why: &mut Why<'_>,
 ) -> Result<Option<Ending>, FileFault>
-    ensures { HoldsAtEnd (P.gives opener.now) why.old.asked asked.now
+    ensures { HoldsAtEnd (P.gives opener.now) why.old.asked asked.old
         (O.contents out.old) (O.contents out.new) result }
 {
     match question_of(asked) {
@@ -47,12 +50,31 @@ pub fn run_job<P: Opener, O: Write, A: Aside>(
 fn run_over_files<P: Opener, O: Write, A: Aside>(
     alloc: Global,
     opener: &P,
-    asked: &Asked,
+    asked: &mut Asked,
     out: &mut O,
     aside: &mut A,
     why: &mut Why<'_>,
 ) -> Result<Option<Ending>, FileFault>
+    requires over { IsOverFiles asked.old.job }
+    ensures { HoldsAtEnd (P.gives opener.now) why.old.asked asked.old
+        (O.contents out.old) (O.contents out.new) result }
+{
+    match &mut asked.job {
+        Job::Request(request) => done(run_request(alloc, opener, request, out, aside, why)),
+        _ => run_plain(alloc, opener, asked, out, why),
+    }
+}
+
+// Does a job over a file that isn't a request.
+fn run_plain<P: Opener, O: Write>(
+    alloc: Global,
+    opener: &P,
+    asked: &Asked,
+    out: &mut O,
+    why: &mut Why<'_>,
+) -> Result<Option<Ending>, FileFault>
     requires over { IsOverFiles asked.now.job }
+    requires plain { (request : Request) → asked.now.job ≢ Job.Request request }
     ensures { HoldsAtEnd (P.gives opener.now) why.old.asked asked.now
         (O.contents out.old) (O.contents out.new) result }
 {
@@ -67,13 +89,8 @@ fn run_over_files<P: Opener, O: Write, A: Aside>(
             file,
         } => {
             let terms = &Terms::none();
-            let mapping = Mapping::from_bit(pickle, name, *at, *order, *limit, *mode, terms);
-            done(map_file(alloc, opener, mapping, file, out, why))
-        }
-        Job::Request(request) => {
-            let mapping = Mapping::of_request(request);
-            let over = &request.over;
-            done(map_over(alloc, opener, mapping, over, out, aside, why))
+            let mapping = Mapping::from_bit(name, *at, *order, *limit, *mode, terms);
+            done(map_plain(alloc, opener, mapping, pickle, file, out, why))
         }
         Job::Dump {
             from,
@@ -103,21 +120,96 @@ fn done(ended: Result<Ending, FileFault>) -> Result<Option<Ending>, FileFault>
     }
 }
 
+// Maps a type of the pickle that an argument names over a file.
+fn map_plain<P: Opener, O: Write>(
+    alloc: Global,
+    opener: &P,
+    mapping: Mapping<'_>,
+    word: &str,
+    path: &str,
+    out: &mut O,
+    why: &mut Why<'_>,
+) -> Result<Ending, FileFault>
+    ensures { let due = DueFile (P.gives opener.now) why.old.asked (of_mapping mapping.entry) path.now in
+        Holds (DueOver (P.gives opener.now) word.now due) (O.contents out.old) (O.contents out.new) result }
+{
+    let pickle = opener.read_pickle(word)?;
+    map_file(alloc, opener, mapping, &pickle, path, out, why)
+}
+
+// Does what a request says, once its pickle says which type is mapped.
+fn run_request<P: Opener, O: Write, A: Aside>(
+    alloc: Global,
+    opener: &P,
+    request: &mut Request,
+    out: &mut O,
+    aside: &mut A,
+    why: &mut Why<'_>,
+) -> Result<Ending, FileFault>
+    ensures { Holds (DueRequest (P.gives opener.now) why.old.asked request.old)
+        (O.contents out.old) (O.contents out.new) result }
+{
+    let pickle = opener.read_pickle(request.subject.pickle())?;
+    match choose(&request.subject, &pickle.bytes) {
+        Ok(Chosen { whole, .. }) => {
+            settle_terms(&mut request.terms, request.form, whole);
+            run_settled(alloc, opener, request, &pickle, out, aside, why)
+        }
+        Err(missing) => Ok(refuse(why, request.subject.pickle(), missing)),
+    }
+}
+
+// Maps the type of a request whose terms are settled.
+fn run_settled<P: Opener, O: Write, A: Aside>(
+    alloc: Global,
+    opener: &P,
+    request: &Request,
+    pickle: &NamedPickle,
+    out: &mut O,
+    aside: &mut A,
+    why: &mut Why<'_>,
+) -> Result<Ending, FileFault>
+    ensures { let due = DueSettled (P.gives opener.now) why.old.asked request.now in
+        Holds (due pickle.now.bytes.items) (O.contents out.old) (O.contents out.new) result }
+{
+    match choose(&request.subject, &pickle.bytes) {
+        Ok(chosen) => {
+            let order = first_order(request.order, chosen.order);
+            let mapping = Mapping::of_type(request, chosen.name, order);
+            map_over(
+                alloc,
+                opener,
+                mapping,
+                pickle,
+                &request.over,
+                out,
+                aside,
+                why,
+            )
+        }
+        Err(missing) => Ok(refuse(why, request.subject.pickle(), missing)),
+    }
+}
+
 // Maps over the file or the files of a request.
 fn map_over<P: Opener, O: Write, A: Aside>(
     alloc: Global,
     opener: &P,
     mapping: Mapping<'_>,
+    pickle: &NamedPickle,
     over: &Over,
     out: &mut O,
     aside: &mut A,
     why: &mut Why<'_>,
 ) -> Result<Ending, FileFault>
-    ensures { Holds (DueRequest (P.gives opener.now) why.old.asked (of_mapping mapping.entry) over.now)
-        (O.contents out.old) (O.contents out.new) result }
+    ensures { let due = DueMapping (P.gives opener.now) why.old.asked (of_mapping mapping.entry) over.now in
+        Holds (due pickle.now.bytes.items) (O.contents out.old) (O.contents out.new) result }
 {
     match over {
-        Over::File(file) => map_file(alloc, opener, mapping, file, out, why),
-        Over::Files { names, .. } => map_files(alloc, opener, mapping, names, out, aside, why),
+        Over::File(file) => map_file(alloc, opener, mapping, pickle, file, out, why),
+        Over::Files { names, .. } => {
+            let ending = map_each(alloc, opener, mapping, pickle, names, out, aside, why);
+            Ok(ending)
+        }
     }
 }

@@ -1,24 +1,26 @@
 //! What a job requests of a mapping.
 ghost use Rattle.std.specs.Prelude.{◌≡◌, None, false, IfNone, IfSome};
 ghost use Rattle.command_line.specs.Starts.{start_bit};
-ghost use Rattle.jobs.specs.Aims.{IsAskOf, aim_of, of_mapping, of_request, plain_request};
+ghost use Rattle.jobs.specs.Aims.{IsAskOf, aim_of, dims, look_of, of_mapping, of_type, plain_request, settled_terms};
 
 use bit_space::{Order, Space};
+use command_line::color::Color;
 use command_line::fault_form::FaultForm;
 use command_line::request::{Form, Over, Request};
 use command_line::start::Start;
 use poke_batch::ask::Ask;
 use poke_batch::mode::Mode;
+use poke_batch::style::Look;
 use poke_batch::terms::Terms;
 
 /// What a job requests of a mapping, over one file or many.
 #[derive(Clone, Copy)]
 pub struct Mapping<'a> {
-    /// The argument that names the pickle.
-    pub pickle: &'a str,
     /// The name of the type to map.
     pub name: &'a [u8],
     pub start: Start,
+    /// After how many bytes from there the file ends. `None` is its own end.
+    pub window: Option<u64>,
     pub order: Order,
     /// The most steps.
     pub limit: u64,
@@ -38,7 +40,6 @@ pub struct Mapping<'a> {
 impl<'a> Mapping<'a> {
     /// The mapping of a type over one file, from the bit `at` on.
     pub fn from_bit(
-        pickle: &'a str,
         name: &'a str,
         at: u64,
         order: Order,
@@ -46,13 +47,13 @@ impl<'a> Mapping<'a> {
         mode: Mode,
         terms: &'a Terms,
     ) -> Mapping<'a>
-        ensures request { of_mapping result ≡ plain_request pickle.now name.now at order limit mode terms.now }
+        ensures request { of_mapping result ≡ plain_request name.now at order limit mode terms.now }
         ensures plain { (result.progress ≡ false) × (result.flush ≡ false) }
     {
         Mapping {
-            pickle,
             name: name.as_bytes(),
             start: Start::Bit(at),
+            window: None,
             order,
             limit,
             mode,
@@ -64,9 +65,10 @@ impl<'a> Mapping<'a> {
         }
     }
 
-    /// The mapping that a request says. A value that is shown to the eye has no mode: its look replaces it.
-    pub fn of_request(request: &'a Request) -> Mapping<'a>
-        ensures request { of_mapping result ≡ of_request request.now }
+    /// The mapping of a type that a request says, in a byte order. A value that is shown to the eye has no mode: its look
+    /// replaces it.
+    pub fn of_type(request: &'a Request, name: &'a [u8], order: Order) -> Mapping<'a>
+        ensures request { of_mapping result ≡ of_type request.now name.now order request.now.terms }
         ensures shows { result.progress ≡ request.now.progress }
     {
         let mode = match request.form {
@@ -74,10 +76,10 @@ impl<'a> Mapping<'a> {
             Form::Shown { .. } => Mode::Flat,
         };
         Mapping {
-            pickle: &request.pickle,
-            name: request.name.as_bytes(),
+            name,
             start: request.start,
-            order: request.order,
+            window: request.window,
+            order,
             limit: request.limit,
             mode,
             terms: &request.terms,
@@ -101,4 +103,26 @@ impl<'a> Mapping<'a> {
             mode: self.mode,
         })
     }
+}
+
+/// Settles the terms of a request: whether its value must end where the file does, which the head of the pickle may
+/// want, and how a value looks that is shown to the eye.
+pub fn settle_terms(terms: &mut Terms, form: Form, whole: bool)
+    ensures { terms.new ≡ settled_terms form whole terms.old }
+{
+    terms.whole |= whole;
+    if let Form::Shown { color, depth } = form {
+        terms.look = Some(Look {
+            elements: terms.style.elements,
+            depth,
+            dim: dims(color),
+        });
+    }
+}
+
+// Whether types are dimmed. `Auto` is the program's to settle, which knows the terminal.
+fn dims(color: Color) -> bool
+    ensures { result ≡ dims color }
+{
+    matches!(color, Color::Always)
 }

@@ -5,6 +5,7 @@ use Rattle.bit_space.specs.SpaceView.{HasRisen}
 use Rattle.jobs.specs.Jobs.{dumps, no_dump_pages, undumped}
 use Rattle.jobs.proofs.Dumped.{dump_ends, dump_holds}
 use Rattle.run_parts.specs.DumpText.{dump_text}
+use Rattle.spool.proofs.Windows.{keeps_cut}
 use Rattle.jobs.proofs.dumps.dump_file.Goals as goal
 
 pub returns-in_err-bytes : goal.returns-in_err-bytes
@@ -26,8 +27,8 @@ returns g c =
     rw c.end_dump.ensures
     (dumps {file = file} opened
     (dump_ends (HasRisen file.failures after.failures) (gives.is_failing c.args.path.now) c.dump-dumped.result
-    (g.met.P.Opener.failing c.args.opener.now c.args.path.now None c.in_ok-space.space c.dump-dumped.new.space opened
-    c.dump-dumped.ensures.keeps)
+    (g.met.P.Opener.failing c.args.opener.now c.args.path.now None c.in_ok-space.space c.dump-dumped.new.space 0 0
+    opened (keeps_cut 0 file after c.dump-dumped.ensures.keeps))
     c.dump-dumped.ensures.device)
     (dump_holds (λ bytes. dump_text bytes c.args.range.from c.args.range.size c.args.range.ruler) file
     c.dump-dumped.result _ _ c.dump-dumped.ensures.ok c.dump-dumped.ensures.err))

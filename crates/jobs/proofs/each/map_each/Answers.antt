@@ -30,6 +30,7 @@ returns g c =
     let Written : FileForm → Type 0 = λ form. Holds (DueNamed gives (record {
       pickle = pickle;
       aim = aim_of mapping;
+      window = mapping.window;
       terms = mapping.terms.now;
       spool = mapping.spool;
       form = form;

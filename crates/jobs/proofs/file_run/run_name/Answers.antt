@@ -1,24 +1,11 @@
 use Rattle.std.proofs.KnownBytes.{Keeps-refl}
 use Rattle.std.specs.Io.KnownBytes.{Keeps}
-use Rattle.bit_space.specs.SpaceView.{HasRisen}
 use Rattle.jobs.specs.Every.{AppendsFile, every_of}
 use Rattle.jobs.specs.Files.{RunsFile}
-use Rattle.jobs.proofs.FilesWritten.{opened_cut, opened_written, run_kept, run_unflushed}
+use Rattle.jobs.proofs.FilesWritten.{run_kept, run_unflushed}
 use Rattle.run_parts.proofs.Sayings.{on_err}
 use Rattle.jobs.proofs.file_run.run_name.Goals.{in-Ok+in_ok-status-in-Ok, in-Err+in_ok-status-in-Err, then-typed+in_ok-flush, else-typed}
 use Rattle.jobs.proofs.file_run.run_name.Goals as goal
-
-pub returns-in_err-status-in-Ok-clause-err : goal.returns-in_err-status-in-Ok-clause-err
-returns-in_err-status-in-Ok-clause-err g c =
-    let gives = g.P.Opener.gives c.args.opener.now in
-    let file = g.P.Bytes.Space.view c.in-Ok.space in
-    let last = g.P.Bytes.Space.view c.run_space.new.space in
-    on_err c.from_residual.result
-    (opened_cut gives (every_of c.args.typed) c.args.name.now file (HasRisen file.failures last.failures) _ _
-    c.in-Ok.ensures.ok
-    (g.met.P.Opener.failing c.args.opener.now c.args.name.now c.args.typed.mapping.spool c.in-Ok.space
-    c.run_space.new.space c.in-Ok.ensures.ok c.run_space.ensures.keeps)
-    c.in_err-status-in-Ok.ensures.err)
 
 pub returns-in_err-flush-clause-err : goal.returns-in_err-flush-clause-err
 returns-in_err-flush-clause-err g c =
@@ -27,15 +14,7 @@ returns-in_err-flush-clause-err g c =
     let written : AppendsFile gives every c.args.name.now (g.O.Write.contents c.args.out.now)
     (g.O.Write.contents c.match-open_named.out) c.match-open_named.status =
     elim c.match-open_named.branch [
-      | in-Ok+in_ok-status-in-Ok w ↦
-          let file = g.P.Bytes.Space.view w.in-Ok.space in
-          let last = g.P.Bytes.Space.view w.run_space.new.space in
-          opened_written gives every c.args.name.now file (HasRisen file.failures last.failures)
-          (g.O.Write.contents c.args.out.now) (g.O.Write.contents c.match-open_named.out)
-          (g.O.Write.contents c.match-open_named.out) c.match-open_named.status w.in-Ok.ensures.ok
-          (g.met.P.Opener.failing c.args.opener.now c.args.name.now c.args.typed.mapping.spool w.in-Ok.space
-          w.run_space.new.space w.in-Ok.ensures.ok w.run_space.ensures.keeps)
-          (rw (w.status-is, w.out-is) w.in_ok-status-in-Ok.ensures.ok) (Keeps-refl _)
+      | in-Ok+in_ok-status-in-Ok w ↦ rw (w.status-is, w.out-is) w.in_ok-status-in-Ok.ensures.ok
       | in-Err+in_ok-status-in-Err w ↦ rw (w.status-is, w.out-is) w.in_ok-status-in-Err.ensures.ok
     ] in
     on_err c.from_residual-in_err-flush.result
@@ -46,20 +25,15 @@ pub returns-clause-ok : goal.returns-clause-ok
 returns-clause-ok g c =
     let gives = g.P.Opener.gives c.args.opener.now in
     let every = every_of c.args.typed in
+    let written : AppendsFile gives every c.args.name.now (g.O.Write.contents c.args.out.now)
+    (g.O.Write.contents c.match-open_named.out) c.match-open_named.status =
+    elim c.match-open_named.branch [
+      | in-Ok+in_ok-status-in-Ok w ↦ rw (w.status-is, w.out-is) w.in_ok-status-in-Ok.ensures.ok
+      | in-Err+in_ok-status-in-Err w ↦ rw (w.status-is, w.out-is) w.in_ok-status-in-Err.ensures.ok
+    ] in
     let keeps : Keeps (g.O.Write.contents c.match-open_named.out) (g.O.Write.contents c.if-typed.out) =
     elim c.if-typed.branch [
       | then-typed+in_ok-flush w ↦ rw w.out-is w.flush.ensures
       | else-typed w ↦ rw w.out-is (Keeps-refl _)
     ] in
-    elim c.match-open_named.branch [
-      | in-Ok+in_ok-status-in-Ok w ↦
-          let file = g.P.Bytes.Space.view w.in-Ok.space in
-          let last = g.P.Bytes.Space.view w.run_space.new.space in
-          opened_written gives every c.args.name.now file (HasRisen file.failures last.failures) _ _ _
-          c.match-open_named.status w.in-Ok.ensures.ok
-          (g.met.P.Opener.failing c.args.opener.now c.args.name.now c.args.typed.mapping.spool w.in-Ok.space
-          w.run_space.new.space w.in-Ok.ensures.ok w.run_space.ensures.keeps)
-          (rw (w.status-is, w.out-is) w.in_ok-status-in-Ok.ensures.ok) keeps
-      | in-Err+in_ok-status-in-Err w ↦ run_kept (RunsFile gives every c.args.name.now) every c.args.name.now _ _ _
-          c.match-open_named.status (rw (w.status-is, w.out-is) w.in_ok-status-in-Err.ensures.ok) keeps
-    ]
+    run_kept (RunsFile gives every c.args.name.now) every c.args.name.now _ _ _ c.match-open_named.status written keeps

@@ -1,88 +1,66 @@
-use Rattle.std.proofs.Common.{[], refl}
 use Rattle.bit_space.specs.SpaceView.{HasRisen}
 use Rattle.jobs.specs.Every.{every_of}
-use Rattle.jobs.specs.Files.{RunsOver, starts_nowhere}
-use Rattle.jobs.proofs.FilesWritten.{line_cut, line_unflushed, line_written, object_cut, object_written, unmapped_cut, unmapped_written}
+use Rattle.jobs.proofs.FilesWritten.{line_cut, line_unflushed, line_written, object_cut, object_written}
 use Rattle.jobs.proofs.Mapped.{risen_more}
 use Rattle.run_parts.proofs.Sayings.{on_err}
-use Rattle.run_parts.specs.declared.outcome.Outcome.TheVariants as outcome
 use Rattle.jobs.proofs.file_run.run_space.Goals as goal
-
-pub returns-in_default-clause-ok : goal.returns-in_default-clause-ok
-returns-in_default-clause-ok g c =
-    let file = g.S.Space.view c.args.space.now in
-    unmapped_written (RunsOver (every_of c.args.typed) file (HasRisen file.failures file.failures))
-    (every_of c.args.typed) c.args.name.now outcome.Offset [] c.put_unmapped.result _ _ (λ e. refl)
-    (starts_nowhere c.in_default.ensures.none) c.put_unmapped.ensures.status c.put_unmapped.ensures.ok
-
-pub returns-in_default-clause-err : goal.returns-in_default-clause-err
-returns-in_default-clause-err g c =
-    let file = g.S.Space.view c.args.space.now in
-    unmapped_cut (RunsOver (every_of c.args.typed) file (HasRisen file.failures file.failures))
-    (every_of c.args.typed) c.args.name.now outcome.Offset [] c.put_unmapped.result _ _ (λ e. refl)
-    (starts_nowhere c.in_default.ensures.none) c.put_unmapped.ensures.err
 
 pub returns-in_err-status-in-Line-clause-err : goal.returns-in_err-status-in-Line-clause-err
 returns-in_err-status-in-Line-clause-err g c =
-    let is = c.in-Some.ensures.some in
     let file = g.S.Space.view c.args.space.now in
     let after = g.S.Space.view c.run_file.new.space in
-    let cut = c.in_err-status-in-Line.ensures.err _ (rw is.name c.requires.typed.asked) in
+    let cut = c.in_err-status-in-Line.ensures.err _ (rw c.requires.asked c.requires.typed.asked) in
     on_err c.from_residual.result
-    (line_cut (every_of c.args.typed) file after (HasRisen file.failures after.failures) c.in-Some.ask
-    c.in-Line.faults c.args.name.now cut.0 _ _ c.in-Line.is is (λ risen. risen) cut.1)
+    (line_cut (every_of c.args.typed) file after (HasRisen file.failures after.failures) c.args.ask.now
+    c.in-Line.faults c.args.name.now cut.0 _ _ c.in-Line.is (λ risen. risen) cut.1)
 
 pub returns-in_err-tell_reasons-in-Line-clause-err : goal.returns-in_err-tell_reasons-in-Line-clause-err
 returns-in_err-tell_reasons-in-Line-clause-err g c =
-    let is = c.in-Some.ensures.some in
     let file = g.S.Space.view c.args.space.now in
     let after = g.S.Space.view c.run_file.new.space in
     let last = g.S.Space.view c.reason_lines-lines.new.space in
     on_err c.from_residual-in_err-tell_reasons-in-Line.result
-    (line_unflushed (every_of c.args.typed) file after (HasRisen file.failures last.failures) c.in-Some.ask
-    c.in-Line.faults c.args.name.now c.in_ok-status-in-Line.status _ _ _ c.in-Line.is is
+    (line_unflushed (every_of c.args.typed) file after (HasRisen file.failures last.failures) c.args.ask.now
+    c.in-Line.faults c.args.name.now c.in_ok-status-in-Line.status _ _ _ c.in-Line.is
     (λ risen. risen_more file.failures after.failures last.failures risen
     c.reason_lines-lines.ensures.keeps.failures)
-    (c.in_ok-status-in-Line.ensures.ok _ (rw is.name c.requires.typed.asked))
+    (c.in_ok-status-in-Line.ensures.ok _ (rw c.requires.asked c.requires.typed.asked))
     c.in_err-tell_reasons-in-Line.ensures)
 
 pub returns-in_ok-tell_reasons-in-Line-clause-ok : goal.returns-in_ok-tell_reasons-in-Line-clause-ok
 returns-in_ok-tell_reasons-in-Line-clause-ok g c =
-    let is = c.in-Some.ensures.some in
     let file = g.S.Space.view c.args.space.now in
     let after = g.S.Space.view c.run_file.new.space in
     let last = g.S.Space.view c.reason_lines-lines.new.space in
-    line_written (every_of c.args.typed) file after (HasRisen file.failures last.failures) c.in-Some.ask
-    c.in-Line.faults c.args.name.now c.in_ok-status-in-Line.status _ _ _ c.in-Line.is is
+    line_written (every_of c.args.typed) file after (HasRisen file.failures last.failures) c.args.ask.now
+    c.in-Line.faults c.args.name.now c.in_ok-status-in-Line.status _ _ _ c.in-Line.is
     (λ risen. risen_more file.failures after.failures last.failures risen
     c.reason_lines-lines.ensures.keeps.failures)
-    (c.in_ok-status-in-Line.ensures.ok _ (rw is.name c.requires.typed.asked))
+    (c.in_ok-status-in-Line.ensures.ok _ (rw c.requires.asked c.requires.typed.asked))
     c.in_ok-tell_reasons-in-Line.ensures
 
 pub returns-in-Object-clause-ok : goal.returns-in-Object-clause-ok
 returns-in-Object-clause-ok g c =
-    let is = c.in-Some.ensures.some in
     let file = g.S.Space.view c.args.space.now in
     let after = g.S.Space.view c.map_file.new.space in
     let last = g.S.Space.view c.reason_lines-lines-in-Object.new.space in
-    object_written (every_of c.args.typed) file after (HasRisen file.failures last.failures) c.in-Some.ask
+    object_written (every_of c.args.typed) file after (HasRisen file.failures last.failures) c.args.ask.now
     c.args.name.now c.deref-in-Object.result.now c.map_file.new.kept c.put_object.result _ _
-    c.in-Object.is (λ e. rw c.deref-in-Object.ensures.value (c.reason_lines-lines-in-Object.ensures.quiet e)) is
+    c.in-Object.is (λ e. rw c.deref-in-Object.ensures.value (c.reason_lines-lines-in-Object.ensures.quiet e))
     (λ risen. risen_more file.failures after.failures last.failures risen
     c.reason_lines-lines-in-Object.ensures.keeps.failures)
-    (c.map_file.ensures.holds _ (rw is.name c.requires.typed.asked))
+    (c.map_file.ensures.holds _ (rw c.requires.asked c.requires.typed.asked))
     c.put_object.ensures.status c.put_object.ensures.ok
 
 pub returns-in-Object-clause-err : goal.returns-in-Object-clause-err
 returns-in-Object-clause-err g c =
-    let is = c.in-Some.ensures.some in
     let file = g.S.Space.view c.args.space.now in
     let after = g.S.Space.view c.map_file.new.space in
     let last = g.S.Space.view c.reason_lines-lines-in-Object.new.space in
-    object_cut (every_of c.args.typed) file after (HasRisen file.failures last.failures) c.in-Some.ask
+    object_cut (every_of c.args.typed) file after (HasRisen file.failures last.failures) c.args.ask.now
     c.args.name.now c.deref-in-Object.result.now c.map_file.new.kept c.put_object.result _ _
-    c.in-Object.is (λ e. rw c.deref-in-Object.ensures.value (c.reason_lines-lines-in-Object.ensures.quiet e)) is
+    c.in-Object.is (λ e. rw c.deref-in-Object.ensures.value (c.reason_lines-lines-in-Object.ensures.quiet e))
     (λ risen. risen_more file.failures after.failures last.failures risen
     c.reason_lines-lines-in-Object.ensures.keeps.failures)
-    (c.map_file.ensures.holds _ (rw is.name c.requires.typed.asked))
+    (c.map_file.ensures.holds _ (rw c.requires.asked c.requires.typed.asked))
     c.put_object.ensures.err

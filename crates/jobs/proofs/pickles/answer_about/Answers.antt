@@ -13,5 +13,5 @@ returns-in_err-pickle g c =
 
 pub returns : goal.returns
 returns g c =
-    holds_more (DueAnswer c.args.why.now.asked c.args.question c.in_ok-pickle.pickle.bytes.items) _
+    holds_more (DueAnswer c.args.why.now.asked c.args.word.now c.args.question c.in_ok-pickle.pickle.bytes.items) _
     (Ok c.answer.result) _ _ (λ lines end due. of_pickle c.in_ok-pickle.ensures.ok due) c.answer.ensures

@@ -1,4 +1,4 @@
-use Rattle.jobs.specs.Given.{of_bound, of_check, of_text, of_types}
+use Rattle.jobs.specs.Given.{of_bound, of_check, of_parts, of_text, of_types}
 use Rattle.jobs.proofs.pickles.question_of.Goals as goal
 
 pub returns-in-Check-clause-some : goal.returns-in-Check-clause-some
@@ -6,6 +6,9 @@ returns-in-Check-clause-some c = rw c.in-Check.is (of_check c.deref.ensures)
 
 pub returns-in-Types-clause-some : goal.returns-in-Types-clause-some
 returns-in-Types-clause-some c = rw c.in-Types.is (of_types c.deref-in-Types.ensures)
+
+pub returns-in-Parts-clause-some : goal.returns-in-Parts-clause-some
+returns-in-Parts-clause-some c = rw c.in-Parts.is (of_parts _ c.deref-in-Parts.ensures c.as_bytes.ensures.value)
 
 pub returns-in-Bound-clause-some : goal.returns-in-Bound-clause-some
 returns-in-Bound-clause-some c =

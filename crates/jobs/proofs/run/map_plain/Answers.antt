@@ -1,11 +1,10 @@
-use Rattle.std.proofs.Common.{Ok}
 use Rattle.std.proofs.KnownBytes.{Keeps-refl}
 use Rattle.std.proofs.lemmas.Result.{err_from_is_err_and}
 use Rattle.jobs.specs.Aims.{of_mapping}
 use Rattle.jobs.specs.Due.{of_pickle, unread}
-use Rattle.jobs.specs.Jobs.{DueEach}
+use Rattle.jobs.specs.Jobs.{DueFile}
 use Rattle.jobs.proofs.Holding.{holds_more, no_text}
-use Rattle.jobs.proofs.each.map_files.Goals as goal
+use Rattle.jobs.proofs.run.map_plain.Goals as goal
 
 pub returns-in_err-pickle : goal.returns-in_err-pickle
 returns-in_err-pickle g c =
@@ -15,6 +14,6 @@ returns-in_err-pickle g c =
 pub returns : goal.returns
 returns g c =
     holds_more
-    (DueEach (g.P.Opener.gives c.args.opener.now) c.args.why.now.asked (of_mapping c.args.mapping) c.args.names.now
+    (DueFile (g.P.Opener.gives c.args.opener.now) c.args.why.now.asked (of_mapping c.args.mapping) c.args.path.now
     c.in_ok-pickle.pickle.bytes.items)
-    _ (Ok c.map_each.result) _ _ (λ lines end due. of_pickle c.in_ok-pickle.ensures.ok due) c.map_each.ensures
+    _ c.map_file.result _ _ (λ lines end due. of_pickle c.in_ok-pickle.ensures.ok due) c.map_file.ensures
