@@ -51,6 +51,124 @@ const ROWS: [(&str, &str, &str); 18] = [
     ),
 ];
 
+/// A command line whose type, options or end the head of the pickle or a window says. The same three parts, and the usage
+/// error, if there is one.
+const HEAD_ROWS: [(&str, &str, &str, &str); 36] = [
+    ("map +little a.bin", "513UH\n", "", ""),
+    ("map +little - a.bin", "513UH\n", "", ""),
+    ("map +little L a.bin", "258UH\n", "", ""),
+    ("map --endian big +little a.bin", "258UH\n", "", ""),
+    ("map --endian little +little L a.bin", "513UH\n", "", ""),
+    ("map --whole +little a.bin", "", "fault Left at 16#b\n", ""),
+    ("map --inside +little a.bin", "[1UB,2UB]\n", "", ""),
+    (
+        "map --inside --byte 1 +little - a.bin",
+        "[2UB,3UB]\n",
+        "",
+        "",
+    ),
+    ("map +whole a.bin", "", "fault Left at 16#b\n", ""),
+    ("map +whole W a.bin", "[1UB,2UB]\n", "", ""),
+    ("map +whole b.bin", "", "fault End at 8#b\n", ""),
+    ("map --length 2 +whole a.bin", "[1UB,2UB]\n", "", ""),
+    (
+        "map --length 0x2 --byte 1 +whole a.bin",
+        "[2UB,3UB]\n",
+        "",
+        "",
+    ),
+    (
+        "map --length 2 --byte -2 +whole a.bin",
+        "[2UB,3UB]\n",
+        "",
+        "",
+    ),
+    ("map --length 1 +whole a.bin", "", "fault End at 8#b\n", ""),
+    (
+        "map --length 9 +whole a.bin",
+        "",
+        "fault Left at 16#b\n",
+        "",
+    ),
+    ("map --length 2 --at 9#b p.pk Q a.bin", "[4UB]\n", "", ""),
+    ("map --length 0 p.pk Q a.bin", "[]\n", "", ""),
+    ("map --length 1 --byte 2 p.pk Q a.bin", "[3UB]\n", "", ""),
+    (
+        "map --length 1 --byte 9 p.pk Q a.bin",
+        "",
+        "fault End at 72#b\n",
+        "",
+    ),
+    (
+        "map --length 1 --byte -4 p.pk Q a.bin",
+        "",
+        "refused offset\n",
+        "",
+    ),
+    (
+        "map --inside +whole a.bin",
+        "",
+        "",
+        "error: the head of +whole names no type for the format inside other bytes, because it isn't\n\n\
+        For more information, try '--help'.\n",
+    ),
+    (
+        "map --inside +bare a.bin",
+        "",
+        "",
+        "error: the head of +bare names no type for the format inside other bytes: TYPE must be given\n\n\
+        For more information, try '--help'.\n",
+    ),
+    (
+        "map +bare a.bin",
+        "",
+        "",
+        "error: the head of +bare names no type: TYPE must be given\n\nFor more information, try '--help'.\n",
+    ),
+    ("map +bare B a.bin", "1UB\n", "", ""),
+    ("map +little.pk P a.bin", "1UB\n", "", ""),
+    ("map +none a.bin", "", "fault Read\n", ""),
+    ("map +little L", "", "fault Open\n", ""),
+    (
+        "show --color never +little a.bin",
+        "00000000    uint<16> = 513 0x201\n",
+        "",
+        "",
+    ),
+    (
+        "each --length 1 --byte 1 --inside +little - a.bin b.bin",
+        "a.bin\t1\tfault End at 16#b\nb.bin\t1\tfault End at 8#b\n",
+        "",
+        "",
+    ),
+    (
+        "each --files0-from list +little",
+        "a.bin\t0\t513UH\nb.bin\t1\tfault End at 0#b\nnone\t3\tfault Open\n",
+        "",
+        "",
+    ),
+    (
+        "each --byte -2 --length 2 +whole - a.bin b.bin",
+        "a.bin\t0\t[2UB,3UB]\nb.bin\t2\trefused offset\n",
+        "",
+        "",
+    ),
+    (
+        "each +bare - a.bin",
+        "",
+        "",
+        "error: the head of +bare names no type: TYPE must be given\n\nFor more information, try '--help'.\n",
+    ),
+    ("bound +little 16", "steps 1\nslots 1\n", "", ""),
+    ("bound +little L 16", "steps 1\nslots 1\n", "", ""),
+    (
+        "bound --text +bare 16",
+        "",
+        "",
+        "error: the head of +bare names no type: TYPE must be given\n\nFor more information, try '--help'.\n",
+    ),
+];
+
 /// A command line with a pickle or a type that is refused, and how the lines begin that say why.
 const REFUSED_ROWS: [(&str, &str); 9] = [
     ("check --why wrong.pk", "  wrong.pk:1:29: "),
@@ -82,7 +200,7 @@ fn written_by(alloc: Global, words: &str) -> Result<Written, Fail> {
     for word in words.split_ascii_whitespace() {
         arguments.push(String::from_str(alloc, word)?)?;
     }
-    let asked = read_asked(alloc, arguments)?;
+    let mut asked = read_asked(alloc, arguments)?;
     let mut out = Vec::new(alloc);
     let mut line = Vec::new(alloc);
     let mut reasons = Vec::new(alloc);
@@ -94,7 +212,7 @@ fn written_by(alloc: Global, words: &str) -> Result<Written, Fail> {
         asked: asked.why,
     };
     let shelf = Shelf { alloc };
-    match run_job(alloc, &shelf, &asked, &mut out, &mut notes, &mut why) {
+    match run_job(alloc, &shelf, &mut asked, &mut out, &mut notes, &mut why) {
         Ok(Some(ending)) => {
             ending.tell(FaultForm::Text, &mut line);
         }
@@ -118,6 +236,19 @@ fn jobs_write_their_answers(rt: HostRuntime) -> Result<(), Fail> {
         let written = written_by(rt.alloc(), words)?;
         assert_eq!(&rt; written.out.as_slice(), out.as_bytes(), "{words}");
         assert_eq!(&rt; written.line.as_slice(), line.as_bytes(), "{words}");
+        assert!(rt; written.aside.is_empty(), "{words}");
+    }
+    Ok(())
+}
+
+// The head of a pickle says the type and the options that aren't given, and a window where a file ends.
+#[test]
+fn heads_and_windows_apply(rt: HostRuntime) -> Result<(), Fail> {
+    for (words, out, line, usage) in HEAD_ROWS {
+        let written = written_by(rt.alloc(), words)?;
+        assert_eq!(&rt; written.out.as_slice(), out.as_bytes(), "{words}");
+        assert_eq!(&rt; written.line.as_slice(), line.as_bytes(), "{words}");
+        assert_eq!(&rt; written.reasons.as_slice(), usage.as_bytes(), "{words}");
         assert!(rt; written.aside.is_empty(), "{words}");
     }
     Ok(())

@@ -9,11 +9,23 @@ use std::alloc::{AllocError, Global};
 use tests_kit::streams::OneByOne;
 
 /// The files, with their bytes.
-const FILES: [(&str, &[u8]); 6] = [
+const FILES: [(&str, &[u8]); 10] = [
     (
         "p.pk",
         b"type P = struct { uint<8> a; uint<16> b; }; type Q = uint<8>[];",
     ),
+    (
+        "+little",
+        b"// little: A test.\n// main: L, options: --endian little\n// Inside: I\n\
+        type L = uint<16>; type I = uint<8>[2];",
+    ),
+    (
+        "+whole",
+        b"// whole: A test.\n// main: W, options: --whole\n// Inside: nothing, because it isn't.\n\
+        type W = uint<8>[2];",
+    ),
+    ("+bare", b"type B = uint<8>;"),
+    ("+little.pk", b"type P = uint<8>;"),
     ("wrong.pk", b"type P = struct { uint<8> a }"),
     ("a.bin", b"\x01\x02\x03"),
     ("b.bin", b"\x01"),
@@ -34,7 +46,7 @@ impl Opener for Shelf {
     // The tests say what is given.
     ghost gives = { λ _. anything };
 
-    ghost failing = { λ o path spool space after is keeps risen. tt };
+    ghost failing = { λ o path spool space after end end' is keeps risen. tt };
 
     type Bytes = MemSpace;
 
