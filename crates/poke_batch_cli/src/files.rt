@@ -53,7 +53,7 @@ impl<
     // Nothing is known of what the system has.
     ghost gives = { λ _. anything };
 
-    ghost failing = { λ o path spool space after is keeps risen. tt };
+    ghost failing = { λ o path spool space after end end' is keeps risen. tt };
 
     type Bytes = ShownSpace<Source, R, E>;
 

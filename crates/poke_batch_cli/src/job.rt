@@ -10,6 +10,7 @@ use crate::with_progress::ClearedWriter;
 use bit_space::OpenFault;
 use command_line::answer_form::AnswerForm;
 use command_line::request::{Over, Request};
+use command_line::subject::Subject;
 use jobs::why::Why;
 use jobs::{Ending, FileFault, Lengthless, report_in_json, run_job};
 use poke_batch::outcome::{Failure, Outcome};
@@ -30,7 +31,7 @@ pub fn do_job<
     R: Files<File = File> + Env + Input + Clock + AllocGlobal + Clone + Drop,
     O: Write + Drop,
     A: Write + Copy,
->(rt: &R, asked: Asked, out: O, aside: A, reason: &mut Vec<u8>) -> Ending {
+>(rt: &R, mut asked: Asked, out: O, aside: A, reason: &mut Vec<u8>) -> Ending {
     let out = ClearedWriter::new(out, aside, shows_reads(&asked.job));
     let Ok(mut out) = BufWriter::with_capacity(rt.alloc(), GATHERED, out) else {
         return Ending::Run(Outcome::Failed(Failure::Memory));
@@ -39,7 +40,7 @@ pub fn do_job<
         text: reason,
         asked: asked.why,
     };
-    let ending = match run_any(rt, &asked, &mut out, aside, &mut why) {
+    let ending = match run_any(rt, &mut asked, &mut out, aside, &mut why) {
         Ok(ending) => ending,
         Err(fault) => {
             explain_fault(rt, &asked.job, fault, &mut why);
@@ -119,14 +120,29 @@ fn tell_file<R: Files<File = File>>(
     let lengthless = lengthless_of(job);
     let reason = file_reason(rt, &OwnStreams::of(rt, job), path, lengthless);
     tell_unopened(path, reason, lengthless, text)?;
-    match type_of(job) {
-        Some(name) if is_there(rt, name) && !is_there(rt, path) => {
+    match subject_of(job) {
+        Some(Type::Named(name)) if is_there(rt, name) && !is_there(rt, path) => {
             add(text, &["  "])?;
             add_word(text, name)?;
             add(text, &[" is a file: are TYPE and FILE swapped?\n"])
         }
+        Some(Type::ByHead(word)) if !is_there(rt, path) => tell_reading(word, path, text),
         _ => Ok(()),
     }
+}
+
+// Adds how the last argument is read if TYPE is left out.
+fn tell_reading(word: &str, path: &str, text: &mut Vec<u8>) -> Result<(), AllocError> {
+    add(text, &["  "])?;
+    add_word(text, path)?;
+    add(
+        text,
+        &[
+            " is read as FILE, and the type is the one that the head of ",
+            word,
+        ],
+    )?;
+    add(text, &[" says; a TYPE is written before FILE\n"])
 }
 
 // Adds why the pickle that an argument names wasn't read. The system reports nothing about standard input.
@@ -178,10 +194,22 @@ fn lengthless_of(job: &Job) -> Lengthless {
     }
 }
 
-// The argument that names the type of a job over a file, if it has one.
-fn type_of(job: &Job) -> Option<&str> {
+// The type of a job over a file.
+#[derive(Clone, Copy)]
+enum Type<'a> {
+    // The one that an argument names.
+    Named(&'a str),
+    // The one that the head of the pickle says which an argument names.
+    ByHead(&'a str),
+}
+
+fn subject_of(job: &Job) -> Option<Type<'_>> {
     match job {
-        Job::Map { name, .. } | Job::Request(Request { name, .. }) => Some(name.as_str()),
+        Job::Map { name, .. } => Some(Type::Named(name)),
+        Job::Request(request) => match &request.subject {
+            Subject::Named { name, .. } => Some(Type::Named(name)),
+            Subject::ByHead { pickle, .. } => Some(Type::ByHead(pickle)),
+        },
         _ => None,
     }
 }
@@ -189,12 +217,13 @@ fn type_of(job: &Job) -> Option<&str> {
 // The argument that names the pickle of a job, if it has one.
 fn pickle_of(job: &Job) -> Option<&str> {
     match job {
+        Job::Request(request) => Some(request.subject.pickle()),
         Job::Map { pickle, .. }
-        | Job::Request(Request { pickle, .. })
         | Job::Bound { pickle, .. }
         | Job::BoundText { pickle, .. }
         | Job::Check { pickle }
-        | Job::Types { pickle } => Some(pickle.as_str()),
+        | Job::Types { pickle }
+        | Job::Parts { pickle, .. } => Some(pickle.as_str()),
         Job::Formats | Job::Dump { .. } => None,
     }
 }
@@ -204,13 +233,19 @@ fn run_any<
     R: Files<File = File> + Env + Input + Clock + AllocGlobal + Clone + Drop,
     O: Write,
     A: Write + Copy,
->(rt: &R, asked: &Asked, out: &mut O, aside: A, why: &mut Why<'_>) -> Result<Ending, FileFault> {
+>(
+    rt: &R,
+    asked: &mut Asked,
+    out: &mut O,
+    aside: A,
+    why: &mut Why<'_>,
+) -> Result<Ending, FileFault> {
     let opener = SystemFiles::new(rt.clone()?, aside, OwnStreams::of(rt, &asked.job));
     let mut aside = StandardError::new(rt.clone()?, aside, &asked.job);
     match run_job(rt.alloc(), &opener, asked, out, &mut aside, why)? {
         // Reasons that can't be written are an output that failed.
         Some(Ending::Silent(_)) if aside.has_failed() => Ok(Ending::Silent(Status::Outside)),
         Some(ending) => Ok(ending),
-        None => Ok(Ending::Run(list_formats(rt, out)?)),
+        None => Ok(Ending::Run(list_formats(rt, asked.answer, out)?)),
     }
 }

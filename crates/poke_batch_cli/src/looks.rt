@@ -1,7 +1,6 @@
-//! How a job that shows a value to the eye looks.
+//! The colors of a job that shows a value to the eye.
 use command_line::color::Color;
 use command_line::request::Form;
-use poke_batch::style::Look;
 use poke_batch::words::{Asked, Job};
 use std::env;
 use std::io::IsTerminal;
@@ -10,17 +9,17 @@ use std::rt::Env;
 /// The environment variable that requests no colour, if it is there and isn't empty.
 const NO_COLOR: &str = "NO_COLOR";
 
-/// Gives a job that shows a value its look. Such a job explains a fault too.
-pub fn give_look<R: Env + AllocGlobal, O: IsTerminal>(rt: &R, out: &O, asked: &mut Asked) {
+/// Settles whether a job that shows a value has colors. Such a job explains a fault too.
+pub fn settle_colors<R: Env + AllocGlobal, O: IsTerminal>(rt: &R, out: &O, asked: &mut Asked) {
     let Job::Request(request) = &mut asked.job else {
         return;
     };
-    if let Form::Shown { color, depth } = request.form {
-        request.terms.look = Some(Look {
-            elements: request.terms.style.elements,
-            depth,
-            dim: has_colors(rt, out, color),
-        });
+    if let Form::Shown { color, .. } = &mut request.form {
+        *color = if has_colors(rt, out, *color) {
+            Color::Always
+        } else {
+            Color::Never
+        };
         asked.why = true;
     }
 }

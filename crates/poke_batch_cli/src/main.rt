@@ -24,7 +24,7 @@ use given::{given_words, stands_for};
 use hints::{Explained, explained_endings, hint, lacks_why};
 use job::do_job;
 use jobs::Ending;
-use looks::give_look;
+use looks::settle_colors;
 use offset_reasons::tell_offset;
 use poke_batch::fault_form::FaultForm;
 use poke_batch::outcome::{Failure, Outcome};
@@ -116,7 +116,7 @@ fn read_job(rt: &HostRuntime) -> Result<Asked, WordFault> {
     asked.why |= always_explains(rt);
     // A command that has no option `--why` prints its reasons to a terminal anyway.
     asked.why |= lacks_why(&asked.job) && rt.stderr().is_terminal();
-    give_look(rt, &rt.stdout(), &mut asked);
+    settle_colors(rt, &rt.stdout(), &mut asked);
     // What a dump leaves out is printed to a terminal only.
     asked.default_size &= rt.stderr().is_terminal();
     give_progress(
@@ -191,7 +191,7 @@ fn reads_input_twice(job: &Job) -> bool {
         Over::Files {
             names: FileNames::EndedByZero(list),
             ..
-        } => request.pickle.as_str() == "-" && list.as_str() == "-",
+        } => request.subject.pickle() == "-" && list.as_str() == "-",
         _ => false,
     }
 }

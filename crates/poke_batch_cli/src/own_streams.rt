@@ -70,14 +70,14 @@ impl OwnStreams {
         let files = match job {
             Job::Request(
                 Request {
-                    pickle,
+                    subject,
                     over: Over::Files { names, .. },
                     ..
                 },
             ) => [
                 Shared::at(rt, OUTPUT),
                 Shared::at(rt, ERRORS),
-                Shared::at(rt, path_of(pickle)),
+                Shared::at(rt, path_of(subject.pickle())),
                 list_in(names).and_then(|path| Shared::at(rt, path_of(path))),
             ],
             _ => [
