@@ -272,7 +272,27 @@ static OPENINGS: [Pattern; 36] = [
 ];
 
 /// Tokens in a row, wherever they are.
-static ANYWHERE: [Pattern; 69] = [
+static ANYWHERE: [Pattern; 74] = [
+    Pattern {
+        tokens: [b"ORDER", b"endian", b"INTEGER", b"", b"", b""],
+        help: "leave out `endian`: write `$1 $9`",
+    },
+    Pattern {
+        tokens: [b"endian", b"NAME", b"NAME", b"", b"", b""],
+        help: "leave out `endian`: a byte order is `big` or `little` alone",
+    },
+    Pattern {
+        tokens: [b"", b"ORDER", b"-", b"endian", b"", b""],
+        help: "leave out `-endian`: write `$2` alone",
+    },
+    Pattern {
+        tokens: [b"", b"le", b"INTEGER", b"", b"", b""],
+        help: "write `little $9`",
+    },
+    Pattern {
+        tokens: [b"", b"be", b"INTEGER", b"", b"", b""],
+        help: "write `big $9`",
+    },
     Pattern {
         tokens: [b"INTEGER", b"NUMBER", b"*", b"NUMBER", b">", b""],
         help: "write the product as one number: the width in bits",
@@ -672,7 +692,11 @@ static OPERANDS: [Pattern; 9] = [
 ];
 
 /// Patterns for a refused token after a type or a name, or where one belongs.
-static FORMS: [Pattern; 26] = [
+static FORMS: [Pattern; 27] = [
+    Pattern {
+        tokens: [b"", b"", b"#", b"", b"", b""],
+        help: COMMENTS,
+    },
     Pattern {
         tokens: [b"", b"}", b"__attribute__", b"", b"", b""],
         help: "leave it out: there are no gaps between fields",

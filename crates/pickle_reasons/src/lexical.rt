@@ -266,6 +266,12 @@ fn help_number(alloc: Global, pickle: &[u8], at: usize) -> Result<Option<Vec<u8>
         [.., b'K' | b'M' | b'G', b'b' | b'B'] | [.., b'i', b'b' | b'B'] => {
             "units are `b`, `B` and whole numbers of bits after `#`: write 4 KiB as `4#8192`"
         }
+        [digits @ .., b'l' | b'L', b'e' | b'E'] if is_width(pickle, at) => {
+            return help_width(alloc, digits, b"little");
+        }
+        [digits @ .., b'b' | b'B', b'e' | b'E'] if is_width(pickle, at) => {
+            return help_width(alloc, digits, b"big");
+        }
         [b'0', b'b' | b'B' | b'o' | b'O', ..] => "digits after `0b` are 0 and 1, after `0o` 0 to 7",
         [digits @ .., b'B'] if is_unit(pickle, at) => return help_unit(alloc, digits),
         _ => match digits_help(alloc, word)? {
@@ -274,6 +280,18 @@ fn help_number(alloc: Global, pickle: &[u8], at: usize) -> Result<Option<Vec<u8>
         },
     };
     fixed_help(alloc, help)
+}
+
+/// Whether a number is where an integer type has its width.
+fn is_width(pickle: &[u8], at: usize) -> bool {
+    bytes_between(pickle, at.saturating_sub(4), at) == b"int<".as_slice()
+}
+
+/// What to write for a width with a byte order.
+fn help_width(alloc: Global, digits: &[u8], order: &[u8]) -> Result<Option<Vec<u8>>, AllocError> {
+    let words = b"write the width as `$0`, and `$1` before the type";
+    let text = sentence(alloc, words, &[Part::Word(digits), Part::Word(order)])?;
+    Ok(Some(text.into_bytes()))
 }
 
 /// Whether a number is where an offset type has its unit: after a comma.
