@@ -18,4 +18,6 @@ mod offset_words;
 #[cfg(test)]
 mod pickles;
 #[cfg(test)]
+mod twice;
+#[cfg(test)]
 mod words;
