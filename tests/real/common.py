@@ -6,6 +6,7 @@ import os
 import re
 import shutil
 import subprocess
+from contextlib import contextmanager
 from dataclasses import dataclass
 from functools import lru_cache
 from glob import glob
@@ -59,6 +60,11 @@ def empty(name, size):
         file.truncate(size)
 
 
+def plain(it):
+    """The number of a value, also of an offset."""
+    return it["magnitude"] if isinstance(it, dict) else it
+
+
 def text(numbers):
     return bytes(numbers).split(b"\0")[0].decode(errors="replace")
 
@@ -74,14 +80,33 @@ def found(pattern, printed):
     return it[1].strip() if it else ""
 
 
-def packages(*names):
-    """Fetches packages, and unpacks each in a folder of its name below `from`."""
+def packages(*names, only="*"):
+    """Fetches packages, and unpacks each in a folder of its name below `from`: all its files, or those that fit."""
     for name in names:
         run("apt-get", "download", "-q", name)
-    os.makedirs("from", exist_ok=True)
-    for package in glob("*.deb"):
-        run("dpkg", "-x", package, os.path.join("from", package.split("_")[0]))
-        os.remove(package)
+        unpack(name, only)
+
+
+def versions(*names, of):
+    """Fetches each version of packages that some releases have, and unpacks it in a folder of its own below `from`."""
+    with index(*(f"deb http://deb.debian.org/debian {it} main" for it in of)) as apt:
+        for name in names:
+            listed = run("apt-cache", *apt[2:], "madison", name)
+            if not listed:
+                raise RuntimeError(f"none of the releases {of} has {name}")
+            for version in sorted({line.split("|")[1].strip() for line in listed.splitlines()}):
+                run(*apt, "download", f"{name}={version}")
+                unpack(f"{name}_{version}")
+
+
+def unpack(folder, only="*"):
+    """Unpacks the package that was fetched, in a folder below `from`."""
+    [package] = glob("*.deb")
+    folder = os.path.join("from", folder)
+    os.makedirs(folder, exist_ok=True)
+    with subprocess.Popen(["dpkg", "--fsys-tarfile", package], stdout=subprocess.PIPE) as unpacked:
+        run("tar", "-C", folder, "-x", "--wildcards", only, stdin=unpacked.stdout)
+    os.remove(package)
 
 
 def take(pattern, ending=""):
@@ -94,25 +119,39 @@ def take(pattern, ending=""):
     shutil.rmtree("from")
 
 
-def sources(*names):
-    """Fetches the sources of packages by an index of their own, and unpacks them below `from`."""
-    os.makedirs("lists/partial")
-    os.makedirs("from")
-    of = found(r"^VERSION_CODENAME=(\w+)", run("cat", "/etc/os-release"))
-    with open("list", "w") as file:
-        file.write(f"deb-src http://deb.debian.org/debian {of} main\n")
-    here = os.getcwd()
-    lists = ("Etc::sourcelist", f"{here}/list"), ("Etc::sourceparts", "-"), ("State::lists", f"{here}/lists")
-    apt = ["apt-get", "-q", *(f"-oDir::{name}={it}" for name, it in lists)]
-    run(*apt, "update")
-    run(*apt, "source", "--download-only", *names)
-    for it in glob("*.orig.tar.*"):
-        if not it.endswith(".asc"):  # a signature
-            run("tar", "-C", "from", "-xf", it)
-    shutil.rmtree("lists")
+def sources(*names, of=""):
+    """Fetches the sources of packages of a release, or of the one that runs, and unpacks them below `from`."""
+    of = of or found(r"^VERSION_CODENAME=(\w+)", run("cat", "/etc/os-release"))
+    with index(f"deb-src http://deb.debian.org/debian {of} main") as apt:
+        for name in names:
+            # (its signature or the packaging may be gone from a mirror, and isn't needed)
+            subprocess.run([*apt, "source", "--download-only", name], capture_output=True, check=False)
+    archives = [it for it in glob("*.orig.tar.*") if not it.endswith(".asc")]
+    if len(archives) < len(names):
+        raise RuntimeError(f"of the sources of {names} there are {archives}")
+    for it in archives:
+        run("tar", "-C", "from", "-xf", it)
     for it in glob("*"):
         if os.path.isfile(it):
             os.remove(it)
+
+
+@contextmanager
+def index(*lines):
+    """The command apt-get with an index of its own, of lines as in sources.list, in this folder."""
+    os.makedirs("lists/partial")
+    os.makedirs("from", exist_ok=True)
+    with open("list", "w") as file:
+        file.write("\n".join(lines) + "\n")
+    here = os.getcwd()
+    lists = ("Etc::sourcelist", f"{here}/list"), ("Etc::sourceparts", "-"), ("State::lists", f"{here}/lists")
+    apt = ["apt-get", "-q", *(f"-oDir::{name}={it}" for name, it in lists)]
+    try:
+        run(*apt, "update")
+        yield apt
+    finally:
+        shutil.rmtree("lists")
+        os.remove("list")
 
 
 def some(fitting, count):

@@ -7,9 +7,11 @@ from common import COUNT, Format, found, packages, run, take
 
 
 def make_bzimage():
-    listed = run("apt-cache", "search", "-n", r"^linux-image-[0-9.+a-z~-]+-cloud-amd64(-unsigned)?$").split("\n")
-    names = sorted(it.split()[0] for it in listed if it)[-COUNT + 2 :]
-    packages(*names, "debian-installer-12-netboot-amd64", "debian-installer-12-netboot-i386")
+    kernels = r"^linux-image-[0-9]+([.][0-9]+){2}[0-9+a-z-]*-(cloud|rt)-amd64(-unsigned)?$"
+    listed = run("apt-cache", "search", "-n", kernels)
+    names = sorted(it.split()[0] for it in listed.splitlines())[-COUNT + 2 :]
+    packages(*names, only="./boot/vmlinuz-*")
+    packages("debian-installer-12-netboot-amd64", "debian-installer-12-netboot-i386")
     for number, it in enumerate(glob("from/debian-installer*/**/linux", recursive=True)):
         shutil.move(it, f"from/vmlinuz-installer-{number}")
     take("vmlinuz-*")

@@ -8,7 +8,7 @@ import struct
 from glob import glob
 from uuid import UUID
 
-from common import Format, packages, run
+from common import Format, run, versions
 
 
 LZMA = UUID("ee4e5898-3914-4259-9d6e-dc7bd79403cf").bytes_le
@@ -32,7 +32,8 @@ def volumes(data):
 
 
 def make_firmware_volume():
-    packages("ovmf", "ovmf-ia32", "qemu-efi-aarch64", "qemu-efi-arm")
+    names = "ovmf", "ovmf-ia32", "qemu-efi-aarch64", "qemu-efi-arm", "qemu-efi-loongarch64", "qemu-efi-riscv64"
+    versions(*names, of=("bookworm", "trixie", "sid"))
     seen = {}
     for image in sorted(glob("from/**/*.fd", recursive=True)):
         with open(image, "rb") as file:
@@ -42,6 +43,15 @@ def make_firmware_volume():
         with open(f"{number:02}-{name}.fv", "wb") as file:
             file.write(data)
     shutil.rmtree("from")
+
+
+PRINTED = 1000  # elements of an array: more than the files, the variables or the letters of a name
+
+
+def count(elements):
+    """How many elements an array has, of which the first are printed."""
+    more = elements[-1].get("..", 1) if elements and isinstance(elements[-1], dict) else 1
+    return len(elements) - 1 + more if elements else 0
 
 
 def identity(it):
@@ -69,7 +79,7 @@ def firmware_volume(value, _):
                 facts["parts"].append((kind, at, size, identity(of["name"]) if kind != "Pad" else "Padding file"))
             at += (size + 7) // 8 * 8
         # (nor does it tell free space that is shorter than the header of a file)
-        free = len(it["free"]) * 8 if len(it["free"]) > 2 else 0
+        free = count(it["free"]) * 8 if count(it["free"]) > 2 else 0
     else:
         at += 28
         for of in it["store"]["variables"]:
@@ -78,7 +88,7 @@ def firmware_volume(value, _):
             used = ("Auth", at, size, f"{identity(of['vendor'])} | {name}")
             facts["parts"].append(used if of["state"] == 0x3F else ("Invalid", at, size, "Invalid"))
             at += (size + 3) // 4 * 4
-        free = len(it["store"]["free"])
+        free = count(it["store"]["free"])
     return facts | {"free": (at, free) if free else ()}
 
 
@@ -109,6 +119,6 @@ FORMATS = {
         make_firmware_volume,
         firmware_volume,
         firmware_volume_by_tool,
-        ("--endian", "little"),
+        ("--endian", "little", "--elements", str(PRINTED)),
     ),
 }

@@ -1,26 +1,35 @@
-"""USB descriptors of the devices in the tests of umockdev, compared with tshark."""
+"""USB descriptors of devices that tests describe for umockdev, compared with tshark."""
 
 import os
 import re
 import shutil
 import struct
-from glob import glob
+from xml.etree.ElementTree import fromstring
 
-from common import Format, run, sources
+from common import Format, plain, run, sources
 
 
 def make_usb():
     sources("umockdev")
-    found = {}
-    for path in sorted(glob("from/**/*", recursive=True)):
-        if os.path.isfile(path) and os.path.getsize(path) < 1 << 20:
-            with open(path, encoding="latin-1") as file:
-                for digits in re.findall(r"^H: descriptors=([0-9A-F]+)$", file.read(), re.M):
-                    found.setdefault(bytes.fromhex(digits), re.sub(r"\W", "_", path[5:])[-40:])
+    sources("gnome-settings-daemon", "libfprint", "usbguard", of="trixie")
+    seen = {}
+    for at, _, names in os.walk("from"):
+        for path in sorted(os.path.join(at, it) for it in names):
+            for digits in descriptors(path):
+                seen.setdefault(bytes.fromhex(digits), re.sub(r"\W", "_", path[5:])[-40:])
     shutil.rmtree("from")
-    for number, (data, name) in enumerate(found.items()):
+    for number, (data, name) in enumerate(seen.items()):
         with open(f"{number:02}-{name}.usb", "wb") as file:
             file.write(data)
+
+
+def descriptors(path):
+    """The digits of the descriptors in a description of devices as umockdev reads it."""
+    if not os.path.isfile(path) or os.path.islink(path):
+        return []
+    with open(path, "rb") as file:
+        lines = [it.rstrip() for it in file if it.startswith(b"H: descriptors=")]
+    return [it.split(b"=")[1].decode() for it in lines]
 
 
 DEVICE = {"bcdUSB": "usb_version", "idVendor": "vendor", "idProduct": "product", "bcdDevice": "version"}
@@ -28,10 +37,6 @@ DEVICE |= {"bDeviceClass": "class", "bNumConfigurations": "configuration_count"}
 CONFIGURATION = {"wTotalLength": "total", "bNumInterfaces": "interface_count", "bConfigurationValue": "number"}
 INTERFACE = {"bInterfaceNumber": "number", "bAlternateSetting": "alternative", "bNumEndpoints": "end_point_count"}
 INTERFACE |= {"bInterfaceClass": "class", "bInterfaceSubClass": "subclass", "bInterfaceProtocol": "protocol"}
-
-
-def plain(it):
-    return it["magnitude"] if isinstance(it, dict) else it
 
 
 def usb(value, _):
@@ -74,12 +79,15 @@ def usb_by_tool(file):
     names = [*DEVICE, *CONFIGURATION, *INTERFACE, "bEndpointAddress", "wMaxPacketSize"]
     fields = [word for it in names for word in ("-e", f"usb.{it}")]
     printed = run("tshark", "-r", "answers.pcap", "-T", "fields", "-E", "separator=|", *fields)
+    tree = fromstring(run("tshark", "-r", "answers.pcap", "-T", "pdml").encode())
     os.remove("answers.pcap")
     facts = {name: [] for name in names}
     for line in printed.splitlines():
         for name, it in zip(names, line.split("|")):
             facts[name] += [int(number, 0) for number in it.split(",") if number]
-    return facts
+    # (a descriptor of a video class gives the address again)
+    points = tree.iterfind(".//field[@show='ENDPOINT DESCRIPTOR']/field[@name='usb.bEndpointAddress']")
+    return facts | {"bEndpointAddress": [int(it.get("show"), 0) for it in points]}
 
 
 FORMATS = {"usb": Format("usb", "Descriptors", make_usb, usb, usb_by_tool)}
