@@ -43,7 +43,7 @@ JAVA = {
 def java(value, _):
     constants, at = [], 1
     for it in value["constants"]:
-        tag = it["item"]["constant"]["tag"]
+        tag = it["constant"]["tag"]
         constants.append((at, JAVA[tag]))
         at += 2 if tag in (5, 6) else 1
     flags = 0

@@ -16,11 +16,16 @@ def make_wasm():
 WASM = ("", "TYPE", "IMPORT", "FUNCTION", "TABLE", "MEMORY", "GLOBAL", "EXPORT", "START", "ELEM", "CODE", "DATA")
 
 
+def length_of(it):
+    if not it["more"]:
+        return it["value"]
+    return it["low"]["value"] + (length_of(it["high"]) << 14 if "high" in it else 0)
+
+
 def wasm(value, _):
     sections = []
     for it in value["sections"]:
-        number = it["size"]["number"]
-        size = sum(of["bits"] << 7 * at for at, of in enumerate([*number["front"], number["last"]]))
+        size = length_of(it["size"])
         names = (*WASM, "DATACOUNT")
         name = names[it["id"]]
         if it["id"] == 0:

@@ -25,7 +25,9 @@ def make_xz():
 
 
 def number_of(it):
-    return sum(of["bits"] << 7 * at for at, of in enumerate([*it["front"], it["last"]]))
+    if not it["more"]:
+        return it["value"]
+    return it["low"]["value"] + (number_of(it["high"]) << 14 if "high" in it else 0)
 
 
 def xz(value, _):
