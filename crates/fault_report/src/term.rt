@@ -61,6 +61,7 @@ pub fn term_text(
         | Outcome::Offset
         | Outcome::Fault(_)
         | Outcome::Slots(_)
+        | Outcome::Unidentified
         | Outcome::Failed(_) => return Ok(None),
     };
     Ok(Some(text))

@@ -86,4 +86,5 @@ IsRefusedFor pickle (outcome.Slots at) = Unit {0}
 IsRefusedFor pickle (outcome.Left at) = Unit {0}
 IsRefusedFor pickle outcome.NoSuchPart = Unit {0}
 IsRefusedFor pickle (outcome.Output at) = Unit {0}
+IsRefusedFor pickle outcome.Unidentified = Unit {0}
 IsRefusedFor pickle (outcome.Failed why) = Unit {0}

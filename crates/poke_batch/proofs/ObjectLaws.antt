@@ -210,6 +210,7 @@ done_before (outcome.Slots at) e = cc
 done_before (outcome.Left at) e = cc
 done_before outcome.NoSuchPart e = cc
 done_before (outcome.Output at) e = cc
+done_before outcome.Unidentified e = cc
 done_before (outcome.Failed failure.Memory) e = cc
 done_before (outcome.Failed failure.Device) e = cc
 done_before (outcome.Failed failure.Write) e = cc

@@ -39,3 +39,6 @@ type_json = refl
 
 part_json : outcome_json outcome.NoSuchPart ≡ codes "{\"fault\":\"NoSuchPart\"}\n"
 part_json = refl
+
+unidentified_line : outcome_line outcome.Unidentified ≡ codes "fault Unidentified\n"
+unidentified_line = refl

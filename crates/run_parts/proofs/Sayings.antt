@@ -59,6 +59,7 @@ outcome_lines (outcome.Slots at) = refl
 outcome_lines (outcome.Left at) = refl
 outcome_lines outcome.NoSuchPart = refl
 outcome_lines (outcome.Output at) = refl
+outcome_lines outcome.Unidentified = refl
 outcome_lines (outcome.Failed why) = refl
 
 -- the object of an outcome is made of its exit status, name and place
@@ -74,6 +75,7 @@ object_made (outcome.Slots at) other = refl
 object_made (outcome.Left at) other = refl
 object_made outcome.NoSuchPart other = refl
 object_made (outcome.Output at) other = refl
+object_made outcome.Unidentified other = refl
 object_made (outcome.Failed why) other = refl
 
 pub members_made : (ended : Outcome) → ended ≢ outcome.Done →
@@ -88,6 +90,7 @@ members_made (outcome.Slots at) other = refl
 members_made (outcome.Left at) other = refl
 members_made outcome.NoSuchPart other = refl
 members_made (outcome.Output at) other = refl
+members_made outcome.Unidentified other = refl
 members_made (outcome.Failed why) other = refl
 
 -- a fact of a result that is an error

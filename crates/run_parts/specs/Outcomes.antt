@@ -42,6 +42,7 @@ outcome_saying (outcome.Slots at) = Line Fault (fault_at_line (codes "Slots") at
 outcome_saying (outcome.Left at) = Line Fault (fault_at_line (codes "Left") at)
 outcome_saying outcome.NoSuchPart = Line Fault (fault_line (codes "NoSuchPart"))
 outcome_saying (outcome.Output at) = Line Fault (fault_at_line (codes "Output") at)
+outcome_saying outcome.Unidentified = Line Fault (fault_line (codes "Unidentified"))
 outcome_saying (outcome.Failed why) = Line Outside (fault_line (failure_kind why))
 
 -- the exit status and the line of what is said
@@ -71,6 +72,7 @@ outcome_kind (outcome.Slots at) = codes "Slots"
 outcome_kind (outcome.Left at) = codes "Left"
 outcome_kind outcome.NoSuchPart = codes "NoSuchPart"
 outcome_kind (outcome.Output at) = codes "Output"
+outcome_kind outcome.Unidentified = codes "Unidentified"
 outcome_kind (outcome.Failed why) = failure_kind why
 
 -- a failure of the environment is no fault of the mapping, and has no place
@@ -104,6 +106,7 @@ outcome_place (outcome.Slots at) = Bit at
 outcome_place (outcome.Left at) = Bit at
 outcome_place outcome.NoSuchPart = Nowhere
 outcome_place (outcome.Output at) = Bit at
+outcome_place outcome.Unidentified = Nowhere
 outcome_place (outcome.Failed why) = Nowhere
 
 -- an outcome as a JSON object on a line; of a run that is done there is none

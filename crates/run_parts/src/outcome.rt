@@ -69,6 +69,8 @@ pub enum Outcome {
     NoSuchPart,
     /// The printed value of the mapping that began at this bit has too many bytes.
     Output(u64),
+    /// The file has none of the formats that were tried.
+    Unidentified,
     /// Something in the environment failed.
     Failed(Failure),
 }
@@ -90,9 +92,11 @@ impl Outcome {
             Outcome::Refused(_) | Outcome::NoSuchType | Outcome::ImpossiblePart | Outcome::Offset =>
                 Status::Refused,
             Outcome::Fault(fault) => fault_status(fault.kind),
-            Outcome::Slots(_) | Outcome::Left(_) | Outcome::NoSuchPart | Outcome::Output(_) => {
-                Status::Fault
-            }
+            Outcome::Slots(_)
+            | Outcome::Left(_)
+            | Outcome::NoSuchPart
+            | Outcome::Output(_)
+            | Outcome::Unidentified => Status::Fault,
         }
     }
 
@@ -110,6 +114,7 @@ impl Outcome {
             Outcome::Left(_) => "Left",
             Outcome::ImpossiblePart | Outcome::NoSuchPart => "NoSuchPart",
             Outcome::Output(_) => "Output",
+            Outcome::Unidentified => "Unidentified",
             Outcome::Failed(failure) => failure.name(),
         }
     }
@@ -128,6 +133,7 @@ impl Outcome {
             | Outcome::ImpossiblePart
             | Outcome::Offset
             | Outcome::NoSuchPart
+            | Outcome::Unidentified
             | Outcome::Failed(_) => RunEnd::Nowhere,
         }
     }
