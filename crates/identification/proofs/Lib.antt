@@ -1,4 +1,7 @@
 pub mod Answered
+pub mod Bare
+pub mod Collected
+pub mod InTime
 pub mod Lines
 pub mod Ranks
 pub mod Sorting

@@ -40,18 +40,18 @@ turn_last : (p n : ℕ) (a : Order) → p < n → turn p a < 2 * n
 turn_last p n Little lt = omega arith
 turn_last p n Big lt = omega arith
 
-below_or_at : (m n : ℕ) → m < n + 1 → (m < n) ⊎ (m ≡ n)
+pub below_or_at : (m n : ℕ) → m < n + 1 → (m < n) ⊎ (m ≡ n)
 below_or_at m zero lt = inr (omega arith)
 below_or_at zero (suc n) lt = inl (omega arith)
 below_or_at (suc m) (suc n) lt =
     elim (below_or_at m n (omega arith)) [ inl less ↦ inl (omega arith) | inr e ↦ inr (ap suc e) ]
 
-in_list : {X : Type 0} (xs : List X) (i : ℕ) (x : X) → slice_get xs i ≡ Some x → i < length xs
+pub in_list : {X : Type 0} (xs : List X) (i : ℕ) (x : X) → slice_get xs i ≡ Some x → i < length xs
 in_list [] i x e = cc
 in_list (y ∷ xs) zero x e = omega arith
 in_list (y ∷ xs) (suc i) x e = let lt = in_list xs i x e in omega arith
 
-any_left : {X : Type 0} (P : X → Type 0) (xs : List X) (y : X) → Any P xs → Any P (xs ++ y ∷ [])
+pub any_left : {X : Type 0} (P : X → Type 0) (xs : List X) (y : X) → Any P xs → Any P (xs ++ y ∷ [])
 any_left P xs y (k, x, lt, is, p) =
     (k, x, (let n = length_push xs y in omega arith), get_or_append_left xs (y ∷ []) x k lt ∙ is, p)
 
@@ -61,7 +61,7 @@ below_most m zero = inr (omega arith)
 below_most zero (suc n) = inl (omega arith)
 below_most (suc m) (suc n) = elim (below_most m n) [ inl lt ↦ inl (omega arith) | inr le ↦ inr (omega arith) ]
 
-risen_later : (first before after : ℕ) → first ≤ before → before ≤ after → HasRisen before after →
+pub risen_later : (first before after : ℕ) → first ≤ before → before ≤ after → HasRisen before after →
     HasRisen first after
 risen_later first before after le le' risen low =
     elim (below_most before (2 ^ 64 - 1)) [

@@ -47,7 +47,7 @@ pub fn try_type<S: Space>(
 }
 
 // Measures the value that a store holds.
-fn measure(table: &Table, id: TypeId, store: &Store) -> Measured
+pub(crate) fn measure(table: &Table, id: TypeId, store: &Store) -> Measured
     requires known { IsInTable table.now id }
     requires held { IsSome (value_at (levels (nodes_of table.now) store.now) 0 0) }
     ensures { (value : Value) → value_at (levels (nodes_of table.now) store.now) 0 0 ≡ Some value

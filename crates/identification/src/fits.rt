@@ -128,7 +128,7 @@ fn type_to_try(format: &Format, order: Order) -> Option<TypeId>
     if tries { format.identifying } else { None }
 }
 
-fn no_memory(start: u64) -> MapFault
+pub(crate) fn no_memory(start: u64) -> MapFault
     ensures { result.kind ≡ MapFaultKind.Memory }
 {
     MapFault {
