@@ -1,18 +1,17 @@
 -- Each outcome takes at most the grains that the tighter bound gives it.
-use Rattle.std.proofs.Common.{◌≡◌, ℕ, zero, suc, ◌+◌, ◌-◌, ◌*◌, ◌<◌, ◌≤◌, max, length, Bool, true, false, List, Option, Some, None, Result, Ok, Err, refl, sym, ap, subst, ◌∙◌, arith}
-use Rattle.std.specs.Prelude.{if◌then◌else◌, ◌||◌}
+use Rattle.std.proofs.Common.{◌≡◌, ℕ, ◌+◌, ◌*◌, ◌≤◌, max, length, Bool, true, false, List, Option, Some, Result, Ok, Err, sym, ap, subst, ◌∙◌, arith}
+use Rattle.std.specs.Prelude.{◌||◌}
 use Rattle.bit_space.specs.declared.order.Order.{Order}
-use Rattle.pickle_types.specs.declared.integer.IntegerType.{IntegerType}
-use Rattle.pickle_types.specs.Types.{Term, Bound, Unbounded, ByCount, BySize, PokeType, IntegerOf, OffsetOf, StringOf, ArrayOf, StructOf, IntegralOf, UnionOf, Fields, NoFields, FieldThen, Parts, NoParts, PartThen, optional_weight, bound_weight}
-use Rattle.pickle_types.specs.Bounds.{is_some, has_label, where_present}
+use Rattle.pickle_types.specs.Types.{Term, Bound, PokeType, ArrayOf, Fields, Parts, PartThen, optional_weight, bound_weight}
+use Rattle.pickle_types.specs.Bounds.{has_label, where_present}
 use Rattle.pickle_meaning.specs.declared.extent.Extent.{Extent}
 use Rattle.pickle_meaning.specs.Values.{Value, end_of, Levels, pushed}
-use Rattle.pickle_meaning.specs.Clauses.{FaultAt, clause_steps, label_steps, bound_steps, constraint, condition, field_start, extent_of, is_due, ends_before, misses}
-use Rattle.pickle_meaning.specs.Means.{Means, past_end, number_read, number_end, string, string_end, array, bound_fault, struct, struct_fault, union, union_fault, NumberMeans, integer, offset, integral, integral_fault, no_number, DigitsMean, no_digits, next_digits, digits_refused, digits_fault, number_type, width_in, Run, no_bytes, next_byte, Elements, no_more, next_element, Closing, none_due, beyond_size, no_bits, ends_without, element_fault, PartMeans, part, part_refused, part_fault, FieldsMean, all_fields, absent, field, condition_fault, label_fault, field_fault, AlternativesMean, none_left, fits, misses_it, other_fault, Opened, Taken}
+use Rattle.pickle_meaning.specs.Clauses.{FaultAt, clause_steps, label_steps, bound_steps, extent_of, misses}
+use Rattle.pickle_meaning.specs.Means.{Means, past_end, number_read, number_end, string, string_end, array, bound_fault, struct, struct_fault, union, union_fault, Elements, no_more, next_element, Closing, none_due, beyond_size, no_bits, ends_without, element_fault, PartMeans, part, part_refused, part_fault, FieldsMean, all_fields, absent, field, condition_fault, label_fault, field_fault, AlternativesMean, none_left, fits, misses_it, other_fault, Opened, Taken}
 use Rattle.mapping_plans.proofs.Basics.{clash}
 use Rattle.mapping_plans.proofs.Widths.{EndsFrom, EndsAt, opened_end, taken_end, from_less, number_ends, starts_from, next_start, later_unlabelled, absent_width, present_least, means_inside, elements_inside, elements_further}
-use Rattle.tight_bounds.specs.Tight.{octet, grain, constant_count, of_constant, of_others, reduced, array_rate, if_unbounded, if_bounded, if_followed, if_tested, before, both_missed, part_missed, width, own, fields_own, parts_own, fixed, rate, attempt, missed, fields_fixed, sum_of_rates, greatest_rate, fields_attempt, fields_missed, digits_fixed, digits_missed, parts_fixed, parts_rate, parts_attempt, parts_missed}
-use Rattle.tight_bounds.proofs.Sums.{times_le, widen, raise, loose, fewer, field_both, field_next, field_fails, field_absent, clause_fails, with_clause, one_first, digits_more, alternative_fits, alternative_misses, miss_later, array_misses, one_more, array_ends, array_drops, array_fails, bound_fails, string_ends, string_fails, shared}
+use Rattle.tight_bounds.specs.Tight.{octet, grain, constant_count, of_constant, reduced, if_bounded, part_missed, width, own, fields_own, parts_own, fixed, rate, attempt, missed, fields_fixed, sum_of_rates, greatest_rate, fields_attempt, fields_missed, parts_fixed, parts_rate, parts_attempt, parts_missed}
+use Rattle.tight_bounds.proofs.Sums.{times_le, widen, raise, loose, fewer, field_fails, clause_fails, with_clause, one_first, alternative_fits, miss_later, array_misses, one_more, array_ends, array_drops, array_fails, bound_fails, string_ends, string_fails}
 use Rattle.tight_bounds.proofs.Evaluations.{clause_within, label_within, bound_within}
 use Rattle.tight_bounds.proofs.FaultKinds.{condition_no_miss, start_no_miss, bound_no_miss}
 use Rattle.tight_bounds.proofs.Extents.{due_below, none_due_from, unbounded_alone, bounded_alone, unbounded_none}

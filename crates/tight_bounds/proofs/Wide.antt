@@ -1,5 +1,5 @@
 -- A value has at least the width of its type.
-use Rattle.std.proofs.Common.{◌≡◌, ℕ, ◌+◌, ◌*◌, ◌≤◌, max, length, Bool, true, false, List, Option, Some, None, Result, Ok, Err, refl, sym, ap, subst, arith}
+use Rattle.std.proofs.Common.{◌≡◌, ℕ, ◌+◌, ◌*◌, ◌≤◌, max, Bool, true, false, List, Option, Some, None, Result, Ok, Err, refl, sym, ap, subst, arith}
 use Rattle.std.specs.Prelude.{◌||◌, if◌then◌else◌}
 use Rattle.bit_space.specs.declared.order.Order.{Order}
 use Rattle.pickle_tree.specs.declared.tree.ByteOrder.{ByteOrder}
@@ -7,9 +7,8 @@ use Rattle.pickle_types.specs.declared.integer.IntegerType.{IntegerType}
 use Rattle.pickle_types.specs.Types.{Term, Bound, Unbounded, ByCount, BySize, PokeType, IntegerOf, OffsetOf, StringOf, ArrayOf, StructOf, IntegralOf, UnionOf, Fields, NoFields, FieldThen, Parts, NoParts, PartThen}
 use Rattle.pickle_types.specs.Bounds.{has_label, where_present, is_some}
 use Rattle.pickle_meaning.specs.declared.extent.Extent.{Extent}
-use Rattle.pickle_meaning.specs.declared.faults.MapFaultKind.{MapFaultKind}
 use Rattle.pickle_meaning.specs.Values.{Naming, Value, end_of, Levels}
-use Rattle.pickle_meaning.specs.Clauses.{FaultAt, extent_of, is_due, ends_before}
+use Rattle.pickle_meaning.specs.Clauses.{FaultAt, extent_of}
 use Rattle.pickle_meaning.specs.Means.{Means, past_end, number_read, number_end, string, string_end, array, bound_fault, struct, struct_fault, union, union_fault, number_type, width_in, Run, no_bytes, next_byte, Elements, no_more, next_element, Closing, none_due, beyond_size, no_bits, ends_without, element_fault, PartMeans, part, part_refused, part_fault, FieldsMean, all_fields, absent, field, condition_fault, label_fault, field_fault, AlternativesMean, none_left, fits, misses_it, other_fault, Opened, Taken}
 use Rattle.mapping_plans.proofs.Basics.{clash}
 use Rattle.mapping_plans.proofs.Widths.{EndsFrom, EndsAt, opened_end, taken_end, number_ends, from_less, starts_from, next_start, later_unlabelled, present_least, absent_width, elements_further}
