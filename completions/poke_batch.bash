@@ -8,6 +8,7 @@ _poke_batch_options_of() {
         map) echo '--at --byte --length --inside --endian --limit --whole --max-output --slots --get --spool --progress --rows --header --absent --mode --numbers --chars --elements --faults --why --help' ;;
         show) echo '--at --byte --length --inside --endian --limit --whole --max-output --slots --get --spool --progress --elements --depth --color --help' ;;
         each) echo '--at --byte --length --inside --endian --limit --whole --max-output --slots --get --spool --progress --absent --mode --numbers --chars --elements --faults --why --flush --files0-from --help' ;;
+        identify) echo '--spool --progress --all --in --byte --length --mode --faults --why --flush --files0-from --help' ;;
         bound) echo '--text --mode --numbers --chars --elements --why --help' ;;
         check) echo '--mode --why --help' ;;
         types) echo '--mode --parts --depth --why --help' ;;
@@ -19,7 +20,7 @@ _poke_batch_options_of() {
 
 # Whether an option has a value.
 _poke_batch_takes_value_of() {
-    [[ $1 =~ ^(--(at|byte|length|endian|limit|max-output|slots|get|spool|rows|absent|mode|numbers|chars|elements|faults|depth|parts|color|files0-from|from|size|skip)|-[sn])$ ]]
+    [[ $1 =~ ^(--(at|byte|length|endian|limit|max-output|slots|get|spool|rows|absent|in|mode|numbers|chars|elements|faults|depth|parts|color|files0-from|from|size|skip)|-[sn])$ ]]
 }
 
 # The words that an option of a command accepts, if it is a choice.
@@ -29,7 +30,7 @@ _poke_batch_words_of() {
         map/--absent | each/--absent) echo 'fault empty' ;;
         map/--mode | bound/--mode) echo 'flat tree json lines' ;;
         each/--mode) echo 'flat json' ;;
-        check/--mode | types/--mode | formats/--mode | map/--faults | each/--faults) echo 'text json' ;;
+        check/--mode | types/--mode | formats/--mode | identify/--mode | map/--faults | each/--faults | identify/--faults) echo 'text json' ;;
         map/--numbers | each/--numbers | bound/--numbers) echo 'decimal hex digits' ;;
         map/--chars | each/--chars | bound/--chars) echo 'numbers text' ;;
         show/--color) echo 'auto always never' ;;
@@ -40,23 +41,24 @@ _poke_batch_words_of() {
 _poke_batch_kind_of() {
     case $1 in
         --at | --from | --size) echo 'offset' ;;
-        --files0-from) echo 'file' ;;
+        --in | --files0-from) echo 'file' ;;
     esac
 }
 
 # What an argument of a command is, by its number.
 _poke_batch_place_of() {
     case $1/$2 in
-        map/0 | show/0 | each/0 | bound/0 | check/0 | types/0) echo 'pickle' ;;
+        map/0 | each/0 | bound/0 | check/0 | types/0) echo 'pickle' ;;
         map/1 | show/1 | each/1 | bound/1) echo 'type' ;;
-        map/2 | show/2 | each/* | dump/0) echo 'file' ;;
+        map/2 | show/2 | each/* | identify/* | dump/0) echo 'file' ;;
+        show/0) echo 'pickle_or_file' ;;
         bound/2) echo 'bits' ;;
     esac
 }
 
 # The commands.
 _poke_batch_commands_of() {
-    echo 'map show each bound check types formats dump help'
+    echo 'map show each identify bound check types formats dump help'
 }
 # tools/options: end
 
@@ -108,11 +110,11 @@ _poke_batch_offsets() {
     [[ $1 =~ ^([0-9]+)(#.*)?$ ]] && _poke_batch_words "$1" "${BASH_REMATCH[1]}#b ${BASH_REMATCH[1]}#B"
 }
 
-# The pickles: files, standard input, and the installed ones after a + or where no file is offered.
+# The pickles: files with an ending, standard input, and the installed ones after a + or where no file is offered.
 _poke_batch_pickles() {
     local program
     program=$(_poke_batch_plain "$1")
-    _poke_batch_files "$2" .pk
+    _poke_batch_files "$2" "$3"
     if ((${#COMPREPLY[@]} == 0)) && [[ -z $2 || $2 == +* ]]; then
         _poke_batch_reply "$2" "$("$program" formats 2>/dev/null </dev/null | sed 's/^/+/; s/\t.*//')"
     fi
@@ -179,7 +181,8 @@ _poke_batch() {
             ;;
     esac
     case $(_poke_batch_place_of "$command" "${#arguments[@]}") in
-        pickle) _poke_batch_pickles "$program" "$current" ;;
+        pickle) _poke_batch_pickles "$program" "$current" .pk ;;
+        pickle_or_file) _poke_batch_pickles "$program" "$current" '' ;;
         type) _poke_batch_types "$program" "${arguments[0]}" "$current" ;;
         file) _poke_batch_files "$current" ;;
     esac

@@ -3,7 +3,7 @@
 # tools/options: options with a value
 # Whether an option has a value.
 function __poke_batch_takes_value
-    contains -- $argv[1] --at --byte --length --endian --limit --max-output --slots --get --spool --rows --absent --mode --numbers --chars --elements --faults --depth --parts --color --files0-from --from --size --skip -s -n
+    contains -- $argv[1] --at --byte --length --endian --limit --max-output --slots --get --spool --rows --absent --in --mode --numbers --chars --elements --faults --depth --parts --color --files0-from --from --size --skip -s -n
 end
 # tools/options: end
 
@@ -80,13 +80,14 @@ complete -c poke_batch -n 'not __poke_batch_is help' -l help -s h -d 'Print the 
 complete -c poke_batch -n '__poke_batch_has 0' -a map -d 'Maps a type over a file and prints the value'
 complete -c poke_batch -n '__poke_batch_has 0' -a show -d 'Maps a type over a file and shows the value, or what a fault is about, to the eye'
 complete -c poke_batch -n '__poke_batch_has 0' -a each -d 'Maps a type over many files, one after the other, and prints a line for each'
+complete -c poke_batch -n '__poke_batch_has 0' -a identify -d 'Finds the formats of files by the pickles that are installed, and prints a line for each file'
 complete -c poke_batch -n '__poke_batch_has 0' -a bound -d 'Prints the most steps and slots that mapping a type over so many bits takes'
 complete -c poke_batch -n '__poke_batch_has 0' -a check -d 'Checks a pickle and prints the number of its types'
 complete -c poke_batch -n '__poke_batch_has 0' -a types -d 'Prints the name, the kind and the least width of each type of a pickle'
 complete -c poke_batch -n '__poke_batch_has 0' -a formats -d 'Prints the name, the type, the options and a sentence of each pickle that is installed'
 complete -c poke_batch -n '__poke_batch_has 0' -a dump -d 'Prints the bytes of a file in hexadecimal digits and as text'
 complete -c poke_batch -n '__poke_batch_has 0' -a help -d 'Print the help of the program or of a command'
-complete -c poke_batch -n '__poke_batch_has 1 help' -a 'map show each bound check types formats dump help'
+complete -c poke_batch -n '__poke_batch_has 1 help' -a 'map show each identify bound check types formats dump help'
 
 complete -c poke_batch -n '__poke_batch_is map show each' -l at -xa '(__poke_batch_offsets)' -d 'Where the value begins in FILE'
 complete -c poke_batch -n '__poke_batch_is map show each' -l byte -x -d 'The byte where the value begins'
@@ -100,16 +101,21 @@ complete -c poke_batch -n '__poke_batch_is map show each' -l slots -x -d 'The mo
 complete -c poke_batch -n '__poke_batch_is map' -l get -x -d 'Print parts of the value'
 complete -c poke_batch -n '__poke_batch_is show' -l get -x -d 'Print a part of the value'
 complete -c poke_batch -n '__poke_batch_is each' -l get -x -d 'Print a part of the value'
-complete -c poke_batch -n '__poke_batch_is map show each' -l spool -x -d 'Read a FILE without a length'
-complete -c poke_batch -n '__poke_batch_is map show each' -l progress -d 'Show how much is done'
+complete -c poke_batch -n '__poke_batch_is map show each identify' -l spool -x -d 'Read a FILE without a length'
+complete -c poke_batch -n '__poke_batch_is map show each identify' -l progress -d 'Show how much is done'
 complete -c poke_batch -n '__poke_batch_is map' -l rows -x -d 'Print a line for each part that PATTERN leads to'
 complete -c poke_batch -n '__poke_batch_is map' -l header -d 'Print the paths of the columns first, with --rows'
 complete -c poke_batch -n '__poke_batch_is map each' -l absent -xa 'fault empty' -d 'What a part that isn\'t there is'
+complete -c poke_batch -n '__poke_batch_is identify' -l all -d 'Print all formats that fit'
+complete -c poke_batch -n '__poke_batch_is identify' -l in -rF -d 'Try the pickles in FOLDER'
+complete -c poke_batch -n '__poke_batch_is identify' -l byte -x -d 'The byte where the format begins'
+complete -c poke_batch -n '__poke_batch_is identify' -l length -x -d 'After how many bytes from there FILE ends'
 complete -c poke_batch -n '__poke_batch_is bound' -l text -d 'Print the most bytes of the printed value too'
 complete -c poke_batch -n '__poke_batch_is map' -l mode -xa 'flat tree json lines' -d 'How the value is printed'
 complete -c poke_batch -n '__poke_batch_is each' -l mode -xa 'flat json' -d 'How the value is printed'
 complete -c poke_batch -n '__poke_batch_is bound' -l mode -xa 'flat tree json lines' -d 'In this mode alone, with --text'
 complete -c poke_batch -n '__poke_batch_is check types formats' -l mode -xa 'text json' -d 'How the answer is printed'
+complete -c poke_batch -n '__poke_batch_is identify' -l mode -xa 'text json' -d 'How the answer is printed'
 complete -c poke_batch -n '__poke_batch_is map each' -l numbers -xa 'decimal hex digits' -d 'How numbers are printed'
 complete -c poke_batch -n '__poke_batch_is bound' -l numbers -xa 'decimal hex digits' -d 'For numbers in this form, with --text'
 complete -c poke_batch -n '__poke_batch_is map each' -l chars -xa 'numbers text' -d 'How arrays of char are printed'
@@ -117,7 +123,7 @@ complete -c poke_batch -n '__poke_batch_is bound' -l chars -xa 'numbers text' -d
 complete -c poke_batch -n '__poke_batch_is map each' -l elements -x -d 'The most elements that are printed of an array'
 complete -c poke_batch -n '__poke_batch_is show' -l elements -x -d 'The most elements that are printed of an array'
 complete -c poke_batch -n '__poke_batch_is bound' -l elements -x -d 'For so many elements of an array, with --text'
-complete -c poke_batch -n '__poke_batch_is map each' -l faults -xa 'text json' -d 'How a refusal or a fault is printed'
+complete -c poke_batch -n '__poke_batch_is map each identify' -l faults -xa 'text json' -d 'How a refusal or a fault is printed'
 complete -c poke_batch -n '__poke_batch_is show' -l depth -x -d 'The most levels of parts below the value that are shown'
 complete -c poke_batch -n '__poke_batch_is types' -l parts -x -d 'List the parts that values of the type NAME can have'
 complete -c poke_batch -n '__poke_batch_is types' -l depth -x -d 'The most levels of parts below the value that are listed'
@@ -126,8 +132,9 @@ complete -c poke_batch -n '__poke_batch_is map each' -l why -d 'Explain why the 
 complete -c poke_batch -n '__poke_batch_is bound' -l why -d 'Explain why the pickle or TYPE is refused'
 complete -c poke_batch -n '__poke_batch_is check' -l why -d 'Explain why the pickle is refused'
 complete -c poke_batch -n '__poke_batch_is types' -l why -d 'Explain why the pickle is refused'
-complete -c poke_batch -n '__poke_batch_is each' -l flush -d 'Write the line of a file before the next file is mapped'
-complete -c poke_batch -n '__poke_batch_is each' -l files0-from -rF -d 'Read the names of the files from PATH'
+complete -c poke_batch -n '__poke_batch_is identify' -l why -d 'Explain why FILE or the pickles aren\'t opened'
+complete -c poke_batch -n '__poke_batch_is each identify' -l flush -d 'Write the line of a file before the next file is read'
+complete -c poke_batch -n '__poke_batch_is each identify' -l files0-from -rF -d 'Read the names of the files from PATH'
 complete -c poke_batch -n '__poke_batch_is dump' -l from -xa '(__poke_batch_offsets)' -d 'The first byte'
 complete -c poke_batch -n '__poke_batch_is dump' -l size -xa '(__poke_batch_offsets)' -d 'How much to dump at most'
 complete -c poke_batch -n '__poke_batch_is dump' -l skip -s s -x -d 'The first byte'
@@ -136,5 +143,5 @@ complete -c poke_batch -n '__poke_batch_is dump' -l no-ruler -d 'Leave out the l
 
 complete -c poke_batch -n '__poke_batch_has 1 map show each bound check types' -a '(__poke_batch_pickles)'
 complete -c poke_batch -n '__poke_batch_has 2 map show each bound' -a '(__poke_batch_types)'
-complete -c poke_batch -n '__poke_batch_has 3 map show; or __poke_batch_has 3+ each; or __poke_batch_has 1 dump' -F
+complete -c poke_batch -n '__poke_batch_has 3 map show; or __poke_batch_has 1 show dump; or __poke_batch_has 3+ each; or __poke_batch_has 1+ identify' -F
 # tools/options: end

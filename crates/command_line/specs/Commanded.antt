@@ -43,7 +43,8 @@ abbrev pub has_answer_form : (command : List ℕ) → Bool
 has_answer_form command =
     if bytes_eq command (codes "check") then true
     else if bytes_eq command (codes "types") then true
-    else bytes_eq command (codes "formats")
+    else if bytes_eq command (codes "formats") then true
+    else bytes_eq command (codes "identify")
 
 pub record AnswersIn (command mode : List ℕ) (form : AnswerForm) : Type 0 where
   pub named : has_answer_form command ≡ true → NamesAnswer mode form

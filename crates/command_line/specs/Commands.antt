@@ -51,7 +51,7 @@ flag of name = record (option of name []) { kind = Flag }
 abbrev pub positional : (of : List Text) → (name : Text) → Row
 positional of name = record (option of name []) { kind = Positional }
 
--- a positional argument that may be left out
+-- a positional argument that may be left out, or one before it
 abbrev pub omissible : (of : List Text) → (name : Text) → Row
 omissible of name = record (option of name []) { kind = Omissible }
 
@@ -80,6 +80,16 @@ mapping = codes "map" ∷ codes "show" ∷ codes "each" ∷ []
 
 abbrev pub printing : List Text
 printing = codes "map" ∷ codes "each" ∷ []
+
+-- the commands that read files by types, those of them whose lines are for programs, and those over many files
+abbrev pub reading : List Text
+reading = codes "map" ∷ codes "show" ∷ codes "each" ∷ codes "identify" ∷ []
+
+abbrev pub reporting : List Text
+reporting = codes "map" ∷ codes "each" ∷ codes "identify" ∷ []
+
+abbrev pub over_many : List Text
+over_many = codes "each" ∷ codes "identify" ∷ []
 
 abbrev pub only : (command : Text) → List Text
 only command = command ∷ []
@@ -112,11 +122,20 @@ mapping_options =
     ∷ repeated (option (only (codes "map")) (codes "get") (codes "PATH"))
     ∷ option (only (codes "show")) (codes "get") (codes "PATH")
     ∷ repeated (option (only (codes "each")) (codes "get") (codes "PATH"))
-    ∷ number mapping (codes "spool") (codes "BYTES")
-    ∷ flag mapping (codes "progress")
+    ∷ number reading (codes "spool") (codes "BYTES")
+    ∷ flag reading (codes "progress")
     ∷ option (only (codes "map")) (codes "rows") (codes "PATTERN")
     ∷ flag (only (codes "map")) (codes "header")
     ∷ defaulted (choice printing (codes "absent") (codes "WHAT") (codes "fault" ∷ codes "empty" ∷ [])) (codes "fault")
+    ∷ []
+
+-- those of formats of files
+abbrev pub format_options : List Row
+format_options =
+    flag (only (codes "identify")) (codes "all")
+    ∷ option (only (codes "identify")) (codes "in") (codes "FOLDER")
+    ∷ option (only (codes "identify")) (codes "byte") (codes "N")
+    ∷ option (only (codes "identify")) (codes "length") (codes "BYTES")
     ∷ []
 
 -- those of printed values and answers
@@ -129,6 +148,7 @@ style_options =
     ∷ choice (only (codes "bound")) (codes "mode") (codes "MODE") modes
     ∷ defaulted (choice (codes "check" ∷ codes "types" ∷ codes "formats" ∷ []) (codes "mode") (codes "MODE") forms)
     (codes "text")
+    ∷ defaulted (choice (only (codes "identify")) (codes "mode") (codes "MODE") forms) (codes "text")
     ∷ defaulted (choice printing (codes "numbers") (codes "FORM") numbers) (codes "decimal")
     ∷ choice (only (codes "bound")) (codes "numbers") (codes "FORM") numbers
     ∷ defaulted (choice printing (codes "chars") (codes "FORM") chars) (codes "numbers")
@@ -136,7 +156,7 @@ style_options =
     ∷ defaulted (option printing (codes "elements") (codes "N")) (codes "all")
     ∷ defaulted (option (only (codes "show")) (codes "elements") (codes "N")) (codes "16")
     ∷ option (only (codes "bound")) (codes "elements") (codes "N")
-    ∷ defaulted (choice printing (codes "faults") (codes "FORM") forms) (codes "text")
+    ∷ defaulted (choice reporting (codes "faults") (codes "FORM") forms) (codes "text")
     ∷ defaulted (option (only (codes "show")) (codes "depth") (codes "N")) (codes "6")
     ∷ option (only (codes "types")) (codes "parts") (codes "NAME")
     ∷ defaulted (option (only (codes "types")) (codes "depth") (codes "N")) (codes "6")
@@ -146,13 +166,14 @@ style_options =
     ∷ flag (only (codes "bound")) (codes "why")
     ∷ flag (only (codes "check")) (codes "why")
     ∷ flag (only (codes "types")) (codes "why")
+    ∷ flag (only (codes "identify")) (codes "why")
     ∷ []
 
--- those of one command
+-- those of many files, and of dumps
 abbrev pub other_options : List Row
 other_options =
-    flag (only (codes "each")) (codes "flush")
-    ∷ option (only (codes "each")) (codes "files0-from") (codes "PATH")
+    flag over_many (codes "flush")
+    ∷ option over_many (codes "files0-from") (codes "PATH")
     ∷ defaulted (option (only (codes "dump")) (codes "from") (codes "OFFSET")) (codes "0#B")
     ∷ defaulted (option (only (codes "dump")) (codes "size") (codes "OFFSET")) (codes "128#B")
     ∷ lettered (option (only (codes "dump")) (codes "skip") (codes "BYTES")) 115
@@ -162,18 +183,18 @@ other_options =
 
 abbrev pub positionals : List Row
 positionals =
-    positional (codes "map" ∷ codes "show" ∷ codes "each" ∷ codes "bound" ∷ codes "check" ∷ codes "types" ∷ [])
-    (codes "PICKLE")
+    positional (codes "map" ∷ codes "each" ∷ codes "bound" ∷ codes "check" ∷ codes "types" ∷ []) (codes "PICKLE")
+    ∷ omissible (only (codes "show")) (codes "PICKLE")
     ∷ omissible (codes "map" ∷ codes "show" ∷ codes "each" ∷ codes "bound" ∷ []) (codes "TYPE")
     ∷ omissible (codes "map" ∷ codes "show" ∷ []) (codes "FILE")
     ∷ positional (only (codes "dump")) (codes "FILE")
-    ∷ record (positional (only (codes "each")) (codes "FILE")) { kind = Positionals }
+    ∷ record (positional over_many (codes "FILE")) { kind = Positionals }
     ∷ record (omissible (only (codes "bound")) (codes "BITS")) { accepted = ANumber }
     ∷ []
 
 -- the arguments of all commands
 abbrev pub arguments : List Row
-arguments = mapping_options ++ style_options ++ other_options ++ positionals
+arguments = mapping_options ++ format_options ++ style_options ++ other_options ++ positionals
 
 -- the row that an argument of the code is
 abbrev pub accepted : Accepts → Accepted
@@ -268,8 +289,8 @@ without_commands = record {
 
 -- the names of the commands
 abbrev pub commands : List Text
-commands = codes "map" ∷ codes "show" ∷ codes "each" ∷ codes "bound" ∷ codes "check" ∷ codes "types"
-    ∷ codes "formats" ∷ codes "dump" ∷ []
+commands = codes "map" ∷ codes "show" ∷ codes "each" ∷ codes "identify" ∷ codes "bound" ∷ codes "check"
+    ∷ codes "types" ∷ codes "formats" ∷ codes "dump" ∷ []
 
 -- a program whose commands have these rules, and of which one command must be given
 abbrev pub program_of : (rules_of : (command : Text) → List Rule) → App

@@ -1,5 +1,5 @@
 -- What the arguments of a command request, by what clap found among them.
-use Rattle.std.specs.Prelude.{◌≡◌, ◌≢◌, ◌⊎◌, ℕ, Bool, true, false, not, List, [], map, Option, Some, None, string_bytes, codes}
+use Rattle.std.specs.Prelude.{◌≡◌, ◌≢◌, ◌⊎◌, ℕ, Bool, true, false, not, List, [], map, Option, Some, None, option_map, string_bytes, codes}
 use Rattle.std.specs.Option.{unwrap_or, option_map_or}
 use Rattle.clap.specs.Matches.{first_value, one_text, matched_of, raw_values}
 use Rattle.clap.specs.declared.parser.matches.Found.{Found}
@@ -9,8 +9,8 @@ use Rattle.text_output.specs.declared.mode.Mode.{Mode}
 use Rattle.text_output.specs.declared.style.Style.{Style}
 use Rattle.text_output.specs.Styles.{plain}
 use Rattle.command_line.specs.Numerals.{IsNumber, IsNoNumber}
-use Rattle.command_line.specs.Starts.{NamesStart, IsNoStart, NamesBytes, IsNoBytes, NamesWindow, IsNoWindow}
-use Rattle.command_line.specs.Subjects.{HasPart, IsTypeOf, pickle_of, type_before, word_after}
+use Rattle.command_line.specs.Starts.{NamesStart, IsNoStart, NamesByteIfAny, IsNoByteIfAny, NamesBytes, IsNoBytes, NamesWindow, IsNoWindow}
+use Rattle.command_line.specs.Subjects.{HasPart, IsTypeOf, is_file_alone, pickle_of, type_before, word_after}
 use Rattle.command_line.specs.Flags.{FlagIn}
 use Rattle.command_line.specs.Selects.{Selects, PartBeside}
 use Rattle.command_line.specs.Styles.{NamesNumbers, NamesChars, NamesElementsOr, IsNoElementsIfAny, NamesColor, NamesFaults}
@@ -20,12 +20,13 @@ use Rattle.command_line.specs.declared.selection.Choice.TheVariants.{Part, Parts
 use Rattle.command_line.specs.declared.start.Start.{Start}
 use Rattle.command_line.specs.declared.start.Start.TheVariants.{Bit}
 use Rattle.command_line.specs.declared.subject.Subject.{Subject}
-use Rattle.command_line.specs.declared.subject.Subject.TheVariants.{Named}
+use Rattle.command_line.specs.declared.subject.Subject.TheVariants.{Named, Identified}
 use Rattle.command_line.specs.declared.terms.Terms.{Terms}
 use Rattle.command_line.specs.declared.words.mapping.MappingWords.{MappingWords}
 use Rattle.command_line.specs.declared.words.Job.{Job}
 use Rattle.command_line.specs.declared.words.Job.TheVariants as job
-use Rattle.command_line.specs.declared.words.Job.TheVariants.{Map, Bound, BoundText, Check, Types, Formats, Dump}
+use Rattle.command_line.specs.declared.words.Job.TheVariants.{Map, Bound, BoundText, Check, Types, Identify, Formats, Dump}
+use Rattle.command_line.specs.declared.identification.Identification.{Identification}
 use Rattle.command_line.specs.declared.request.Request.{Request}
 use Rattle.command_line.specs.declared.fault_form.FaultForm.{FaultForm}
 use Rattle.command_line.specs.declared.fault_form.FaultForm.TheVariants.{Text}
@@ -105,7 +106,7 @@ StartsAt found start = NamesStart (first_value found (codes "byte")) (word_in fo
 
 -- what is mapped of which pickle, by the argument for the type
 pub record AsksSubject (found : Found) (type : Option (List ℕ)) (subject : Subject) : Type 0 where
-  pub read_from : pickle_of subject ≡ word_in found (codes "PICKLE")
+  pub read_from : pickle_of subject ≡ Some (word_in found (codes "PICKLE"))
   pub typed : IsTypeOf (word_in found (codes "PICKLE")) type subject
   pub part : HasPart (one_text found (codes "inside")) subject
 
@@ -119,9 +120,21 @@ pub record AsksMapping (found : Found) (start : Start) (window : Option ℕ) (li
 abbrev pub AsksOrder : Found → Option Order → Type 0
 AsksOrder found order = NamesOrderIfAny (first_value found (codes "endian")) order
 
+-- one argument alone is the file to show, by the format that it has
+abbrev pub shows_file_alone : Found → Bool
+shows_file_alone found = is_file_alone (first_value found (codes "PICKLE")) (first_value found (codes "TYPE"))
+    (first_value found (codes "FILE"))
+
+-- what is shown, by whether the file is alone and by the argument for the type
+abbrev pub ShowsBy : (alone : Bool) → (found : Found) → (type : Option (List ℕ)) → Subject → Type 0
+ShowsBy true found type subject = subject ≡ Identified
+ShowsBy false found type subject = AsksSubject found type subject
+
+abbrev pub ShowsSubject : (found : Found) → (type : Option (List ℕ)) → Subject → Type 0
+ShowsSubject found type subject = ShowsBy (shows_file_alone found) found type subject
+
 -- the words of a mapping are what its arguments request
-pub record AsksMappingOf (found : Found) (type : Option (List ℕ)) (words : MappingWords) : Type 0 where
-  pub subject : AsksSubject found type words.subject
+pub record AsksMappingOf (found : Found) (words : MappingWords) : Type 0 where
   pub mapping : AsksMapping found words.start words.window words.limit
   pub order : AsksOrder found words.order
 
@@ -168,15 +181,24 @@ abbrev pub elements_by_default : Form → Option ℕ
 elements_by_default (Printed mode faults) = None
 elements_by_default (Shown color depth) = Some 16
 
+-- the one file: the last argument, before which the type may be left out, or the pickle too
+abbrev pub file_in : Found → List ℕ
+file_in found = unwrap_or (after_type_in found (codes "FILE")) (word_in found (codes "PICKLE"))
+
 -- what a type is mapped over: the one file that an argument names, or many, of which each line may be written at once
 abbrev pub IsOver : Found → Over → Type 0
-IsOver found (File file) = string_bytes file ≡ unwrap_or (after_type_in found (codes "FILE")) []
+IsOver found (File file) = string_bytes file ≡ file_in found
 IsOver found (Files names flush) = NamesFiles found names × FlagIn (one_text found (codes "flush")) flush
 
 -- the argument for the type; before many files it is left out only if their names are in a list
 abbrev pub type_over : Found → Over → Option (List ℕ)
 type_over found (File file) = type_in found (codes "FILE")
 type_over found (Files names flush) = first_value found (codes "TYPE")
+
+-- what a request maps that writes in a form
+abbrev pub AsksSubjectIn : (found : Found) → (type : Option (List ℕ)) → Form → Subject → Type 0
+AsksSubjectIn found type (Printed mode faults) subject = AsksSubject found type subject
+AsksSubjectIn found type (Shown color depth) subject = ShowsSubject found type subject
 
 -- whether how much is done is shown
 abbrev pub ShowsProgress : Found → Bool → Type 0
@@ -190,7 +212,7 @@ choice_of (Printed mode faults) (Files names flush) = Columns
 
 -- a request is what arguments request
 pub record AsksRequest (found : Found) (request : Request) : Type 0 where
-  pub subject : AsksSubject found (type_over found request.over) request.subject
+  pub subject : AsksSubjectIn found (type_over found request.over) request.form request.subject
   pub mapping : AsksMapping found request.start request.window request.limit
   pub order : AsksOrder found request.order
   pub spools : Spools found request.spool
@@ -198,6 +220,18 @@ pub record AsksRequest (found : Found) (request : Request) : Type 0 where
   pub form : IsInForm found request.form
   pub progress : ShowsProgress found request.progress
   pub over : IsOver found request.over
+
+-- the formats of files are what arguments request
+pub record AsksFormats (found : Found) (asked : Identification) : Type 0 where
+  pub starts : NamesByteIfAny (first_value found (codes "byte")) asked.start
+  pub ends : NamesWindow (first_value found (codes "length")) asked.window
+  pub spools : Spools found asked.spool
+  pub all : FlagIn (one_text found (codes "all")) asked.all
+  pub folder : option_map string_bytes asked.folder ≡ first_value found (codes "in")
+  pub reports : ReportsIn found asked.faults
+  pub progress : ShowsProgress found asked.progress
+  pub names : NamesFiles found asked.names
+  pub flush : FlagIn (one_text found (codes "flush")) asked.flush
 
 -- the first byte of a dump
 abbrev pub DumpsFrom : Found → ℕ → Type 0
@@ -214,7 +248,7 @@ Asks found (Map at order limit mode pickle name file) =
     × AsksMapping found (Bit at) None limit × NamesOrderOrBig (first_value found (codes "endian")) order
     × IsInMode found mode × ReportsIn found Text × Spools found None × ShowsProgress found false
     × HasTerms found Parts None no_terms
-    × (string_bytes file ≡ unwrap_or (after_type_in found (codes "FILE")) [])
+    × (string_bytes file ≡ file_in found)
 Asks found (job.Request request) = AsksRequest found request
 Asks found (Bound pickle name bits) =
     AsksBound found (string_bytes pickle) (string_bytes name) bits × FlagIn (one_text found (codes "text")) false
@@ -227,6 +261,7 @@ Asks found (Types pickle) =
 Asks found (job.Parts pickle name depth) = (string_bytes pickle ≡ word_in found (codes "PICKLE"))
     × (first_value found (codes "parts") ≡ Some (string_bytes name))
     × NamesElementsOr (Some 6) (first_value found (codes "depth")) depth
+Asks found (Identify asked) = AsksFormats found asked
 Asks found Formats = Unit {0}
 Asks found (Dump from size ruler file) = DumpsFrom found from × DumpsBytes found size
     × FlagIn (one_text found (codes "no-ruler")) (not ruler) × (string_bytes file ≡ word_in found (codes "FILE"))
@@ -250,17 +285,23 @@ IsJobOf command (Bound pickle name bits) = command ≡ Some (codes "bound")
 IsJobOf command (BoundText pickle name bits mode style) = command ≡ Some (codes "bound")
 IsJobOf command (Types pickle) = command ≡ Some (codes "types")
 IsJobOf command (job.Parts pickle name depth) = command ≡ Some (codes "types")
+IsJobOf command (Identify asked) = command ≡ Some (codes "identify")
 IsJobOf command Formats = command ≡ Some (codes "formats")
 IsJobOf command (Dump from size ruler file) = command ≡ Some (codes "dump")
 IsJobOf command (Check pickle) =
     IsOther command (codes "map") × IsOther command (codes "show") × IsOther command (codes "each")
-    × IsOther command (codes "bound") × IsOther command (codes "types") × IsOther command (codes "formats")
-    × IsOther command (codes "dump")
+    × IsOther command (codes "identify") × IsOther command (codes "bound") × IsOther command (codes "types")
+    × IsOther command (codes "formats") × IsOther command (codes "dump")
 
 -- the arguments of a mapping name no start, or no number of bytes from there on
 abbrev pub IsNoExtent : Found → Type 0
 IsNoExtent found = IsNoStart (first_value found (codes "byte")) (word_in found (codes "at"))
     ⊎ IsNoWindow (first_value found (codes "length"))
+
+-- the same of arguments for formats, of which the start is a byte
+abbrev pub IsNoByteExtent : Found → Type 0
+IsNoByteExtent found =
+    IsNoByteIfAny (first_value found (codes "byte")) ⊎ IsNoWindow (first_value found (codes "length"))
 
 -- the arguments of a dump don't name bytes: one of them isn't such a number or offset
 abbrev pub IsNoRange : Found → Type 0

@@ -8,7 +8,7 @@ use Rattle.command_line.specs.declared.selection.Choice.TheVariants as choice
 use Rattle.command_line.specs.declared.words.WordFault.{WordFault}
 use Rattle.command_line.specs.declared.words.WordFault.TheVariants.{Usage, Help, Offset, Memory}
 use Rattle.command_line.specs.Flags.{FlagIn}
-use Rattle.command_line.specs.Found.{IsNoBound, IsNoExtent, IsNoNumberIfAny, IsNoRange}
+use Rattle.command_line.specs.Found.{IsNoBound, IsNoByteExtent, IsNoExtent, IsNoNumberIfAny, IsNoRange}
 use Rattle.command_line.specs.Paths.{PathStep, IsPath}
 use Rattle.command_line.specs.Patterns.{PatternPart, IsPattern}
 use Rattle.command_line.specs.Selects.{ArePatterns, HasRows, is_one_path, words_in}
@@ -80,6 +80,8 @@ pub data Misread (command : List ℕ) (found : Found) : Type 0 where
   map_wrong : command ≡ codes "map" → MisreadRequest found choice.Parts → Misread command found
   show_wrong : command ≡ codes "show" → MisreadRequest found choice.Part → Misread command found
   each_wrong : command ≡ codes "each" → MisreadRequest found choice.Columns → Misread command found
+  identify_wrong : command ≡ codes "identify" → IsNoNumberIfAny (first_value found (codes "spool")) →
+      Misread command found
   bound_wrong : command ≡ codes "bound" → IsNoBound found → Misread command found
   types_wrong : command ≡ codes "types" → IsNoElementsIfAny (first_value found (codes "depth")) → Misread command found
 
@@ -88,4 +90,5 @@ pub data Misplaced (command : List ℕ) (found : Found) : Type 0 where
   map_nowhere : command ≡ codes "map" → IsNoExtent found → Misplaced command found
   show_nowhere : command ≡ codes "show" → IsNoExtent found → Misplaced command found
   each_nowhere : command ≡ codes "each" → IsNoExtent found → Misplaced command found
+  identify_nowhere : command ≡ codes "identify" → IsNoByteExtent found → Misplaced command found
   dump_nowhere : command ≡ codes "dump" → IsNoRange found → Misplaced command found

@@ -30,6 +30,16 @@ abbrev pub IsNoStart : Option (List ℕ) → List ℕ → Type 0
 IsNoStart (Some byte) offset = (start : Start) → ¬ (NamesByte byte start)
 IsNoStart None offset = IsNoOffset offset
 
+-- the place that a number of bytes names if it was given, and else the file's first bit
+abbrev pub NamesByteIfAny : Option (List ℕ) → Start → Type 0
+NamesByteIfAny None start = start ≡ Bit 0
+NamesByteIfAny (Some word) start = NamesByte word start
+
+-- it was given, and names no place
+abbrev pub IsNoByteIfAny : Option (List ℕ) → Type 0
+IsNoByteIfAny None = ⊥
+IsNoByteIfAny (Some word) = (start : Start) → ¬ (NamesByte word start)
+
 -- the number of bytes that an argument is, if it was given
 abbrev pub NamesWindow : Option (List ℕ) → Option ℕ → Type 0
 NamesWindow None bytes = bytes ≡ None

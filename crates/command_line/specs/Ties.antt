@@ -6,7 +6,7 @@ use Rattle.clap.specs.declared.parser.matches.Found.{Found}
 use Rattle.clap.specs.declared.parser.ValueSource.{ValueSource}
 use Rattle.clap.specs.declared.parser.ValueSource.TheVariants.{CommandLine, DefaultValue}
 use Rattle.command_line.specs.Subjects.{has_type, is_by_head}
-use Rattle.command_line.specs.Found.{after_type_in, type_in, word_in}
+use Rattle.command_line.specs.Found.{after_type_in, shows_file_alone, type_in, word_in}
 
 abbrev pub is_from_words : Option ValueSource → Bool
 is_from_words (Some CommandLine) = true
@@ -46,6 +46,12 @@ abbrev pub keeps_file_ties : Found → Bool
 keeps_file_ties found = are_apart found (codes "byte") (codes "at") && (has_words found (codes "FILE")
     && keeps_inside found (type_in found (codes "FILE")))
 
+-- the same where a file alone is enough
+abbrev pub keeps_show_ties : Found → Bool
+keeps_show_ties found = are_apart found (codes "byte") (codes "at")
+    && ((shows_file_alone found || has_words found (codes "FILE"))
+    && keeps_inside found (type_in found (codes "FILE")))
+
 abbrev pub keeps_map_ties : Found → Bool
 keeps_map_ties found = keeps_file_ties found
     && (needs found (codes "rows") (codes "get") && needs found (codes "header") (codes "rows"))
@@ -54,6 +60,9 @@ abbrev pub keeps_each_ties : Found → Bool
 keeps_each_ties found =
     are_apart found (codes "byte") (codes "at") && (is_either_given found (codes "FILE") (codes "files0-from")
     && (is_typed found (first_value found (codes "TYPE")) && keeps_inside found (first_value found (codes "TYPE"))))
+
+abbrev pub keeps_identify_ties : Found → Bool
+keeps_identify_ties found = is_either_given found (codes "FILE") (codes "files0-from")
 
 abbrev pub keeps_text_ties : Found → Bool
 keeps_text_ties found = needs found (codes "mode") (codes "text") && (needs found (codes "numbers") (codes "text")
@@ -72,8 +81,9 @@ keeps_types_ties found = needs found (codes "depth") (codes "parts")
 abbrev pub keeps_ties : (command : List ℕ) → Found → Bool
 keeps_ties command found =
     if bytes_eq command (codes "map") then keeps_map_ties found
-    else if bytes_eq command (codes "show") then keeps_file_ties found
+    else if bytes_eq command (codes "show") then keeps_show_ties found
     else if bytes_eq command (codes "each") then keeps_each_ties found
+    else if bytes_eq command (codes "identify") then keeps_identify_ties found
     else if bytes_eq command (codes "bound") then keeps_bound_ties found
     else if bytes_eq command (codes "types") then keeps_types_ties found
     else if bytes_eq command (codes "dump") then keeps_dump_ties found

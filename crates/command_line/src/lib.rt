@@ -5,6 +5,7 @@ pub mod answer_form;
 pub mod ask;
 pub mod color;
 pub mod fault_form;
+pub mod identification;
 pub mod numerals;
 pub mod offset_word;
 pub mod path;

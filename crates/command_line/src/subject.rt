@@ -1,7 +1,7 @@
-//! What a request maps: a type of a pickle, by its name or by what the pickle's head says.
+//! What a request maps: a type of a pickle, by its name, by what the pickle's head says, or by the format of the file.
 ghost use Rattle.std.specs.Prelude.{◌≡◌, option_map};
 ghost use Rattle.std.specs.List.{list_all};
-ghost use Rattle.command_line.specs.Subjects.{has_type, is_by_head, is_name_byte, names_installed, names_no_type, pickle_of};
+ghost use Rattle.command_line.specs.Subjects.{has_type, is_by_head, is_file_alone, is_name_byte, names_installed, names_no_type, pickle_of};
 
 /// The argument for a type that the head of the pickle says.
 pub const BY_HEAD: &str = "-";
@@ -20,6 +20,8 @@ pub enum Subject {
         pickle: String,
         part: HeadType,
     },
+    /// The type of whole files of the format that the file has, among those that are installed. No pickle is named.
+    Identified,
 }
 
 /// A type that the head of a pickle says.
@@ -32,12 +34,13 @@ pub enum HeadType {
 }
 
 impl Subject {
-    /// The argument that names the pickle.
-    pub fn pickle(&self) -> &str
-        ensures { result.now ≡ pickle_of self.now }
+    /// The argument that names the pickle, if one does.
+    pub fn pickle(&self) -> Option<&str>
+        ensures { option_map (λ pickle. pickle.now) result ≡ pickle_of self.now }
     {
         match self {
-            Subject::Named { pickle, .. } | Subject::ByHead { pickle, .. } => pickle.as_str(),
+            Subject::Named { pickle, .. } | Subject::ByHead { pickle, .. } => Some(pickle.as_str()),
+            Subject::Identified => None,
         }
     }
 }
@@ -62,6 +65,17 @@ fn is_name_byte(byte: u8) -> bool
     ensures { result ≡ is_name_byte byte }
 {
     byte.is_ascii_alphanumeric() || byte == b'_' || byte == b'-'
+}
+
+/// Whether the first of three arguments is a file alone: there is no other, and it doesn't name an installed pickle.
+pub fn is_file_alone(first: Option<&str>, second: Option<&str>, third: Option<&str>) -> bool
+    ensures { result ≡ is_file_alone (option_map (λ word. word.now) first.entry)
+        (option_map (λ word. word.now) second.entry) (option_map (λ word. word.now) third.entry) }
+{
+    match (first, second, third) {
+        (Some(word), None, None) => !names_installed(word),
+        _ => false,
+    }
 }
 
 /// Whether the type is one that the head of a pickle says, by the arguments for both.

@@ -20,13 +20,14 @@ ghost use Rattle.command_line.specs.Ties.{keeps_ties};
 ghost use Rattle.command_line.specs.Misread.{FailsFor, MisreadRequest, Misread, Misplaced};
 ghost use Rattle.command_line.specs.Lines.{command_line};
 ghost use Rattle.command_line.specs.Words.{IsCheckOf, IsBareCheckOf, NamesMode, NamesModeIfAny};
-ghost use Rattle.command_line.specs.Found.{word_in, NumberIfAny, NumberIn, HasTerms, no_terms, NamesFiles, IsNoExtent, NamesOrderIfAny, NamesOrderOrBig, after_type_in};
-ghost use Rattle.command_line.specs.Found.{Asks, IsJobOf, IsNoRange, IsNoBound, IsNoNumberIfAny};
+ghost use Rattle.command_line.specs.Found.{word_in, NumberIfAny, NumberIn, HasTerms, no_terms, NamesFiles, IsNoExtent, NamesOrderIfAny, NamesOrderOrBig, after_type_in, file_in};
+ghost use Rattle.command_line.specs.Found.{Asks, IsJobOf, IsNoRange, IsNoBound, IsNoNumberIfAny, IsNoByteExtent};
 ghost use Rattle.command_line.specs.Styles.{IsNoElementsIfAny};
 ghost use Rattle.command_line.specs.declared.words.WordFault.TheVariants.{Memory};
 
 use crate::answer_form::AnswerForm;
 use crate::fault_form::FaultForm;
+use crate::identification::Identification;
 use crate::numerals::whole_number;
 use crate::request::{FileNames, Form, Over, Request};
 use crate::selection::Choice;
@@ -35,13 +36,13 @@ use crate::subject::{BY_HEAD, Subject, has_type};
 use crate::terms::Terms;
 use arguments::arguments;
 use bit_space::Order;
-use bytes::bytes_in;
+use bytes::{byte_of, bytes_in, window_of};
 use clap::ArgMatches;
 use clap::error::ErrorKind;
 use commands::{PROGRAM, SHOWN_ELEMENTS, SHOWN_LEVELS, program};
-use found::{after_type, flag_of, number_if_any, type_word, word, word_of};
+use found::{after_type, flag_of, number_if_any, type_word, word, word_if_any, word_of};
 use line::{command_line, without_help_of_help};
-use mapping::mapping_words;
+use mapping::{mapping_words, shown_subject, subject_of};
 use parser::Ties;
 use selected::{part_beside, selection_of};
 use shown::shown_words;
@@ -50,7 +51,7 @@ use style::{answer_of, color_of, depth_of, faults_of, style_of};
 use text_output::mode::Mode;
 use text_output::style::{Chars, Numbers, Style};
 use thiserror::Error;
-use ties::{has_words, is_given, keeps_ties};
+use ties::{has_words, is_given, keeps_ties, shows_file_alone};
 
 /// The usage error for arguments that are wrong, but whose escaped forms clap accepts.
 const WRONG_WORD: &str = "error: an argument has bytes that aren't printed\n";
@@ -72,9 +73,9 @@ pub enum Job {
         name: String,
         file: String,
     },
-    /// Map a type over one file or many, as a request says. A map of one file has at least one term, a type that the
-    /// pickle's head says, a start that is counted from the file's end, a place where the file ends, refusals and faults
-    /// in JSON, or a limit on the bytes of a file without a length.
+    /// Map a type over one file or many, as a request says. A file alone is shown by the format that it has. A map of one
+    /// file has at least one term, a type that the pickle's head says, a start that is counted from the file's end, a
+    /// place where the file ends, refusals and faults in JSON, or a limit on the bytes of a file without a length.
     Request(Request),
     /// Print the most steps and slots that a mapping of a type over `bits` bits takes. The type `-` of an installed pickle
     /// is the one that its head says.
@@ -106,6 +107,8 @@ pub enum Job {
         name: String,
         depth: Option<u64>,
     },
+    /// Print the formats that files have.
+    Identify(Identification),
     /// Print the pickles that are installed.
     Formats,
     /// Dump `size` bytes of a file, from the byte `from` on.
@@ -151,7 +154,7 @@ pub struct Asked {
     pub why: bool,
     /// Whether the job is a dump of which no size was given.
     pub default_size: bool,
-    /// How a check, a list of types or the list of formats is printed. Other jobs have words.
+    /// How a check, a list of types, the formats of files or the list of formats is printed. Other jobs have words.
     pub answer: AnswerForm,
 }
 
@@ -243,9 +246,16 @@ fn untied_usage(
 ) -> Result<String, AllocError> {
     if leaves_type_out(command, found) {
         usage_of(alloc, words, Ties::WithoutType)
+    } else if leaves_pickle_out(command, found) {
+        usage_of(alloc, words, Ties::WithoutPickle)
     } else {
         usage_of(alloc, words, Ties::With)
     }
+}
+
+// Whether the pickle and TYPE are left out among the arguments of a command.
+fn leaves_pickle_out(command: &str, found: &ArgMatches<'_>) -> bool {
+    command == "show" && (shows_file_alone(found) || !is_given(found, "PICKLE"))
 }
 
 // Whether TYPE is left out among the arguments of a command, which are enough without it.
@@ -281,7 +291,7 @@ fn answer_form(command: &str, found: &ArgMatches<'_>) -> AnswerForm
     ensures { AnswersIn command.now (word_in (found_of found.now) (codes "mode")) result }
 {
     match command {
-        "check" | "types" | "formats" => answer_of(word(found, "mode")),
+        "check" | "types" | "formats" | "identify" => answer_of(word(found, "mode")),
         _ => AnswerForm::Text,
     }
 }
@@ -368,6 +378,7 @@ fn read_command(
         "map" => read_map(alloc, found),
         "show" => read_show(alloc, found),
         "each" => read_each(alloc, found),
+        "identify" => read_identify(alloc, found),
         "bound" => read_bound(alloc, found, words),
         "types" => read_types(alloc, found),
         "formats" => Ok(Job::Formats),
@@ -386,15 +397,12 @@ fn read_map(alloc: Global, found: &ArgMatches<'_>) -> Result<Job, WordFault>
     let terms = terms_of(alloc, found, Choice::Parts, None)?;
     let spool = spool_of(alloc, found)?;
     let file = file_of(alloc, found)?;
-    let mapping = mapping_words(alloc, found, type_word(found, "FILE"))?;
+    let subject = subject_of(alloc, found, type_word(found, "FILE"))?;
+    let mapping = mapping_words(alloc, found)?;
     let mode = mode_of(word(found, "mode"));
     let progress = flag_of(found, "progress");
     let is_plain = is_plain(spool, mapping.window, progress, &terms);
-    match (
-        mapping.start,
-        mapping.subject,
-        faults_of(word(found, "faults")),
-    ) {
+    match (mapping.start, subject, faults_of(word(found, "faults"))) {
         (Start::Bit(at), Subject::Named { pickle, name }, FaultForm::Text) if is_plain => Ok(
             Job::Map {
                 at,
@@ -421,12 +429,12 @@ fn read_map(alloc: Global, found: &ArgMatches<'_>) -> Result<Job, WordFault>
     }
 }
 
-// The file that an argument names.
+// The file that is mapped: the last argument, before which the type may be left out, or the pickle too.
 fn file_of(alloc: Global, found: &ArgMatches<'_>) -> Result<String, AllocError>
-    ensures { IfOk result
-        (λ file. string_bytes file ≡ unwrap_or (after_type_in (found_of found.now) (codes "FILE")) []) }
+    ensures { IfOk result (λ file. string_bytes file ≡ file_in (found_of found.now)) }
 {
-    String::from_str(alloc, after_type(found, "FILE").unwrap_or(""))
+    let file = after_type(found, "FILE").unwrap_or(word(found, "PICKLE"));
+    String::from_str(alloc, file)
 }
 
 fn order_or_big(order: Option<Order>) -> Order
@@ -446,7 +454,8 @@ fn read_show(alloc: Global, found: &ArgMatches<'_>) -> Result<Job, WordFault>
     let terms = terms_of(alloc, found, Choice::Part, Some(SHOWN_ELEMENTS))?;
     let depth = depth_of(alloc, found, Some(SHOWN_LEVELS))?;
     let file = file_of(alloc, found)?;
-    let mapping = mapping_words(alloc, found, type_word(found, "FILE"))?;
+    let subject = shown_subject(alloc, found)?;
+    let mapping = mapping_words(alloc, found)?;
     Ok(Job::Request(Request {
         start: mapping.start,
         window: mapping.window,
@@ -459,7 +468,7 @@ fn read_show(alloc: Global, found: &ArgMatches<'_>) -> Result<Job, WordFault>
             depth,
         },
         progress: flag_of(found, "progress"),
-        subject: mapping.subject,
+        subject,
         over: Over::File(file),
     }))
 }
@@ -474,7 +483,8 @@ fn read_each(alloc: Global, found: &ArgMatches<'_>) -> Result<Job, WordFault>
     let spool = spool_of(alloc, found)?;
     let terms = terms_of(alloc, found, Choice::Columns, None)?;
     let names = names_in(alloc, found)?;
-    let mapping = mapping_words(alloc, found, found.get_str("TYPE"))?;
+    let subject = subject_of(alloc, found, found.get_str("TYPE"))?;
+    let mapping = mapping_words(alloc, found)?;
     Ok(Job::Request(Request {
         start: mapping.start,
         window: mapping.window,
@@ -487,11 +497,34 @@ fn read_each(alloc: Global, found: &ArgMatches<'_>) -> Result<Job, WordFault>
             faults: faults_of(word(found, "faults")),
         },
         progress: flag_of(found, "progress"),
-        subject: mapping.subject,
+        subject,
         over: Over::Files {
             names,
             flush: flag_of(found, "flush"),
         },
+    }))
+}
+
+fn read_identify(alloc: Global, found: &ArgMatches<'_>) -> Result<Job, WordFault>
+    ensures asks { IfOk result (Asks (found_of found.now)) }
+    ensures command { IfOk result (IsJobOf (Some (codes "identify"))) }
+    ensures misread { IfErr result (FailsFor (IsNoNumberIfAny (first_value (found_of found.now) (codes "spool")))
+        (IsNoByteExtent (found_of found.now))) }
+{
+    let spool = spool_of(alloc, found)?;
+    let folder = word_if_any(alloc, found, "in")?;
+    let names = names_in(alloc, found)?;
+    let flush = flag_of(found, "flush");
+    Ok(Job::Identify(Identification {
+        start: byte_of(found)?,
+        window: window_of(found)?,
+        spool,
+        all: flag_of(found, "all"),
+        folder,
+        faults: faults_of(word(found, "faults")),
+        progress: flag_of(found, "progress"),
+        names,
+        flush,
     }))
 }
 

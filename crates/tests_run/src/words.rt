@@ -101,6 +101,38 @@ each --files0-from l +p ==> Request(Request { start: Bit(0), window: None, order
 each --files0-from l +p - ==> Request(Request { start: Bit(0), window: None, order: None, limit: 1000000000, spool: None, terms: Terms { whole: false, most_output: None, part: None, most_slots: None, style: Style { numbers: Decimal, chars: Numbers, elements: None }, look: None, selection: None }, form: Printed { mode: Flat, faults: Text }, progress: false, subject: ByHead { pickle: "+p", part: Documented }, over: Files { names: EndedByZero("l"), flush: false } })
 each --inside --length 8 +p - f g ==> Request(Request { start: Bit(0), window: Some(8), order: None, limit: 1000000000, spool: None, terms: Terms { whole: false, most_output: None, part: None, most_slots: None, style: Style { numbers: Decimal, chars: Numbers, elements: None }, look: None, selection: None }, form: Printed { mode: Flat, faults: Text }, progress: false, subject: ByHead { pickle: "+p", part: Inside }, over: Files { names: Words(["f", "g"]), flush: false } })
 each +p f g ==> Request(Request { start: Bit(0), window: None, order: None, limit: 1000000000, spool: None, terms: Terms { whole: false, most_output: None, part: None, most_slots: None, style: Style { numbers: Decimal, chars: Numbers, elements: None }, look: None, selection: None }, form: Printed { mode: Flat, faults: Text }, progress: false, subject: Named { pickle: "+p", name: "f" }, over: Files { names: Words(["g"]), flush: false } })
+show f ==> Request(Request { start: Bit(0), window: None, order: None, limit: 1000000000, spool: None, terms: Terms { whole: false, most_output: None, part: None, most_slots: None, style: Style { numbers: Decimal, chars: Numbers, elements: Some(16) }, look: None, selection: None }, form: Shown { color: Auto, depth: Some(6) }, progress: false, subject: Identified, over: File("f") })
+show - ==> Request(Request { start: Bit(0), window: None, order: None, limit: 1000000000, spool: None, terms: Terms { whole: false, most_output: None, part: None, most_slots: None, style: Style { numbers: Decimal, chars: Numbers, elements: Some(16) }, look: None, selection: None }, form: Shown { color: Auto, depth: Some(6) }, progress: false, subject: Identified, over: File("-") })
+show +p/q ==> Request(Request { start: Bit(0), window: None, order: None, limit: 1000000000, spool: None, terms: Terms { whole: false, most_output: None, part: None, most_slots: None, style: Style { numbers: Decimal, chars: Numbers, elements: Some(16) }, look: None, selection: None }, form: Shown { color: Auto, depth: Some(6) }, progress: false, subject: Identified, over: File("+p/q") })
+show + ==> Request(Request { start: Bit(0), window: None, order: None, limit: 1000000000, spool: None, terms: Terms { whole: false, most_output: None, part: None, most_slots: None, style: Style { numbers: Decimal, chars: Numbers, elements: Some(16) }, look: None, selection: None }, form: Shown { color: Auto, depth: Some(6) }, progress: false, subject: Identified, over: File("+") })
+show ./+p ==> Request(Request { start: Bit(0), window: None, order: None, limit: 1000000000, spool: None, terms: Terms { whole: false, most_output: None, part: None, most_slots: None, style: Style { numbers: Decimal, chars: Numbers, elements: Some(16) }, look: None, selection: None }, form: Shown { color: Auto, depth: Some(6) }, progress: false, subject: Identified, over: File("./+p") })
+show -- --at ==> Request(Request { start: Bit(0), window: None, order: None, limit: 1000000000, spool: None, terms: Terms { whole: false, most_output: None, part: None, most_slots: None, style: Style { numbers: Decimal, chars: Numbers, elements: Some(16) }, look: None, selection: None }, form: Shown { color: Auto, depth: Some(6) }, progress: false, subject: Identified, over: File("--at") })
+show "" ==> Request(Request { start: Bit(0), window: None, order: None, limit: 1000000000, spool: None, terms: Terms { whole: false, most_output: None, part: None, most_slots: None, style: Style { numbers: Decimal, chars: Numbers, elements: Some(16) }, look: None, selection: None }, form: Shown { color: Auto, depth: Some(6) }, progress: false, subject: Identified, over: File("") })
+show --at 4#b f ==> Request(Request { start: Bit(4), window: None, order: None, limit: 1000000000, spool: None, terms: Terms { whole: false, most_output: None, part: None, most_slots: None, style: Style { numbers: Decimal, chars: Numbers, elements: Some(16) }, look: None, selection: None }, form: Shown { color: Auto, depth: Some(6) }, progress: false, subject: Identified, over: File("f") })
+show f --byte -8 --length 4 --endian little --limit 5 --spool 3 --progress ==> Request(Request { start: BytesFromEnd(8), window: Some(4), order: Some(Little), limit: 5, spool: Some(3), terms: Terms { whole: false, most_output: None, part: None, most_slots: None, style: Style { numbers: Decimal, chars: Numbers, elements: Some(16) }, look: None, selection: None }, form: Shown { color: Auto, depth: Some(6) }, progress: true, subject: Identified, over: File("f") })
+show --whole --max-output 9 --slots 7 --get .a --elements all --depth 2 --color never f ==> Request(Request { start: Bit(0), window: None, order: None, limit: 1000000000, spool: None, terms: Terms { whole: true, most_output: Some(9), part: Some(Path { steps: [Field([97])] }), most_slots: Some(7), style: Style { numbers: Decimal, chars: Numbers, elements: None }, look: None, selection: None }, form: Shown { color: Never, depth: Some(2) }, progress: false, subject: Identified, over: File("f") })
+identify f ==> Identify(Identification { start: Bit(0), window: None, spool: None, all: false, folder: None, faults: Text, progress: false, names: Words(["f"]), flush: false })
+identify f g - ==> Identify(Identification { start: Bit(0), window: None, spool: None, all: false, folder: None, faults: Text, progress: false, names: Words(["f", "g", "-"]), flush: false })
+identify -- --all ==> Identify(Identification { start: Bit(0), window: None, spool: None, all: false, folder: None, faults: Text, progress: false, names: Words(["--all"]), flush: false })
+identify +png ==> Identify(Identification { start: Bit(0), window: None, spool: None, all: false, folder: None, faults: Text, progress: false, names: Words(["+png"]), flush: false })
+identify --all f ==> Identify(Identification { start: Bit(0), window: None, spool: None, all: true, folder: None, faults: Text, progress: false, names: Words(["f"]), flush: false })
+identify --in p/q f ==> Identify(Identification { start: Bit(0), window: None, spool: None, all: false, folder: Some("p/q"), faults: Text, progress: false, names: Words(["f"]), flush: false })
+identify --in= f ==> Identify(Identification { start: Bit(0), window: None, spool: None, all: false, folder: Some(""), faults: Text, progress: false, names: Words(["f"]), flush: false })
+identify --mode json f ==> Identify(Identification { start: Bit(0), window: None, spool: None, all: false, folder: None, faults: Text, progress: false, names: Words(["f"]), flush: false })
+identify f --mode=text ==> Identify(Identification { start: Bit(0), window: None, spool: None, all: false, folder: None, faults: Text, progress: false, names: Words(["f"]), flush: false })
+identify --byte 0x1be f ==> Identify(Identification { start: Bit(3568), window: None, spool: None, all: false, folder: None, faults: Text, progress: false, names: Words(["f"]), flush: false })
+identify --byte -512 f ==> Identify(Identification { start: BytesFromEnd(512), window: None, spool: None, all: false, folder: None, faults: Text, progress: false, names: Words(["f"]), flush: false })
+identify --byte=-0 f ==> Identify(Identification { start: BytesFromEnd(0), window: None, spool: None, all: false, folder: None, faults: Text, progress: false, names: Words(["f"]), flush: false })
+identify --length 446 f ==> Identify(Identification { start: Bit(0), window: Some(446), spool: None, all: false, folder: None, faults: Text, progress: false, names: Words(["f"]), flush: false })
+identify --length 0x0 f ==> Identify(Identification { start: Bit(0), window: Some(0), spool: None, all: false, folder: None, faults: Text, progress: false, names: Words(["f"]), flush: false })
+identify --files0-from - ==> Identify(Identification { start: Bit(0), window: None, spool: None, all: false, folder: None, faults: Text, progress: false, names: EndedByZero("-"), flush: false })
+identify --faults json f ==> Identify(Identification { start: Bit(0), window: None, spool: None, all: false, folder: None, faults: Json, progress: false, names: Words(["f"]), flush: false })
+identify --spool 4096 f ==> Identify(Identification { start: Bit(0), window: None, spool: Some(4096), all: false, folder: None, faults: Text, progress: false, names: Words(["f"]), flush: false })
+identify --spool +0 f ==> Identify(Identification { start: Bit(0), window: None, spool: Some(0), all: false, folder: None, faults: Text, progress: false, names: Words(["f"]), flush: false })
+identify --flush f ==> Identify(Identification { start: Bit(0), window: None, spool: None, all: false, folder: None, faults: Text, progress: false, names: Words(["f"]), flush: true })
+identify --progress f ==> Identify(Identification { start: Bit(0), window: None, spool: None, all: false, folder: None, faults: Text, progress: true, names: Words(["f"]), flush: false })
+identify --why f ==> Identify(Identification { start: Bit(0), window: None, spool: None, all: false, folder: None, faults: Text, progress: false, names: Words(["f"]), flush: false })
+identify --all --in d --mode json --byte 1 --length 2 --faults json --spool 3 --flush --progress --why --files0-from l ==> Identify(Identification { start: Bit(8), window: Some(2), spool: Some(3), all: true, folder: Some("d"), faults: Json, progress: true, names: EndedByZero("l"), flush: true })
 map --endian little +p T f ==> Map { at: 0, order: Little, limit: 1000000000, mode: Flat, pickle: "+p", name: "T", file: "f" }
 map p - f ==> Map { at: 0, order: Big, limit: 1000000000, mode: Flat, pickle: "p", name: "-", file: "f" }
 map +p/q - f ==> Map { at: 0, order: Big, limit: 1000000000, mode: Flat, pickle: "+p/q", name: "-", file: "f" }
@@ -198,8 +230,48 @@ map +p/q f ==> usage
 map p f ==> usage
 show +p ==> usage
 show p f ==> usage
+show ==> usage
+show --depth 2 ==> usage
+show --inside f ==> usage
+show --inside - ==> usage
+show --at 0#b --byte 0 f ==> usage
+show --get a f ==> usage
+show --limit x f ==> usage
+show --at 8 --limit x f ==> usage
+show --at 8 f ==> refused offset
+show --byte x f ==> refused offset
+show --length 1#B f ==> refused offset
+map f ==> usage
+map - ==> usage
+each f ==> usage
+bound 25 ==> usage
 each +p ==> usage
 each +p f ==> usage
+identify ==> usage
+identify --all ==> usage
+identify --files0-from l f ==> usage
+identify --at 0#b f ==> usage
+identify --endian big f ==> usage
+identify --inside f ==> usage
+identify --mode flat f ==> usage
+identify --faults xml f ==> usage
+identify --in ==> usage
+identify --in a --in b f ==> usage
+identify --all --all f ==> usage
+identify --byte 0 --byte 0 f ==> usage
+identify --spool x f ==> usage
+identify --spool 18446744073709551616 f ==> usage
+identify --length -1 f ==> usage
+identify --byte x --spool x f ==> usage
+identify --byte x ==> usage
+identify --byte 1#B f ==> refused offset
+identify --byte - f ==> refused offset
+identify --byte 2305843009213693952 f ==> refused offset
+identify --length 1#B f ==> refused offset
+identify --length 2305843009213693952 f ==> refused offset
+identify --length "" --files0-from l ==> refused offset
+map --all p T f ==> usage
+each --in d p T f ==> usage
 each --files0-from l p ==> usage
 each --files0-from l +p - f ==> usage
 each --files0-from l ==> usage
@@ -242,6 +314,9 @@ const HELP: &str = "\
     -h ==> Usage: & map & dump & --files0-from\n\
     help --help ==> Exit status: & [default: 1000000000] & Example:\n\
     help bound -h ==> Exit status: & BITS & Example:\n\
+    identify --help ==> Usage: poke_batch identify & --all & --in <FOLDER> & Exit status: & Examples:\n\
+    identify -h ==> --files0-from <PATH> & --byte <N>\n\
+    show --help ==> Usage: poke_batch show [OPTIONS] [PICKLE [TYPE]] <FILE> & Exit status: & Examples:\n\
     map --help ==> Usage: poke_batch map & [default: 0#b] & [default: big, without TYPE that of the head]\n\
     bound --help ==> Exit status: & BITS & Example:\n\
     check --help ==> Exit status: & PICKLE & Example:\n\

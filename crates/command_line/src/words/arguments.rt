@@ -17,7 +17,7 @@ pub enum Kind {
     Repeated,
     /// A word that must be given, by its place.
     Positional,
-    /// The same, but TYPE may be left out before it, or is TYPE. The ties say when.
+    /// The same, but it may be left out, or an argument before it. The ties say when.
     Omissible,
     /// Any number of words, by their place.
     Positionals,
@@ -32,7 +32,7 @@ pub enum Accepts {
     Offset,
     /// A number of bytes, after a `-` from the end of the file.
     Place,
-    /// The path of a file.
+    /// The path of a file or a folder.
     File,
     /// A number below 2^64.
     Number,
@@ -229,7 +229,7 @@ const ARGUMENTS: &[Argument] = &[
     // Read a FILE that has no length, such as a pipe, [into memory](#a-file-without-a-length) before it is mapped. If it
     // has more than BYTES bytes the run ends with `fault TooLong`. Without the option such a FILE is `fault Open`.
     Argument {
-        of: &["map", "show", "each"],
+        of: &["map", "show", "each", "identify"],
         name: "spool",
         value: "BYTES",
         accepts: Accepts::Number,
@@ -237,10 +237,10 @@ const ARGUMENTS: &[Argument] = &[
         help: "Read a FILE without a length, as a pipe, into memory, up to so many bytes, 0 to 18446744073709551615 [default: it isn't opened]",
         ..OPTION
     },
-    // Show on standard error [how far](#progress) FILE was read, or of `each` how many files are done, if that is a
-    // terminal.
+    // Show on standard error [how far](#progress) FILE was read, or of `each` and `identify` how many files are done, if
+    // that is a terminal.
     Argument {
-        of: &["map", "show", "each"],
+        of: &["map", "show", "each", "identify"],
         name: "progress",
         is_rare: true,
         help: "Show how much is done, if standard error is a terminal [default: no]",
@@ -275,6 +275,42 @@ const ARGUMENTS: &[Argument] = &[
         default: Some("fault"),
         is_rare: true,
         help: "What a part that isn't there is: a fault, or an empty column or line",
+        ..OPTION
+    },
+    // Print all formats that fit, in the line of the file, the closest first. After them come, by name, those that have no
+    // signature and whose type of whole files maps FILE within 1,000,000,000 steps.
+    Argument {
+        of: &["identify"],
+        name: "all",
+        help: "Print all formats that fit, those without a signature too [default: the first]",
+        ..FLAG
+    },
+    // Try the pickles in FOLDER, the files whose names end with `.pk`, instead of those that are installed.
+    Argument {
+        of: &["identify"],
+        name: "in",
+        value: "FOLDER",
+        accepts: Accepts::File,
+        help: "Try the pickles in FOLDER [default: those that are installed]",
+        ..OPTION
+    },
+    // Look for the format at byte N of FILE, below 2^61: `446`, `0x1be` or, counted from the end of FILE, `-512`. A place
+    // before the first byte of FILE is `refused offset`.
+    Argument {
+        of: &["identify"],
+        name: "byte",
+        value: "N",
+        accepts: Accepts::Place,
+        help: "The byte where the format begins, as 446, 0x1be or, from the end of FILE, -512 [default: 0]",
+        ..OPTION
+    },
+    // FILE ends BYTES bytes after that byte, or where it ends anyway. The number is `446` or `0x1be`.
+    Argument {
+        of: &["identify"],
+        name: "length",
+        value: "BYTES",
+        is_rare: true,
+        help: "After how many bytes from there FILE ends, as 446 or 0x1be [default: where it does]",
         ..OPTION
     },
     // Also print how many bytes the printed value has at most.
@@ -323,6 +359,17 @@ const ARGUMENTS: &[Argument] = &[
     // each pickle, with what applies if TYPE is left out.
     Argument {
         of: &["check", "types", "formats"],
+        name: "mode",
+        value: "MODE",
+        accepts: Accepts::OneOf(&["text", "json"]),
+        default: Some("text"),
+        help: "How the answer is printed",
+        ..OPTION
+    },
+    // How the answer is printed. `json` prints an object instead of each line. That of a format also has the size that
+    // its identifying type took, and the description of the pickle.
+    Argument {
+        of: &["identify"],
         name: "mode",
         value: "MODE",
         accepts: Accepts::OneOf(&["text", "json"]),
@@ -400,7 +447,7 @@ const ARGUMENTS: &[Argument] = &[
     // How a refusal or a fault is [printed](#streams-and-exit-statuses). `json` prints it as a JSON object, such as
     // `{"fault":"End","at":32}`.
     Argument {
-        of: &["map", "each"],
+        of: &["map", "each", "identify"],
         name: "faults",
         value: "FORM",
         accepts: Accepts::OneOf(&["text", "json"]),
@@ -478,17 +525,24 @@ const ARGUMENTS: &[Argument] = &[
         help: "Explain why the pickle is refused [default: no]",
         ..FLAG
     },
-    // Write the line of a file before the next file is mapped.
+    // Print more lines on standard error: why a FILE or the pickles aren't opened.
     Argument {
-        of: &["each"],
+        of: &["identify"],
+        name: "why",
+        help: "Explain why FILE or the pickles aren't opened [default: no]",
+        ..FLAG
+    },
+    // Write the line of a file before the next file is read.
+    Argument {
+        of: &["each", "identify"],
         name: "flush",
-        help: "Write the line of a file before the next file is mapped [default: no]",
+        help: "Write the line of a file before the next file is read [default: no]",
         ..FLAG
     },
     // Read the names of the files from PATH, or from standard input for `-`. A byte 0 ends each name, as `find -print0`
     // writes them. Then there is no FILE argument. While the next name isn't there yet, all lines so far are written.
     Argument {
-        of: &["each"],
+        of: &["each", "identify"],
         name: "files0-from",
         value: "PATH",
         accepts: Accepts::File,
@@ -544,9 +598,16 @@ const ARGUMENTS: &[Argument] = &[
         ..FLAG
     },
     Argument {
-        of: &["map", "show", "each", "bound", "check", "types"],
+        of: &["map", "each", "bound", "check", "types"],
         name: "PICKLE",
         help: "The file of the pickle, - for standard input, or +NAME for one that is installed",
+        ..POSITIONAL
+    },
+    Argument {
+        of: &["show"],
+        name: "PICKLE",
+        kind: Kind::Omissible,
+        help: "The file of the pickle, - for standard input, or +NAME for one that is installed. Left out with TYPE, it is that of the format that FILE has",
         ..POSITIONAL
     },
     Argument {
@@ -570,7 +631,7 @@ const ARGUMENTS: &[Argument] = &[
         ..POSITIONAL
     },
     Argument {
-        of: &["each"],
+        of: &["each", "identify"],
         name: "FILE",
         kind: Kind::Positionals,
         tie: Tie::Either("files0-from"),

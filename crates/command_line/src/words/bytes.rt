@@ -3,7 +3,7 @@ ghost use Rattle.std.specs.Prelude.{◌≡◌, ℕ, ◌*◌, IfOk, IfErr, OnErr,
 ghost use Rattle.clap.specs.Matches.{found_of, first_value};
 ghost use Rattle.command_line.specs.Numerals.{IsByteCount};
 ghost use Rattle.command_line.specs.OffsetWord.{IsOffsetWord, IsNoOffset, IsNoByteOffset};
-ghost use Rattle.command_line.specs.Starts.{NamesStart, IsNoStart, NamesBytes, IsNoBytes, NamesWindow, IsNoWindow};
+ghost use Rattle.command_line.specs.Starts.{NamesStart, IsNoStart, NamesByteIfAny, IsNoByteIfAny, NamesBytes, IsNoBytes, NamesWindow, IsNoWindow};
 ghost use Rattle.command_line.specs.Found.{word_in};
 ghost use Rattle.command_line.specs.declared.words.WordFault.TheVariants.{Offset};
 
@@ -25,6 +25,18 @@ pub fn start_of(found: &ArgMatches<'_>) -> Result<Start, WordFault>
     match found.get_str("byte") {
         Some(word) => byte_start(word.as_bytes()).ok_or(WordFault::Offset),
         None => Ok(Start::Bit(bits_of(word(found, "at"))?)),
+    }
+}
+
+/// The byte where a format is looked for. Without a request it is the file's first.
+pub fn byte_of(found: &ArgMatches<'_>) -> Result<Start, WordFault>
+    ensures ok { IfOk result (NamesByteIfAny (first_value (found_of found.now) (codes "byte"))) }
+    ensures err { IfErr result (λ fault. fault ≡ Offset) }
+    ensures refused { OnErr result (IsNoByteIfAny (first_value (found_of found.now) (codes "byte"))) }
+{
+    match found.get_str("byte") {
+        Some(word) => byte_start(word.as_bytes()).ok_or(WordFault::Offset),
+        None => Ok(Start::Bit(0)),
     }
 }
 

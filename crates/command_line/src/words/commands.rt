@@ -27,7 +27,6 @@ pub const SHOWN_LEVELS: u64 = 6;
 const PROGRAM_SHORT_HELP: &str = "\
 Many files, one line each:
   find . -name '*.png' -print0 | poke_batch each --files0-from - +png
-
 PICKLE is a path, - for standard input, or +NAME for a pickle that is installed: `poke_batch formats`.
 `poke_batch COMMAND -h` lists the options of a command, `--help` also explains them.";
 
@@ -36,6 +35,8 @@ PICKLE is a path, - for standard input, or +NAME for a pickle that is installed:
 struct Verb {
     name: &'static str,
     about: &'static str,
+    /// Its usage, where the parser can't say which arguments may be left out.
+    usage: Option<&'static str>,
     /// What follows its arguments in the long help.
     help: &'static str,
 }
@@ -43,6 +44,7 @@ struct Verb {
 const MAP: Verb = Verb {
     name: "map",
     about: "Maps a type over a file and prints the value",
+    usage: None,
     help: "\
 OFFSET is a number, # and a unit: b for bits, B for bytes, or a number of bits, as 8#b, 1#B or 2#4.
 
@@ -60,12 +62,15 @@ Exit status:
 const SHOW: Verb = Verb {
     name: "show",
     about: "Maps a type over a file and shows the value, or what a fault is about, to the eye",
+    usage: Some("poke_batch show [OPTIONS] [PICKLE [TYPE]] <FILE>"),
     help: "\
 Shows the value with its places, its numbers in decimal and hexadecimal, and its texts, and explains a fault. The form may
-change with the version; programs read the output of map. OFFSET is a number, # and a unit: b for bits, B for bytes, or a
-number of bits, as 8#b, 1#B or 2#4. Without --color, NO_COLOR in the environment leaves colors out.
+change with the version; programs read the output of map. A FILE alone is shown by the format that identify finds. OFFSET is a
+number, # and a unit: b for bits, B for bytes, or a number of bits, as 8#b, 1#B or 2#4. Without --color, NO_COLOR in the
+environment leaves colors out.
 
-Example:
+Examples:
+  poke_batch show picture.png
   printf '\\001\\002\\003' > three.bin
   echo 'type P = struct { uint<8> a; uint<16> b; };' | poke_batch show - P three.bin
 
@@ -79,6 +84,7 @@ Exit status:
 const EACH: Verb = Verb {
     name: "each",
     about: "Maps a type over many files, one after the other, and prints a line for each",
+    usage: None,
     help: "\
 The options are those of map, for each file. Each file has a line: its name, a tab, the exit status of its mapping, a tab, and
 the printed value or the line of its fault. In a name, \\, a tab, a line feed and other bytes outside ' ' to '~' are escaped, as \\\\,
@@ -99,9 +105,32 @@ Exit status:
   3  memory, a file, standard input or an output failed",
 };
 
+const IDENTIFY: Verb = Verb {
+    name: "identify",
+    about: "Finds the formats of files by the pickles that are installed, and prints a line for each file",
+    usage: None,
+    help: "\
+The head of a pickle says by which type its files are identified, and in which byte orders. Each pickle is tried at the byte
+that --byte names, and of those that fit the closest is printed. Each file has a line: its name, a tab, the exit status, a tab,
+and the name of the format, the type of whole files and the byte order, with tabs between them, or the line of a fault. In a
+name, \\, a tab, a line feed and other bytes outside ' ' to '~' are escaped, as \\\\, \\t, \\n and \\x and two digits. A fault in
+one file stops nothing; the exit status is the greatest of all.
+
+Examples:
+  poke_batch identify unknown.bin
+  find . -type f -print0 | poke_batch identify --files0-from -
+
+Exit status:
+  0  each file has a format
+  1  a file has none of the formats, which its line reports as fault Unidentified
+  2  refused: the arguments, an offset or a pickle
+  3  memory, the folder, a file, standard input or an output failed",
+};
+
 const BOUND: Verb = Verb {
     name: "bound",
     about: "Prints the most steps and slots that mapping a type over so many bits takes",
+    usage: None,
     help: "\
 Example:
   echo 'type P = struct { uint<8> a; uint<16> b; };' | poke_batch bound - P 24
@@ -115,6 +144,7 @@ Exit status:
 const CHECK: Verb = Verb {
     name: "check",
     about: "Checks a pickle and prints the number of its types",
+    usage: None,
     help: "\
 With --mode json the answer is an object on standard output, also for a pickle that is refused:
   {\"accepted\":true}
@@ -133,6 +163,7 @@ Exit status:
 const TYPES: Verb = Verb {
     name: "types",
     about: "Prints the name, the kind and the least width of each type of a pickle",
+    usage: None,
     help: "\
 Each type that PICKLE declares has a line: its name, a tab, integer, offset, string, array, struct or union, a tab, and the
 least width of its values as an offset, such as 24#b.
@@ -155,6 +186,7 @@ Exit status:
 const FORMATS: Verb = Verb {
     name: "formats",
     about: "Prints the name, the type, the options and a sentence of each pickle that is installed",
+    usage: None,
     help: "\
 Each pickle has a line: its name, a tab, the type to map, a tab, the options to map it with, a tab, and a sentence. A pickle
 that is named png is read by +png instead of a path. Without TYPE, that type and these options apply. The pickles are in
@@ -175,6 +207,7 @@ Exit status:
 const DUMP: Verb = Verb {
     name: "dump",
     about: "Prints the bytes of a file in hexadecimal digits and as text",
+    usage: None,
     help: "\
 OFFSET is a number, # and a unit: b for bits, B for bytes, or a number of bits, as 16#B or 2#4. BYTES is a number of bytes,
 as 446 or 0x1be.
@@ -201,6 +234,7 @@ pub fn program<'a>(
         .subcommand(command(alloc, MAP, table, ties)?)?
         .subcommand(command(alloc, SHOW, table, ties)?)?
         .subcommand(command(alloc, EACH, table, ties)?)?
+        .subcommand(command(alloc, IDENTIFY, table, ties)?)?
         .subcommand(command(alloc, BOUND, table, ties)?)?
         .subcommand(command(alloc, CHECK, table, ties)?)?
         .subcommand(command(alloc, TYPES, table, ties)?)?
@@ -235,7 +269,11 @@ fn command<'a>(
 fn new_command<'a>(alloc: Global, verb: Verb) -> Command<'a>
     ensures { IsApp (new_app verb.name.now) result }
 {
-    Command::new(alloc, verb.name)
+    let command = Command::new(alloc, verb.name)
         .about(verb.about)
-        .after_long_help(verb.help)
+        .after_long_help(verb.help);
+    match verb.usage {
+        Some(usage) => command.override_usage(usage),
+        None => command,
+    }
 }

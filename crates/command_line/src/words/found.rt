@@ -47,6 +47,20 @@ pub fn word_of(alloc: Global, found: &ArgMatches<'_>, name: &str) -> Result<Stri
     String::from_str(alloc, word(found, name))
 }
 
+/// A copy of the text of an argument, if it was given.
+pub fn word_if_any(
+    alloc: Global,
+    found: &ArgMatches<'_>,
+    name: &str,
+) -> Result<Option<String>, AllocError>
+    ensures { IfOk result (λ text. option_map string_bytes text ≡ first_value (found_of found.now) name.now) }
+{
+    match found.get_str(name) {
+        Some(word) => Ok(Some(String::from_str(alloc, word)?)),
+        None => Ok(None),
+    }
+}
+
 /// The number that an argument is, if it was given. `place` is how messages name the argument.
 pub fn number_if_any(
     alloc: Global,

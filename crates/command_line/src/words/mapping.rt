@@ -1,7 +1,7 @@
 //! What a mapping is given, as arguments request it.
 ghost use Rattle.std.specs.Prelude.{◌≡◌, ◌≢◌, IfOk, IfErr, codes, option_map};
 ghost use Rattle.clap.specs.Matches.{found_of, first_value};
-ghost use Rattle.command_line.specs.Found.{NumberIn, NamesOrder, AsksOrder, AsksSubject, AsksMappingOf, IsNoExtent, IsNoNumberIfAny};
+ghost use Rattle.command_line.specs.Found.{NumberIn, NamesOrder, AsksOrder, AsksSubject, ShowsSubject, AsksMappingOf, type_in, IsNoExtent, IsNoNumberIfAny};
 ghost use Rattle.command_line.specs.Misread.{FailsFor};
 ghost use Rattle.command_line.specs.Subjects.{is_inside};
 ghost use Rattle.command_line.specs.declared.words.WordFault.TheVariants.{Offset};
@@ -11,13 +11,14 @@ use crate::subject::{HeadType, Subject, is_by_head};
 use crate::words::WordFault;
 use crate::words::bytes::{start_of, window_of};
 use crate::words::commands::DEFAULT_LIMIT;
-use crate::words::found::{flag_of, number_of, word, word_of};
+use crate::words::found::{flag_of, number_of, type_word, word, word_of};
+use crate::words::ties::shows_file_alone;
 use bit_space::Order;
 use clap::ArgMatches;
 use std::alloc::{AllocError, Global};
 
 /// What every command that maps is given, over one file or many.
-#[derive(Drop)]
+#[derive(Clone, Copy)]
 pub struct MappingWords {
     /// Where the mapping starts.
     pub start: Start,
@@ -27,17 +28,11 @@ pub struct MappingWords {
     pub order: Option<Order>,
     /// The most steps of each mapping.
     pub limit: u64,
-    /// What is mapped.
-    pub subject: Subject,
 }
 
-/// What the arguments of a command that maps request, of which `name` is the one for the type.
-pub fn mapping_words(
-    alloc: Global,
-    found: &ArgMatches<'_>,
-    name: Option<&str>,
-) -> Result<MappingWords, WordFault>
-    ensures asks { IfOk result (AsksMappingOf (found_of found.now) (option_map (λ name. name.now) name.entry)) }
+/// What the arguments of a command that maps request beside the type and the file.
+pub fn mapping_words(alloc: Global, found: &ArgMatches<'_>) -> Result<MappingWords, WordFault>
+    ensures asks { IfOk result (AsksMappingOf (found_of found.now)) }
     ensures offset { IfErr result (λ fault. fault ≡ Offset → IsNoExtent (found_of found.now)) }
     ensures misread { IfErr result (FailsFor (IsNoNumberIfAny (first_value (found_of found.now) (codes "limit")))
         (IsNoExtent (found_of found.now))) }
@@ -45,14 +40,13 @@ pub fn mapping_words(
     Ok(MappingWords {
         order: order_of(found),
         limit: limit_of(alloc, found)?,
-        subject: subject_of(alloc, found, name)?,
         start: start_of(found)?,
         window: window_of(found)?,
     })
 }
 
-// What is mapped: the type that is named, or one that the head of the pickle says.
-fn subject_of(
+/// What is mapped: the type that `name` is, the argument for it, or one that the head of the pickle says.
+pub fn subject_of(
     alloc: Global,
     found: &ArgMatches<'_>,
     name: Option<&str>,
@@ -66,6 +60,16 @@ fn subject_of(
     }
     let name = String::from_str(alloc, name.unwrap_or(""))?;
     Ok(Subject::Named { pickle, name })
+}
+
+/// What is shown: the same, or if one argument alone is the file, the format that it has.
+pub fn shown_subject(alloc: Global, found: &ArgMatches<'_>) -> Result<Subject, AllocError>
+    ensures { IfOk result (ShowsSubject (found_of found.now) (type_in (found_of found.now) (codes "FILE"))) }
+{
+    if shows_file_alone(found) {
+        return Ok(Subject::Identified);
+    }
+    subject_of(alloc, found, type_word(found, "FILE"))
 }
 
 fn head_type(inside: bool) -> HeadType

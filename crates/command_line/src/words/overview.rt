@@ -20,9 +20,6 @@ Options of map, show and each:
   --max-output N   the most bytes of the printed value, 0 to 18446744073709551615 [default: any length]
   --slots N        the most slots of each kind, reserved before the mapping, 0 to 18446744073709551615. A slot stores a
                    part of a value: a node, a link, a pending child or a byte of a string [default: any number]
-  --spool BYTES    read a FILE without a length, as a pipe, into memory, up to so many bytes, 0 to 18446744073709551615
-                   [default: it isn't opened]
-  --progress       show how much is done, if standard error is a terminal [default: no]
 
 Options of map:
   --get PATH       print parts of the value: . or steps of .name, .place, [place], [*], [2:5], .* [default: .]
@@ -40,8 +37,11 @@ Options of each:
   --get PATH       print a part of the value, as a column if there are many: . or steps of .name, .place, [place]
                    [default: .]
   --mode MODE      how the value is printed (flat or json) [default: flat]
-  --flush          write the line of a file before the next file is mapped [default: no]
-  --files0-from PATH  read the names of the files from PATH, or from standard input for -, each ended by a byte 0
+
+Options of map, show, each and identify:
+  --spool BYTES    read a FILE without a length, as a pipe, into memory, up to so many bytes, 0 to 18446744073709551615
+                   [default: it isn't opened]
+  --progress       show how much is done, if standard error is a terminal [default: no]
 
 Options of map and each:
   --absent WHAT    what a part that isn't there is: a fault, or an empty column or line (fault or empty)
@@ -49,8 +49,15 @@ Options of map and each:
   --numbers FORM   how numbers are printed (decimal, hex or digits) [default: decimal]
   --chars FORM     how arrays of char are printed (numbers or text) [default: numbers]
   --elements N     the most elements that are printed of an array, or all [default: all]
-  --faults FORM    how a refusal or a fault is printed (text or json) [default: text]
   --why            explain why the pickle or TYPE is refused, or what stops a mapping [default: no]
+
+Options of identify:
+  --all            print all formats that fit, those without a signature too [default: the first]
+  --in FOLDER      try the pickles in FOLDER [default: those that are installed]
+  --byte N         the byte where the format begins, as 446, 0x1be or, from the end of FILE, -512 [default: 0]
+  --length BYTES   after how many bytes from there FILE ends, as 446 or 0x1be [default: where it does]
+  --mode MODE      how the answer is printed (text or json) [default: text]
+  --why            explain why FILE or the pickles aren't opened [default: no]
 
 Options of bound:
   --text           print the most bytes of the printed value too
@@ -63,6 +70,9 @@ Options of bound:
 Options of check, types and formats:
   --mode MODE      how the answer is printed (text or json) [default: text]
 
+Options of map, each and identify:
+  --faults FORM    how a refusal or a fault is printed (text or json) [default: text]
+
 Options of types:
   --parts NAME     list the parts that values of the type NAME can have
   --depth N        the most levels of parts below the value that are listed, or all [default: 6]
@@ -70,6 +80,10 @@ Options of types:
 
 Options of check:
   --why            explain why the pickle is refused, or what an accepted one can't mean [default: no]
+
+Options of each and identify:
+  --flush          write the line of a file before the next file is read [default: no]
+  --files0-from PATH  read the names of the files from PATH, or from standard input for -, each ended by a byte 0
 
 Options of dump:
   --from OFFSET    the first byte, in whole bytes [default: 0#B]

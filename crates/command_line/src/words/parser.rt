@@ -16,6 +16,8 @@ pub enum Ties {
     With,
     /// With those where TYPE is left out, which is then no argument.
     WithoutType,
+    /// With those where the pickle and TYPE are left out.
+    WithoutPickle,
     Without,
 }
 
@@ -61,7 +63,11 @@ fn with_row<'a>(
 fn is_left_out(row: &Argument, ties: Ties) -> bool
     ensures { ties ≡ Ties.Without → result ≡ false }
 {
-    matches!(ties, Ties::WithoutType) && row.name == "TYPE"
+    match ties {
+        Ties::WithoutType => row.name == "TYPE",
+        Ties::WithoutPickle => row.name == "TYPE" || row.name == "PICKLE",
+        Ties::With | Ties::Without => false,
+    }
 }
 
 // Whether a command has the argument.
@@ -76,7 +82,7 @@ fn argument<'a>(alloc: Global, row: &Argument, ties: Ties) -> Result<Arg<'a>, Al
 {
     let arg = free_argument(alloc, row);
     match ties {
-        Ties::With | Ties::WithoutType => with_tie(required(arg, row), row),
+        Ties::With | Ties::WithoutType | Ties::WithoutPickle => with_tie(required(arg, row), row),
         Ties::Without => Ok(arg),
     }
 }
@@ -145,7 +151,7 @@ fn with_values<'a>(arg: Arg<'a>, row: &Argument) -> Arg<'a>
     }
 }
 
-// Required, though TYPE may be left out before it.
+// Required, though it or an argument before it may be left out.
 fn required<'a>(arg: Arg<'a>, row: &Argument) -> Arg<'a> {
     match row.kind {
         Kind::Omissible => arg.required(true),

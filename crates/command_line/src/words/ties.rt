@@ -1,9 +1,10 @@
 //! The ties between arguments, which the parser's own program doesn't have.
 ghost use Rattle.std.specs.Prelude.{◌≡◌, codes, option_map};
 ghost use Rattle.clap.specs.Matches.{found_of, first_value};
-ghost use Rattle.command_line.specs.Ties.{is_given, are_apart, needs, is_either_given, is_typed, has_words, keeps_inside, keeps_file_ties, keeps_map_ties, keeps_each_ties, keeps_text_ties, keeps_bound_ties, keeps_types_ties, keeps_dump_ties, keeps_ties};
+ghost use Rattle.command_line.specs.Found.{shows_file_alone};
+ghost use Rattle.command_line.specs.Ties.{is_given, are_apart, needs, is_either_given, is_typed, has_words, keeps_inside, keeps_file_ties, keeps_map_ties, keeps_show_ties, keeps_each_ties, keeps_identify_ties, keeps_text_ties, keeps_bound_ties, keeps_types_ties, keeps_dump_ties, keeps_ties};
 
-use crate::subject::{has_type, is_by_head};
+use crate::subject::{has_type, is_by_head, is_file_alone};
 use crate::words::found::{after_type, type_word, word};
 use clap::ArgMatches;
 use clap::parser::ValueSource;
@@ -14,8 +15,9 @@ pub fn keeps_ties(command: &str, found: &ArgMatches<'_>) -> bool
 {
     match command {
         "map" => keeps_map_ties(found),
-        "show" => keeps_file_ties(found),
+        "show" => keeps_show_ties(found),
         "each" => keeps_each_ties(found),
+        "identify" => keeps_identify_ties(found),
         "bound" => keeps_bound_ties(found),
         "types" => keeps_types_ties(found),
         "dump" => keeps_dump_ties(found),
@@ -37,6 +39,14 @@ fn keeps_file_ties(found: &ArgMatches<'_>) -> bool
         && keeps_inside(found, type_word(found, "FILE"))
 }
 
+fn keeps_show_ties(found: &ArgMatches<'_>) -> bool
+    ensures { result ≡ keeps_show_ties (found_of found.now) }
+{
+    are_apart(found, "byte", "at")
+        && (shows_file_alone(found) || has_words(found, "FILE"))
+        && keeps_inside(found, type_word(found, "FILE"))
+}
+
 fn keeps_each_ties(found: &ArgMatches<'_>) -> bool
     ensures { result ≡ keeps_each_ties (found_of found.now) }
 {
@@ -44,6 +54,12 @@ fn keeps_each_ties(found: &ArgMatches<'_>) -> bool
         && is_either_given(found, "FILE", "files0-from")
         && is_typed(found, found.get_str("TYPE"))
         && keeps_inside(found, found.get_str("TYPE"))
+}
+
+fn keeps_identify_ties(found: &ArgMatches<'_>) -> bool
+    ensures { result ≡ keeps_identify_ties (found_of found.now) }
+{
+    is_either_given(found, "FILE", "files0-from")
 }
 
 fn keeps_bound_ties(found: &ArgMatches<'_>) -> bool
@@ -78,6 +94,17 @@ pub fn has_words(found: &ArgMatches<'_>, after: &str) -> bool
     ensures { result ≡ has_words (found_of found.now) after.now }
 {
     after_type(found, after).is_some() && is_typed(found, type_word(found, after))
+}
+
+/// Whether one argument alone is the file to show.
+pub fn shows_file_alone(found: &ArgMatches<'_>) -> bool
+    ensures { result ≡ shows_file_alone (found_of found.now) }
+{
+    is_file_alone(
+        found.get_str("PICKLE"),
+        found.get_str("TYPE"),
+        found.get_str("FILE"),
+    )
 }
 
 fn is_typed(found: &ArgMatches<'_>, name: Option<&str>) -> bool
