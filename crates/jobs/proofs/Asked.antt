@@ -2,6 +2,7 @@
 use Rattle.std.proofs.Common.{◌≡◌, ◌≢◌, ℕ, Bool, List, Option, Ok, Err, String, string_bytes, refl, subst}
 use Rattle.std.specs.declared.alloc.Global.{Global}
 use Rattle.bit_space.specs.declared.order.Order.{Order}
+use Rattle.command_line.specs.declared.identification.Identification.{Identification}
 use Rattle.command_line.specs.declared.request.Request.{Request}
 use Rattle.text_output.specs.declared.mode.Mode.{Mode}
 use Rattle.command_line.specs.declared.answer_form.AnswerForm.{AnswerForm}
@@ -10,9 +11,9 @@ use Rattle.command_line.specs.declared.words.Job.{Job}
 use Rattle.command_line.specs.declared.words.Job.TheVariants as job
 use Rattle.part_lists.specs.PartRuns.{PartsAs}
 use Rattle.jobs.specs.Due.{DueOver, DueRun, End, Holds}
-use Rattle.jobs.specs.Given.{DueAnswer, IsAskedAbout, IsOverFiles, done, of_bound, of_check, of_parts, of_text, of_types}
+use Rattle.jobs.specs.Given.{DueAnswer, IsAskedAbout, IsOverFiles, of_bound, of_check, of_parts, of_text, of_types}
 use Rattle.jobs.specs.Gives.{Gives}
-use Rattle.jobs.specs.Jobs.{DueBound, DueCheckIn, DueTextBound, DueTypesIn, HoldsAtEnd, HoldsJob}
+use Rattle.jobs.specs.Jobs.{DueBound, DueCheckIn, DueTextBound, DueTypesIn, HoldsJob}
 use Rattle.jobs.specs.declared.pickles.Question.{Question}
 
 -- the answer of a question is that of its job
@@ -36,26 +37,21 @@ question_holds gives why _ form word _ out out' end
     out out' end) same
     (subst (λ w. Holds (DueOver gives w (DueTextBound w given.now bits style mode)) out out' end) is h)
 
--- what standard output holds of a job, where it returns
-pub done_holds : (gives : Gives) (why : Bool) (asked : Asked) (out out' : Option (List ℕ)) (end : End)
-    → HoldsJob gives why asked.job asked.answer out out' end → HoldsAtEnd gives why asked out out' (done end)
-done_holds gives why asked out out' (Ok ending) h = h
-done_holds gives why asked out out' (Err fault) h = h
-
 -- the list of formats is the one job that is left
 pub only_formats : (asked : Job) → IsOverFiles asked
     → ((at : ℕ) (order : Order) (limit : ℕ) (mode : Mode) (pickle name file : String Global)
     → asked ≢ job.Map at order limit mode pickle name file)
     → ((request : Request) → asked ≢ job.Request request)
     → ((from size : ℕ) (ruler : Bool) (file : String Global) → asked ≢ job.Dump from size ruler file)
-    → asked ≡ job.Formats
-only_formats (job.Map at order limit mode pickle name file) over map request dump =
+    → ((files : Identification) → asked ≢ job.Identify files) → asked ≡ job.Formats
+only_formats (job.Map at order limit mode pickle name file) over map request dump identify =
     absurd (map at order limit mode pickle name file refl)
-only_formats (job.Request asked) over map request dump = absurd (request asked refl)
-only_formats (job.Dump from size ruler file) over map request dump = absurd (dump from size ruler file refl)
-only_formats job.Formats over map request dump = refl
-only_formats (job.Bound pickle name bits) over map request dump = absurd over
-only_formats (job.BoundText pickle name bits mode style) over map request dump = absurd over
-only_formats (job.Check pickle) over map request dump = absurd over
-only_formats (job.Types pickle) over map request dump = absurd over
-only_formats (job.Parts pickle name depth) over map request dump = absurd over
+only_formats (job.Request asked) over map request dump identify = absurd (request asked refl)
+only_formats (job.Dump from size ruler file) over map request dump identify = absurd (dump from size ruler file refl)
+only_formats (job.Identify files) over map request dump identify = absurd (identify files refl)
+only_formats job.Formats over map request dump identify = refl
+only_formats (job.Bound pickle name bits) over map request dump identify = absurd over
+only_formats (job.BoundText pickle name bits mode style) over map request dump identify = absurd over
+only_formats (job.Check pickle) over map request dump identify = absurd over
+only_formats (job.Types pickle) over map request dump identify = absurd over
+only_formats (job.Parts pickle name depth) over map request dump identify = absurd over

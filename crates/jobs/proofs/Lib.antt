@@ -7,4 +7,8 @@ mod Dumped
 mod FilesWritten
 mod EachWritten
 mod Asked
+mod Shown
+mod Among
+mod Readable
+mod Listed
 mod Explained

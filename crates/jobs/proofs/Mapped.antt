@@ -7,7 +7,7 @@ use Rattle.command_line.specs.declared.ask.Ask.{Ask}
 use Rattle.command_line.specs.declared.terms.Terms.{Terms}
 use Rattle.jobs.specs.Due.{DueRun, Holds}
 use Rattle.jobs.specs.Given.{AddsMet, adds_met, adds_none, cuts_met}
-use Rattle.jobs.specs.Jobs.{DueSpace, met_due, run_due}
+use Rattle.jobs.specs.Spaces.{DueSpace, met_due, run_due}
 use Rattle.jobs.specs.declared.ending.Ending.TheVariants.{Run}
 use Rattle.jobs.proofs.Holding.{holds_more, keeps_before, keeps_before_part, part_keeps, part_text, run_holds, whole_text}
 use Rattle.poke_batch.specs.RunsUnder.{MapsRequested}

@@ -123,3 +123,11 @@ pub record IsAskOf (aim : Aim) (length : ℕ) (ask : Ask) : Type 0 where
   pub order : ask.order ≡ aim.order
   pub limit : ask.limit ≡ aim.limit
   pub mode : ask.mode ≡ aim.mode
+
+-- what it is given from a bit on
+pub record IsAskAt (aim : Aim) (start : ℕ) (ask : Ask) : Type 0 where
+  pub name : ask.name.now ≡ aim.name
+  pub start_is : ask.start ≡ start
+  pub order : ask.order ≡ aim.order
+  pub limit : ask.limit ≡ aim.limit
+  pub mode : ask.mode ≡ aim.mode

@@ -6,7 +6,7 @@ use Rattle.command_line.specs.Subjects.{is_by_head}
 use Rattle.command_line.specs.declared.subject.HeadType.{HeadType}
 use Rattle.command_line.specs.declared.subject.HeadType.TheVariants.{Documented, Inside}
 use Rattle.command_line.specs.declared.subject.Subject.{Subject}
-use Rattle.command_line.specs.declared.subject.Subject.TheVariants.{Named, ByHead}
+use Rattle.command_line.specs.declared.subject.Subject.TheVariants.{Named, ByHead, Identified}
 use Rattle.jobs.specs.declared.by_head.Chosen.{Chosen}
 use Rattle.pickle_heads.specs.Heads.{inside_of, main_of, options_of}
 use Rattle.pickle_heads.specs.Inside.{Among, by_type, no_type}
@@ -42,6 +42,7 @@ head_type Inside pickle = type_among (inside_of pickle)
 -- a type that is named has no options of the head
 abbrev pub chosen : Subject → (pickle : List ℕ) → Option ChosenType
 chosen (Named _ name) pickle = Some (record { name = string_bytes name; order = None; whole = false })
+chosen Identified pickle = None
 chosen (ByHead _ part) pickle = option_map (with_options pickle) (head_type part pickle)
 
 -- the type of a bound, by the arguments for its pickle and for the type

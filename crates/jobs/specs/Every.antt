@@ -1,12 +1,18 @@
 -- What is written about many files, by what their runs are given.
 use Rattle.std.specs.Prelude.{ℕ, List, [], Option}
 use Rattle.jobs.specs.Gives.{Gives}
-use Rattle.jobs.specs.Files.{Every, AppendsFiles, AppendsRun, CutsRun, RunsFile, WritesRuns}
+use Rattle.jobs.specs.Files.{Every, AppendsFiles, AppendsRun, CutsRun, IdentifiesFrom, Mapped, MapsFrom, RunsFile, WritesRuns}
 use Rattle.jobs.specs.Aims.{aim_of}
 use Rattle.jobs.specs.declared.file_run.FileForm.{FileForm}
 use Rattle.jobs.specs.declared.file_run.FileForm.TheVariants.{Line, Object}
+use Rattle.jobs.specs.declared.file_run.Task.{Task}
 use Rattle.jobs.specs.declared.file_run.Typed.{Typed}
-use Rattle.pickle_types.specs.TypeTable.{type_named, IsInTable}
+use Rattle.jobs.specs.declared.file_run.Work.{Work}
+use Rattle.jobs.specs.declared.file_run.Work.TheVariants.{Identify, Map}
+use Rattle.pickle_types.specs.TypeTable.{type_named, IsInTable, nodes_of}
+use Rattle.poke_batch.specs.Ready.{IsReady}
+use Rattle.poke_batch.specs.declared.each.Kept.{Kept}
+use Rattle.bit_space.specs.SpaceView.{SpaceView}
 use Rattle.poke_batch.specs.FileLine.{file_line}
 use Rattle.poke_batch.specs.FileObject.{file_object}
 use Rattle.poke_batch.specs.Runs.{IsAsked}
@@ -18,21 +24,41 @@ pub record IsTyped (typed : Typed) : Type 0 where
   pub known : IsInTable typed.table.now typed.id
   pub asked : IsAsked typed.pickle.now.bytes.items typed.mapping.name.now (type_named typed.table.now typed.id)
 
-abbrev pub every_of : Typed → Every
-every_of typed = record {
+abbrev pub mapped_of : Typed → Mapped
+mapped_of typed = record {
   pickle = typed.pickle.now.bytes.items;
   aim = aim_of typed.mapping;
-  window = typed.mapping.window;
   terms = typed.mapping.terms.now;
-  spool = typed.mapping.spool;
-  form = typed.form;
-  why = typed.explains;
 }
 
--- what is written of a file that wasn't mapped, with lines that explain it
-abbrev pub unmapped_text : FileForm → (name : List ℕ) → Outcome → (lines : List ℕ) → List ℕ
-unmapped_text (Line faults) name ended lines = file_line faults name ended []
-unmapped_text Object name ended lines = file_object name ended [] lines
+-- how the run of a task over what is seen of an open file ends
+abbrev pub runs_of : Work → (start : ℕ) → (file : SpaceView) → (MayFail : Type 0) → Outcome → (text : List ℕ) → Type 0
+runs_of (Map typed) = MapsFrom (mapped_of typed)
+runs_of (Identify identity) = IdentifiesFrom identity.formats.now identity.all identity.form
+
+abbrev pub every_of : Task → Every
+every_of task = record {
+  start = task.start;
+  window = task.window;
+  spool = task.spool;
+  form = task.form;
+  why = task.explains;
+  runs = runs_of task.work;
+}
+
+-- what a task needs of its type, and of what is stored from file to file
+abbrev pub IsSet : Work → Type 0
+IsSet (Map typed) = IsTyped typed
+IsSet (Identify identity) = Unit {0}
+
+abbrev pub IsReadyFor : Work → Kept → Type 0
+IsReadyFor (Map typed) kept = IsReady (nodes_of typed.table.now) typed.mapping.terms.now.most_slots kept
+IsReadyFor (Identify identity) kept = Unit {0}
+
+-- what is written of a run with a text, and with lines that explain it
+abbrev pub run_text : FileForm → (name : List ℕ) → Outcome → (text lines : List ℕ) → List ℕ
+run_text (Line faults) name ended text lines = file_line faults name ended text
+run_text Object name ended text lines = file_object name ended text lines
 
 -- the line or object of the file of a name, by what an opener gives
 abbrev pub AppendsFile : Gives → Every → (name : List ℕ) → (out out' : Option (List ℕ)) → Status → Type 0

@@ -4,12 +4,17 @@ use Rattle.std.specs.List.{concat}
 use Rattle.std.specs.Io.KnownBytes.{Appends}
 use Rattle.bit_space.specs.SpaceView.{HasRisen, SpaceView}
 use Rattle.command_line.specs.Starts.{start_bit}
+use Rattle.command_line.specs.declared.answer_form.AnswerForm.{AnswerForm}
+use Rattle.command_line.specs.declared.answer_form.AnswerForm.TheVariants as answer
 use Rattle.command_line.specs.declared.ask.Ask.{Ask}
 use Rattle.command_line.specs.declared.fault_form.FaultForm.{FaultForm}
+use Rattle.command_line.specs.declared.start.Start.{Start}
 use Rattle.command_line.specs.declared.terms.Terms.{Terms}
+use Rattle.identification.specs.declared.format.Formats.{Formats}
+use Rattle.identity_text.specs.Identities.{IdentifiesFile}
 use Rattle.jobs.specs.FaultNames.{failure_of}
 use Rattle.jobs.specs.Gives.{Gives}
-use Rattle.jobs.specs.Aims.{Aim, IsAskOf}
+use Rattle.jobs.specs.Aims.{Aim, IsAskAt}
 use Rattle.jobs.specs.declared.fault.FileFault.{FileFault}
 use Rattle.jobs.specs.declared.file_run.FileForm.{FileForm}
 use Rattle.jobs.specs.declared.file_run.FileForm.TheVariants.{Line, Object}
@@ -32,6 +37,10 @@ abbrev pub file_form : Mode → FaultForm → FileForm
 file_form Json faults = Object
 file_form mode faults = Line faults
 
+abbrev pub answer_form : AnswerForm → FaultForm → FileForm
+answer_form answer.Json faults = Object
+answer_form answer.Text faults = Line faults
+
 -- the exit status as a number
 abbrev pub rank : Status → ℕ
 rank Done = 0
@@ -42,16 +51,22 @@ rank Outside = 3
 abbrev pub greater : Status → Status → Status
 greater a b = if nat_lt (rank a) (rank b) then b else a
 
--- what the run of every file is given: the pickle, what is mapped and under which terms, after how many bytes a file
--- ends, how many bytes of one without a length are read, the form of what is written, and whether reasons are requested
-pub record Every : Type 0 where
-  pub pickle : List ℕ
-  pub aim : Aim
+-- what is done with every file: where it starts, after how many bytes the file ends, how many bytes of one without a
+-- length are read, the form of what is written, whether reasons are requested, and how the run over what is seen of an
+-- open file ends, of which a read may fail, and the text that it writes
+pub record Every : Type 1 where
+  pub start : Start
   pub window : Option ℕ
-  pub terms : Terms
   pub spool : Option ℕ
   pub form : FileForm
   pub why : Bool
+  pub runs : (start : ℕ) → (file : SpaceView) → (MayFail : Type 0) → Outcome → (text : List ℕ) → Type 0
+
+-- what is mapped over every file: the pickle, what is mapped, and under which terms
+pub record Mapped : Type 0 where
+  pub pickle : List ℕ
+  pub aim : Aim
+  pub terms : Terms
 
 -- what is written of a file: its line, or its object with reasons, if they are requested
 abbrev pub IsFormed : FileForm → (why : Bool) → (name : List ℕ) → Outcome → (text line : List ℕ) → Type 0
@@ -59,12 +74,27 @@ IsFormed (Line faults) why name ended text line = line ≡ file_line faults name
 IsFormed Object why name ended text line =
     (reasons : List ℕ) × (why ≡ false → reasons ≡ []) × (line ≡ file_object name ended text reasons)
 
--- how the run over what is seen of an open file ends, and the text that it writes; whether a read may fail
-pub data RunsOver (every : Every) (ask : Ask) (file : SpaceView) (MayFail : Type 0) : Outcome →
+-- how a mapping over what is seen of an open file ends, and the text that it writes; whether a read may fail
+pub data MapsOver (mapped : Mapped) (ask : Ask) (file : SpaceView) (MayFail : Type 0) : Outcome →
     (text : List ℕ) → Type 0 where
-  runs : {after : SpaceView} {ended : Outcome} {text : List ℕ} → (HasRisen file.failures after.failures → MayFail)
-      → EndsAs (MapsUnder every.pickle ask every.terms file after) ended (Some []) (Some text)
-      → RunsOver every ask file MayFail (in_memory ended) text
+  maps_over : {after : SpaceView} {ended : Outcome} {text : List ℕ}
+      → (HasRisen file.failures after.failures → MayFail)
+      → EndsAs (MapsUnder mapped.pickle ask mapped.terms file after) ended (Some []) (Some text)
+      → MapsOver mapped ask file MayFail (in_memory ended) text
+
+-- the same of what is mapped from a bit on
+pub data MapsFrom (mapped : Mapped) (start : ℕ) (file : SpaceView) (MayFail : Type 0) : Outcome →
+    (text : List ℕ) → Type 0 where
+  maps_from : {ask : Ask} {ended : Outcome} {text : List ℕ} → IsAskAt mapped.aim start ask
+      → MapsOver mapped ask file MayFail ended text → MapsFrom mapped start file MayFail ended text
+
+-- how a file is identified from a bit on, by what is seen of it
+pub data IdentifiesFrom (formats : Formats) (all : Bool) (form : AnswerForm) (start : ℕ) (file : SpaceView)
+    (MayFail : Type 0) : Outcome → (text : List ℕ) → Type 0 where
+  identifies_from : {after : SpaceView} {ended : Outcome} {text unfinished : List ℕ}
+      → (HasRisen file.failures after.failures → MayFail)
+      → IdentifiesFile formats all form start file after ended text unfinished
+      → IdentifiesFrom formats all form start file MayFail ended text
 
 -- a line or an object is written of a run that is like this, with its exit status
 pub record WritesRun (Runs : Outcome → (text : List ℕ) → Type 0) (every : Every) (name : List ℕ) (status : Status)
@@ -83,10 +113,10 @@ module _ (gives : Gives) where
         RunsFile every name (outcome.Failed (failure_of fault)) []
     no_cache : RunsFile every name (outcome.Failed failure.Memory) []
     starts_nowhere : {file : SpaceView} → gives.is_file name every.spool file
-        → start_bit every.aim.start file.len ≡ None → RunsFile every name outcome.Offset []
-    opened : {file : SpaceView} {ask : Ask} {ended : Outcome} {text : List ℕ} → gives.is_file name every.spool file
-        → IsAskOf every.aim file.len ask
-        → RunsOver every ask (seen every.window ask.start file) (gives.is_failing name) ended text
+        → start_bit every.start file.len ≡ None → RunsFile every name outcome.Offset []
+    opened : {file : SpaceView} {start : ℕ} {ended : Outcome} {text : List ℕ} → gives.is_file name every.spool file
+        → start_bit every.start file.len ≡ Some start
+        → every.runs start (seen every.window start file) (gives.is_failing name) ended text
         → RunsFile every name ended text
 
   -- the lines that are written of files, one after the other, with the greatest exit status
@@ -111,15 +141,6 @@ pub record CutsRun (Runs : Outcome → (text : List ℕ) → Type 0) (every : Ev
   pub line : List ℕ
   pub written : WritesRun Runs every name status line
   pub appends : AppendsUpTo out out' line
-
--- the same over what is seen of an open file
-abbrev pub AppendsOver : Ask → SpaceView → (MayFail : Type 0) → Every → (name : List ℕ) →
-    (out out' : Option (List ℕ)) → Status → Type 0
-AppendsOver ask file MayFail every = AppendsRun (RunsOver every ask file MayFail) every
-
-abbrev pub CutsOver : Ask → SpaceView → (MayFail : Type 0) → Every → (name : List ℕ) →
-    (out out' : Option (List ℕ)) → Type 0
-CutsOver ask file MayFail every = CutsRun (RunsOver every ask file MayFail) every
 
 -- what is written of many files whose names are these, one after the other, with the greatest exit status
 pub record AppendsFiles (Writes : (names : List (List ℕ)) → Status → (lines : List (List ℕ)) → Type 0)

@@ -16,7 +16,8 @@ use Rattle.jobs.specs.Due.{DueRun, End, Holds}
 use Rattle.jobs.specs.FaultNames.{list_failure}
 use Rattle.jobs.specs.Gives.{Gives}
 use Rattle.jobs.specs.Files.{Every}
-use Rattle.jobs.specs.Jobs.{DueBound, DueCheckIn, DueFiles, DueIfAny, DueMapping, DueSpace, DueTextBound, DueTypesIn, HoldsDump}
+use Rattle.jobs.specs.Jobs.{DueBound, DueCheckIn, DueFiles, DueIfAny, DueMapping, DueTextBound, DueTypesIn, HoldsDump}
+use Rattle.jobs.specs.Spaces.{DueSpace}
 use Rattle.jobs.specs.Names.{AreListed, AreListedFirst, AreNamed, AreNamedFirst, StopsList}
 use Rattle.jobs.specs.declared.dumps.Range.{Range}
 use Rattle.jobs.specs.declared.ending.Ending.{Ending}
@@ -82,6 +83,7 @@ pub data IsAskedAbout (form : AnswerForm) (word : List ℕ) : Job → Question �
 abbrev pub IsOverFiles : Job → Type 0
 IsOverFiles (job.Map at order limit mode pickle name file) = Unit {0}
 IsOverFiles (job.Request request) = Unit {0}
+IsOverFiles (job.Identify files) = Unit {0}
 IsOverFiles (job.Dump from size ruler file) = Unit {0}
 IsOverFiles job.Formats = Unit {0}
 IsOverFiles (job.Bound pickle name bits) = ⊥
@@ -109,11 +111,6 @@ pub data AddsMet (terms : Terms) (ended : Outcome) (out out' : Option (List ℕ)
 abbrev pub ending_of : Result Status WriteFault → Ending
 ending_of (Ok status) = Silent status
 ending_of (Err fault) = Run (outcome.Failed failure.Write)
-
--- how a job returns that isn't the list of formats
-abbrev pub done : End → Result (Option Ending) FileFault
-done (Ok ending) = Ok (Some ending)
-done (Err fault) = Err fault
 
 -- how a dump ends, by what its call returned
 abbrev pub dump_end : Result (Unit {0}) DumpFault → End

@@ -8,6 +8,7 @@ use Rattle.command_line.specs.Subjects.{pickle_of}
 use Rattle.command_line.specs.declared.answer_form.AnswerForm.{AnswerForm}
 use Rattle.command_line.specs.declared.answer_form.AnswerForm.TheVariants as answer
 use Rattle.command_line.specs.declared.ask.Ask.{Ask}
+use Rattle.command_line.specs.declared.identification.Identification.{Identification}
 use Rattle.command_line.specs.declared.request.FileNames.{FileNames}
 use Rattle.command_line.specs.declared.request.Over.{Over}
 use Rattle.command_line.specs.declared.request.Over.TheVariants.{File, Files}
@@ -19,8 +20,13 @@ use Rattle.command_line.specs.declared.words.Job.TheVariants as job
 use Rattle.jobs.specs.Aims.{IsAskOf, Requested, of_request, plain_request}
 use Rattle.jobs.specs.Chosen.{bound_type}
 use Rattle.jobs.specs.Due.{DueOver, DueRun, End, Holds}
-use Rattle.jobs.specs.Files.{Every, WritesRuns, file_form}
+use Rattle.jobs.specs.Formats.{DueFormats}
+use Rattle.jobs.specs.Files.{Every, IdentifiesFrom, MapsFrom, WritesRuns, answer_form, file_form}
+use Rattle.identification.specs.declared.format.Formats.{Formats}
 use Rattle.jobs.specs.Gives.{Gives}
+use Rattle.jobs.specs.Installed.{DueAmong, folder_of}
+use Rattle.jobs.specs.Identified.{DueIdentifiedFile}
+use Rattle.jobs.specs.Spaces.{DueSpace}
 use Rattle.jobs.specs.Names.{AreFirstOf, AreNamesOf, StopsNames}
 use Rattle.jobs.specs.declared.ending.Ending.{Ending}
 use Rattle.jobs.specs.declared.ending.Ending.TheVariants.{Run, Silent}
@@ -93,27 +99,27 @@ abbrev pub DueTypesIn : (why : Bool) → AnswerForm → (pickle : List ℕ) → 
 DueTypesIn why answer.Text pickle = DueRun (TypesAs pickle)
 DueTypesIn why answer.Json pickle = DueTypes why pickle
 
--- what the run of every file is given
+-- what a mapping does with every file
 abbrev pub every_for : (why : Bool) → Requested → (pickle : List ℕ) → Every
 every_for why requested pickle = record {
-  pickle = pickle;
-  aim = requested.aim;
+  start = requested.aim.start;
   window = requested.window;
-  terms = requested.terms;
   spool = requested.spool;
   form = file_form requested.aim.mode requested.faults;
   why = why;
+  runs = MapsFrom (record { pickle = pickle; aim = requested.aim; terms = requested.terms });
 }
 
--- of a mapping over a file, from its view before to its view after: what the run must say; for a value that is shown to
--- the eye, if reasons are requested, what the mapping had before its fault
-pub data DueSpace (pickle : List ℕ) (ask : Ask) (terms : Terms) (file after : SpaceView) (why : Bool) :
-    (lines : List (List ℕ)) → Option End → Type 0 where
-  run_due : {lines : List (List ℕ)} {end : Option End} → DueRun (MapsRequested pickle ask terms file after) lines end →
-      DueSpace pickle ask terms file after why lines end
-  met_due : {ended : Outcome} (met : List ℕ) → MapsRequested pickle ask terms file after (outcome_saying ended)
-      → outcome_status ended ≡ Fault → why ≡ true → IsSome terms.look
-      → DueSpace pickle ask terms file after why (met ∷ []) (Some (Ok (Run ended)))
+-- what finding the formats of files does with every file
+abbrev pub every_format : (why : Bool) → Identification → AnswerForm → Formats → Every
+every_format why asked form formats = record {
+  start = asked.start;
+  window = asked.window;
+  spool = asked.spool;
+  form = answer_form form asked.faults;
+  why = why;
+  runs = IdentifiesFrom formats asked.all form;
+}
 
 -- of what the head of a pickle says: nothing but a usage error if it doesn't say that
 pub data DueIfAny {A : Type 0} (Due : A → (lines : List (List ℕ)) → Option End → Type 0) : Option A →
@@ -178,15 +184,24 @@ module _ (gives : Gives) (why : Bool) where
         → can_have_requested requested.terms type ≡ true
         → DueNamed gives (every_for why requested pickle) files lines end → DueEach requested files pickle lines end
 
+  -- of the formats of many files
+  abbrev pub DueIdentified : Identification → AnswerForm → (lines : List (List ℕ)) → Option End → Type 0
+  DueIdentified asked form = DueAmong gives (folder_of asked)
+      (λ pickles formats. DueNamed gives (every_format why asked form formats) asked.names)
+
   -- of a requested mapping over one file, or over many
   abbrev pub DueMapping : Requested → Over → (pickle : List ℕ) → (lines : List (List ℕ)) → Option End → Type 0
   DueMapping requested (File file) = DueFile requested (string_bytes file)
   DueMapping requested (Files files flush) = DueEach requested files
 
-  -- of a request, once the pickle says which type is mapped
-  abbrev pub DueRequest : Request → (lines : List (List ℕ)) → Option End → Type 0
-  DueRequest request = DueOver gives (pickle_of request.subject) (λ pickle.
+  -- of a request: once its pickle says which type is mapped, or of the file's own format
+  abbrev pub DueSubject : Request → Option (List ℕ) → (lines : List (List ℕ)) → Option End → Type 0
+  DueSubject request (Some word) = DueOver gives word (λ pickle.
       DueIfAny (λ requested. DueMapping requested request.over pickle) (of_request request pickle))
+  DueSubject request None = DueIdentifiedFile gives why request
+
+  abbrev pub DueRequest : Request → (lines : List (List ℕ)) → Option End → Type 0
+  DueRequest request = DueSubject request (pickle_of request.subject)
 
   -- of each job that isn't a dump
   abbrev pub DueJob : Job → AnswerForm → (lines : List (List ℕ)) → Option End → Type 0
@@ -202,7 +217,8 @@ module _ (gives : Gives) (why : Bool) where
   DueJob (job.Types pickle) form = DueOver gives (string_bytes pickle) (DueTypesIn why form)
   DueJob (job.Parts pickle name depth) form =
       DueOver gives (string_bytes pickle) (λ bytes. DueRun (PartsAs bytes (string_bytes name) depth form))
-  DueJob job.Formats form = λ lines end. ⊥
+  DueJob (job.Identify asked) form = DueIdentified asked form
+  DueJob job.Formats form = DueFormats gives form
   DueJob (job.Dump from size ruler file) form = λ lines end. ⊥
 
 -- of a dump: its text; its first bytes before a read that failed
@@ -232,10 +248,3 @@ pub data HoldsDump (gives : Gives) (path : List ℕ) (from size : ℕ) (ruler : 
 abbrev pub HoldsJob : Gives → (why : Bool) → Job → AnswerForm → (out out' : Option (List ℕ)) → End → Type 0
 HoldsJob gives why (job.Dump from size ruler file) form = HoldsDump gives (string_bytes file) from size ruler
 HoldsJob gives why other form = Holds (DueJob gives why other form)
-
--- what it holds where a job returns; the list of formats is all that isn't done
-abbrev pub HoldsAtEnd : Gives → (why : Bool) → Asked → (out out' : Option (List ℕ)) →
-    Result (Option Ending) FileFault → Type 0
-HoldsAtEnd gives why asked out out' (Ok None) = (asked.job ≡ job.Formats) × Keeps out out'
-HoldsAtEnd gives why asked out out' (Ok (Some ending)) = HoldsJob gives why asked.job asked.answer out out' (Ok ending)
-HoldsAtEnd gives why asked out out' (Err fault) = HoldsJob gives why asked.job asked.answer out out' (Err fault)

@@ -7,6 +7,10 @@ pub mod Opened
 pub mod Reasons
 pub mod Endings
 pub mod Due
+pub mod Installed
+pub mod Formats
+pub mod Spaces
+pub mod Identified
 pub mod Files
 pub mod Every
 pub mod Jobs

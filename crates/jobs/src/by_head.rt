@@ -42,6 +42,7 @@ pub fn choose<'a>(subject: &'a Subject, pickle: &'a [u8]) -> Result<Chosen<'a>, 
             Ok(name) => Ok(with_options(name, pickle)),
             Err(missing) => Err(missing),
         },
+        Subject::Identified => Err(NoType::Unsaid),
     }
 }
 

@@ -1,4 +1,4 @@
-//! A type of a pickle, mapped over one file among many.
+//! What is done with one file among many: a type of a pickle is mapped over it, or its format is found.
 ghost use Rattle.std.specs.Prelude.{◌≡◌, [], false, IfOk, IfErr, OnErr, OnOk};
 ghost use Rattle.std.specs.Io.KnownBytes.{Appends, Keeps};
 ghost use Rattle.bit_space.specs.SpaceView.{HasRisen, Keeps as SpaceKeeps};
@@ -6,8 +6,8 @@ ghost use Rattle.text_output.specs.Written.{AppendsPart};
 ghost use Rattle.pickle_types.specs.TypeTable.{nodes_of};
 ghost use Rattle.poke_batch.specs.Ready.{IsReady};
 ghost use Rattle.run_parts.specs.Outcomes.{outcome_status};
-ghost use Rattle.jobs.specs.Every.{AppendsFile, CutsFile, IsTyped, every_of, unmapped_text};
-ghost use Rattle.jobs.specs.Files.{AppendsOver, CutsOver, file_form};
+ghost use Rattle.jobs.specs.Every.{AppendsFile, CutsFile, IsReadyFor, IsSet, IsTyped, every_of, mapped_of, run_text, runs_of};
+ghost use Rattle.jobs.specs.Files.{AppendsRun, CutsRun, IdentifiesFrom, MapsFrom, answer_form, file_form};
 ghost use Rattle.jobs.specs.Opened.{FailsNamed};
 
 use crate::aside::Aside;
@@ -16,9 +16,12 @@ use crate::one_file::is_mapped;
 use crate::opener::{Lengthless, NamedPickle, Opener};
 use crate::settings::Mapping;
 use crate::why::reasons_of;
-use bit_space::{OpenFault, Paged, Space};
+use bit_space::{Memory, OpenFault, Paged, Space};
+use command_line::answer_form::AnswerForm;
+use command_line::start::Start;
+use identification::Formats;
+use identity_text::{Identity, identify_file};
 use pickle_types::table::{Table, TypeId};
-use poke_batch::ask::Ask;
 use poke_batch::each::{Kept, map_file, run_file};
 use poke_batch::fault_form::FaultForm;
 use poke_batch::file_line::{put_file_line, put_name};
@@ -32,17 +35,50 @@ use spool::Window;
 use std::alloc::Global;
 use std::io::Write;
 
+/// What is done with each of many files.
+#[derive(Clone, Copy)]
+pub struct Task<'a> {
+    pub alloc: Global,
+    /// Where it starts in the file.
+    pub start: Start,
+    /// After how many bytes from there the file ends. `None` is its own end.
+    pub window: Option<u64>,
+    /// The most bytes of a file without a length that are read into memory. `None` opens no such file.
+    pub spool: Option<u64>,
+    pub form: FileForm,
+    /// Whether reasons are requested.
+    pub explains: bool,
+    /// Whether what is written of the file is written before the next one is opened.
+    pub flush: bool,
+    pub work: Work<'a>,
+}
+
+/// The work of a task.
+#[derive(Clone, Copy)]
+pub enum Work<'a> {
+    /// To map a type.
+    Map(Typed<'a>),
+    /// To find the format.
+    Identify(Identity<'a>),
+}
+
 /// A mapping and the type that it has in its pickle: what the run of every file uses.
 #[derive(Clone, Copy)]
 pub struct Typed<'a> {
-    pub alloc: Global,
     pub mapping: Mapping<'a>,
     pub pickle: &'a NamedPickle,
     pub table: &'a Table,
     pub id: TypeId,
-    pub form: FileForm,
-    /// Whether reasons are requested.
-    pub explains: bool,
+}
+
+/// What is stored from file to file. `Memory` is returned if an allocation fails.
+pub fn kept_for(task: Task<'_>) -> Result<Kept, Memory>
+    ensures { IfOk result (IsReadyFor task.entry.work) }
+{
+    match task.work {
+        Work::Map(typed) => Kept::new(task.alloc, typed.mapping.terms.most_slots),
+        Work::Identify(_) => Kept::new(task.alloc, None),
+    }
 }
 
 /// How the run of a file is written.
@@ -64,31 +100,41 @@ impl FileForm {
             _ => FileForm::Line(faults),
         }
     }
+
+    /// The form that an answer has.
+    pub fn of_answer(form: AnswerForm, faults: FaultForm) -> FileForm
+        ensures { result ≡ answer_form form faults }
+    {
+        match form {
+            AnswerForm::Json => FileForm::Object,
+            AnswerForm::Text => FileForm::Line(faults),
+        }
+    }
 }
 
-/// Maps a type over a file, and writes its line. A file that can't be opened has a line too.
+/// Does a task over a file, and writes its line. A file that can't be opened has a line too.
 pub fn run_name<P: Opener, A: Aside, O: Write>(
     opener: &P,
-    typed: Typed<'_>,
+    task: Task<'_>,
     kept: &mut Kept,
     name: &[u8],
     aside: &mut A,
     out: &mut O,
 ) -> Result<Status, WriteFault>
-    requires typed { IsTyped typed }
-    requires ready { IsReady (nodes_of typed.table.now) typed.mapping.terms.now.most_slots kept.old }
-    ensures ready { IsReady (nodes_of typed.entry.table.now) typed.entry.mapping.terms.now.most_slots kept.new }
+    requires set { IsSet task.work }
+    requires ready { IsReadyFor task.work kept.old }
+    ensures ready { IsReadyFor task.entry.work kept.new }
     ensures ok { IfOk result
-        (AppendsFile (P.gives opener.now) (every_of typed.entry) name.now (O.contents out.old) (O.contents out.new)) }
+        (AppendsFile (P.gives opener.now) (every_of task.entry) name.now (O.contents out.old) (O.contents out.new)) }
     ensures err { OnErr result
-        (CutsFile (P.gives opener.now) (every_of typed.entry) name.now (O.contents out.old) (O.contents out.new)) }
+        (CutsFile (P.gives opener.now) (every_of task.entry) name.now (O.contents out.old) (O.contents out.new)) }
 {
     aside.show();
-    let status = match open_named(opener, typed, name) {
-        Ok(bytes) => run_opened(opener, typed, kept, name, bytes, aside, out)?,
-        Err(fault) => run_unopened(opener, typed, name, fault, aside, out)?,
+    let status = match open_named(opener, task.spool, name) {
+        Ok(bytes) => run_opened(opener, task, kept, name, bytes, aside, out)?,
+        Err(fault) => run_unopened(opener, task, name, fault, aside, out)?,
     };
-    if typed.mapping.flush {
+    if task.flush {
         aside.clear();
         flush(out)?;
     }
@@ -97,45 +143,126 @@ pub fn run_name<P: Opener, A: Aside, O: Write>(
 }
 
 // Opens the file of a name.
-fn open_named<P: Opener>(opener: &P, typed: Typed<'_>, name: &[u8]) -> Result<P::Bytes, FileFault>
-    ensures ok { IfOk result
-        (λ bytes. (P.gives opener.now).is_file name.now typed.entry.mapping.spool (P.Bytes.view bytes)) }
-    ensures err { IfErr result (FailsNamed (P.gives opener.now) name.now typed.entry.mapping.spool) }
+fn open_named<P: Opener>(opener: &P, spool: Option<u64>, name: &[u8]) -> Result<P::Bytes, FileFault>
+    ensures ok { IfOk result (λ bytes. (P.gives opener.now).is_file name.now spool (P.Bytes.view bytes)) }
+    ensures err { IfErr result (FailsNamed (P.gives opener.now) name.now spool) }
 {
     match str::from_utf8(name) {
-        Ok(path) => opener.open(path, typed.mapping.spool, false),
+        Ok(path) => opener.open(path, spool, false),
         Err(_) => Err(OpenFault::NotOpened.into()),
     }
 }
 
-// Maps a type over a file that was opened, as far as the mapping sees it, and writes the run in its form.
+// Does a task over a file that was opened, as far as the task sees it, and writes the run in its form.
 fn run_opened<P: Opener, A: Aside, O: Write>(
     opener: &P,
-    typed: Typed<'_>,
+    task: Task<'_>,
     kept: &mut Kept,
     name: &[u8],
     bytes: P::Bytes,
     aside: &mut A,
     out: &mut O,
 ) -> Result<Status, WriteFault>
-    requires typed { IsTyped typed }
-    requires ready { IsReady (nodes_of typed.table.now) typed.mapping.terms.now.most_slots kept.old }
-    requires opened { (P.gives opener.now).is_file name.now typed.mapping.spool (P.Bytes.view bytes) }
-    ensures ready { IsReady (nodes_of typed.entry.table.now) typed.entry.mapping.terms.now.most_slots kept.new }
+    requires set { IsSet task.work }
+    requires ready { IsReadyFor task.work kept.old }
+    requires opened { (P.gives opener.now).is_file name.now task.spool (P.Bytes.view bytes) }
+    ensures ready { IsReadyFor task.entry.work kept.new }
     ensures ok { IfOk result
-        (AppendsFile (P.gives opener.now) (every_of typed.entry) name.now (O.contents out.old) (O.contents out.new)) }
+        (AppendsFile (P.gives opener.now) (every_of task.entry) name.now (O.contents out.old) (O.contents out.new)) }
     ensures err { OnErr result
-        (CutsFile (P.gives opener.now) (every_of typed.entry) name.now (O.contents out.old) (O.contents out.new)) }
+        (CutsFile (P.gives opener.now) (every_of task.entry) name.now (O.contents out.old) (O.contents out.new)) }
 {
-    let Some(ask) = typed.mapping.ask_in(&bytes) else {
-        return put_unmapped(typed.form, name, Outcome::Offset, b"", out);
+    let Some(start) = task.start.bit_in(&bytes) else {
+        return put_run(task.form, name, Outcome::Offset, b"", b"", out);
     };
-    let window = Window::from_start(bytes, ask.start, typed.mapping.window);
-    let Ok(mut space) = Paged::new(typed.alloc, window) else {
+    let window = Window::from_start(bytes, start, task.window);
+    let Ok(mut space) = Paged::new(task.alloc, window) else {
         let outcome = Outcome::Failed(Failure::Memory);
-        return put_unmapped(typed.form, name, outcome, b"", out);
+        return put_run(task.form, name, outcome, b"", b"", out);
     };
-    run_space(typed, &ask, kept, name, &mut space, aside, out)
+    run_space(task, start, kept, name, &mut space, aside, out)
+}
+
+// Does a task over what is seen of an open file, and writes the run in its form.
+fn run_space<S: Space, A: Aside, O: Write>(
+    task: Task<'_>,
+    start: u64,
+    kept: &mut Kept,
+    name: &[u8],
+    space: &mut S,
+    aside: &mut A,
+    out: &mut O,
+) -> Result<Status, WriteFault>
+    requires set { IsSet task.work }
+    requires ready { IsReadyFor task.work kept.old }
+    ensures ready { IsReadyFor task.entry.work kept.new }
+    ensures ok { let risen = HasRisen (S.view space.old).failures (S.view space.new).failures in IfOk result
+        (AppendsRun (runs_of task.entry.work start (S.view space.old) risen) (every_of task.entry) name.now
+        (O.contents out.old) (O.contents out.new)) }
+    ensures err { let risen = HasRisen (S.view space.old).failures (S.view space.new).failures in OnErr result
+        (CutsRun (runs_of task.entry.work start (S.view space.old) risen) (every_of task.entry) name.now
+        (O.contents out.old) (O.contents out.new)) }
+    ensures keeps { SpaceKeeps (S.view space.old) (S.view space.new) }
+{
+    match task.work {
+        Work::Map(typed) => map_space(task, typed, start, kept, name, space, aside, out),
+        Work::Identify(identity) => {
+            identify_space(task, identity, start, name, space, aside, out)
+        }
+    }
+}
+
+// Finds the format of what is seen of an open file, and writes it in its form.
+fn identify_space<S: Space, A: Aside, O: Write>(
+    task: Task<'_>,
+    identity: Identity<'_>,
+    start: u64,
+    name: &[u8],
+    space: &mut S,
+    aside: &mut A,
+    out: &mut O,
+) -> Result<Status, WriteFault>
+    ensures ok { let risen = HasRisen (S.view space.old).failures (S.view space.new).failures in IfOk result
+        (AppendsRun (IdentifiesFrom identity.entry.formats.now identity.entry.all identity.entry.form start
+        (S.view space.old) risen) (every_of task.entry) name.now (O.contents out.old) (O.contents out.new)) }
+    ensures err { let risen = HasRisen (S.view space.old).failures (S.view space.new).failures in OnErr result
+        (CutsRun (IdentifiesFrom identity.entry.formats.now identity.entry.all identity.entry.form start
+        (S.view space.old) risen) (every_of task.entry) name.now (O.contents out.old) (O.contents out.new)) }
+    ensures keeps { SpaceKeeps (S.view space.old) (S.view space.new) }
+{
+    let mut text = Vec::new(task.alloc);
+    let mut unfinished = Vec::new(task.alloc);
+    let outcome = identify_file(
+        task.alloc,
+        identity,
+        start,
+        space,
+        &mut text,
+        &mut unfinished,
+    );
+    let status = put_run(task.form, name, outcome, &text, b"", out)?;
+    let lines = unfinished_lines(task.alloc, identity.formats, &unfinished);
+    tell_lines(task.alloc, name, &lines, aside, out)?;
+    Ok(status)
+}
+
+// The lines that name the formats at some places, whose attempts took too long. If an allocation fails there are none.
+fn unfinished_lines(alloc: Global, formats: &Formats, unfinished: &[usize]) -> Vec<u8> {
+    let mut lines = Vec::new(alloc);
+    for place in unfinished {
+        if let Some(format) = formats.list.get(*place) {
+            if put_unfinished(&mut lines, &format.name).is_err() {
+                return Vec::new(alloc);
+            }
+        }
+    }
+    lines
+}
+
+fn put_unfinished(lines: &mut Vec<u8>, format: &[u8]) -> Result<(), WriteFault> {
+    put(lines, b"  trying ")?;
+    put_name(lines, format)?;
+    put(lines, b" took more than 1000000000 steps\n")
 }
 
 /// Writes what waits to be written.
@@ -148,23 +275,24 @@ pub fn flush<O: Write>(out: &mut O) -> Result<(), WriteFault>
     }
 }
 
-// Writes the outcome of a file that wasn't mapped, with the lines that explain it, and returns its exit status.
-fn put_unmapped<O: Write>(
+// Writes the outcome of a file with its text, and with the lines that explain it, and returns its exit status.
+fn put_run<O: Write>(
     form: FileForm,
     name: &[u8],
     outcome: Outcome,
+    text: &[u8],
     lines: &[u8],
     out: &mut O,
 ) -> Result<Status, WriteFault>
     ensures status { IfOk result (λ status. status ≡ outcome_status outcome) }
-    ensures ok { OnOk result
-        (Appends (O.contents out.old) (O.contents out.new) (unmapped_text form name.now outcome lines.now)) }
-    ensures err { OnErr result
-        (AppendsPart (O.contents out.old) (O.contents out.new) (unmapped_text form name.now outcome lines.now)) }
+    ensures ok { OnOk result (Appends (O.contents out.old) (O.contents out.new)
+        (run_text form name.now outcome text.now lines.now)) }
+    ensures err { OnErr result (AppendsPart (O.contents out.old) (O.contents out.new)
+        (run_text form name.now outcome text.now lines.now)) }
 {
     match form {
-        FileForm::Line(faults) => put_file_line(out, name, outcome, faults, b"")?,
-        FileForm::Object => put_file_object(out, name, outcome, b"", lines)?,
+        FileForm::Line(faults) => put_file_line(out, name, outcome, faults, text)?,
+        FileForm::Object => put_file_object(out, name, outcome, text, lines)?,
     }
     Ok(outcome.status())
 }
@@ -172,33 +300,33 @@ fn put_unmapped<O: Write>(
 // Writes the outcome of a file that wasn't opened and, if it is requested, why it wasn't.
 fn run_unopened<P: Opener, A: Aside, O: Write>(
     opener: &P,
-    typed: Typed<'_>,
+    task: Task<'_>,
     name: &[u8],
     fault: FileFault,
     aside: &mut A,
     out: &mut O,
 ) -> Result<Status, WriteFault>
-    requires fails { FailsNamed (P.gives opener.now) name.now typed.mapping.spool fault }
+    requires fails { FailsNamed (P.gives opener.now) name.now task.spool fault }
     ensures ok { IfOk result
-        (AppendsFile (P.gives opener.now) (every_of typed.entry) name.now (O.contents out.old) (O.contents out.new)) }
+        (AppendsFile (P.gives opener.now) (every_of task.entry) name.now (O.contents out.old) (O.contents out.new)) }
     ensures err { OnErr result
-        (CutsFile (P.gives opener.now) (every_of typed.entry) name.now (O.contents out.old) (O.contents out.new)) }
+        (CutsFile (P.gives opener.now) (every_of task.entry) name.now (O.contents out.old) (O.contents out.new)) }
 {
-    let lines = unopened_lines(opener, typed, name, fault);
+    let lines = unopened_lines(opener, task, name, fault);
     let outcome = Outcome::Failed(fault.failure());
-    let status = put_unmapped(typed.form, name, outcome, &lines, out)?;
-    tell_reasons(typed, name, &lines, aside, out)?;
+    let status = put_run(task.form, name, outcome, b"", &lines, out)?;
+    tell_reasons(task, name, &lines, aside, out)?;
     Ok(status)
 }
 
 // The line that says why a file wasn't opened, if that is requested. If an allocation fails there is none.
-fn unopened_lines<P: Opener>(opener: &P, typed: Typed<'_>, name: &[u8], fault: FileFault) -> Vec<u8>
-    ensures quiet { typed.entry.explains ≡ false → result.items ≡ [] }
+fn unopened_lines<P: Opener>(opener: &P, task: Task<'_>, name: &[u8], fault: FileFault) -> Vec<u8>
+    ensures quiet { task.entry.explains ≡ false → result.items ≡ [] }
 {
-    let mut lines = Vec::new(typed.alloc);
-    if typed.explains && fault == FileFault::Space(OpenFault::NotOpened) {
+    let mut lines = Vec::new(task.alloc);
+    if task.explains && fault == FileFault::Space(OpenFault::NotOpened) {
         let reason = match str::from_utf8(name) {
-            Ok(path) => opener.reason(path, Lengthless::with_spool(typed.mapping.spool)),
+            Ok(path) => opener.reason(path, Lengthless::with_spool(task.spool)),
             Err(_) => "the name isn't UTF-8",
         };
         if put_line(&mut lines, reason).is_err() {
@@ -215,9 +343,10 @@ fn put_line(lines: &mut Vec<u8>, reason: &str) -> Result<(), WriteFault> {
 }
 
 // Maps a type over what is seen of an open file, and writes the run in its form.
-fn run_space<S: Space, A: Aside, O: Write>(
+fn map_space<S: Space, A: Aside, O: Write>(
+    task: Task<'_>,
     typed: Typed<'_>,
-    ask: &Ask<'_>,
+    start: u64,
     kept: &mut Kept,
     name: &[u8],
     space: &mut S,
@@ -226,33 +355,33 @@ fn run_space<S: Space, A: Aside, O: Write>(
 ) -> Result<Status, WriteFault>
     requires typed { IsTyped typed }
     requires ready { IsReady (nodes_of typed.table.now) typed.mapping.terms.now.most_slots kept.old }
-    requires asked { ask.now.name.now ≡ typed.mapping.name.now }
     ensures ready { IsReady (nodes_of typed.entry.table.now) typed.entry.mapping.terms.now.most_slots kept.new }
     ensures ok { let risen = HasRisen (S.view space.old).failures (S.view space.new).failures in IfOk result
-        (AppendsOver ask.now (S.view space.old) risen (every_of typed.entry) name.now (O.contents out.old)
-        (O.contents out.new)) }
+        (AppendsRun (MapsFrom (mapped_of typed.entry) start (S.view space.old) risen) (every_of task.entry) name.now
+        (O.contents out.old) (O.contents out.new)) }
     ensures err { let risen = HasRisen (S.view space.old).failures (S.view space.new).failures in OnErr result
-        (CutsOver ask.now (S.view space.old) risen (every_of typed.entry) name.now (O.contents out.old)
-        (O.contents out.new)) }
+        (CutsRun (MapsFrom (mapped_of typed.entry) start (S.view space.old) risen) (every_of task.entry) name.now
+        (O.contents out.old) (O.contents out.new)) }
     ensures keeps { SpaceKeeps (S.view space.old) (S.view space.new) }
 {
+    let ask = &typed.mapping.ask_at(start);
     let run = TypeRun {
-        alloc: typed.alloc,
+        alloc: task.alloc,
         table: typed.table,
         id: typed.id,
         ask,
         terms: typed.mapping.terms,
     };
-    match typed.form {
+    match task.form {
         FileForm::Line(faults) => {
             let status = run_file(&run, faults, kept, name, space, out)?;
-            let lines = reason_lines(typed, &run, kept.outcome(), space);
-            tell_reasons(typed, name, &lines, aside, out)?;
+            let lines = reason_lines(task, typed.pickle, &run, kept.outcome(), space);
+            tell_reasons(task, name, &lines, aside, out)?;
             Ok(status)
         }
         FileForm::Object => {
             map_file(&run, kept, space);
-            let lines = reason_lines(typed, &run, kept.outcome(), space);
+            let lines = reason_lines(task, typed.pickle, &run, kept.outcome(), space);
             kept.put_object(out, name, &lines)
         }
     }
@@ -261,26 +390,27 @@ fn run_space<S: Space, A: Aside, O: Write>(
 // The lines that explain how the run of a file ended, if they are requested and the file was mapped. If an allocation
 // fails there are none.
 fn reason_lines<S: Space>(
-    typed: Typed<'_>,
+    task: Task<'_>,
+    pickle: &NamedPickle,
     run: &TypeRun<'_>,
     outcome: Outcome,
     space: &mut S,
 ) -> Vec<u8>
-    ensures quiet { typed.entry.explains ≡ false → result.items ≡ [] }
+    ensures quiet { task.entry.explains ≡ false → result.items ≡ [] }
     ensures keeps { SpaceKeeps (S.view space.old) (S.view space.new) }
 {
-    if !typed.explains || !is_mapped(outcome.status()) {
-        return Vec::new(typed.alloc);
+    if !task.explains || !is_mapped(outcome.status()) {
+        return Vec::new(task.alloc);
     }
-    match reasons_of(run, typed.pickle, outcome, space) {
+    match reasons_of(run, pickle, outcome, space) {
         Ok(reasons) => reasons.text,
-        Err(_) => Vec::new(typed.alloc),
+        Err(_) => Vec::new(task.alloc),
     }
 }
 
-// Writes the reasons of a file aside, after its name and after what `out` has of it. Those of an object are in it.
+// Writes the reasons of a file aside. Those of an object are in it.
 fn tell_reasons<A: Aside, O: Write>(
-    typed: Typed<'_>,
+    task: Task<'_>,
     name: &[u8],
     lines: &[u8],
     aside: &mut A,
@@ -288,13 +418,29 @@ fn tell_reasons<A: Aside, O: Write>(
 ) -> Result<(), WriteFault>
     ensures { Keeps (O.contents out.old) (O.contents out.new) }
 {
-    if lines.is_empty() || matches!(typed.form, FileForm::Object) {
+    match task.form {
+        FileForm::Line(_) => tell_lines(task.alloc, name, lines, aside, out),
+        FileForm::Object => Ok(()),
+    }
+}
+
+// Writes lines about a file aside, after its name and after what `out` has of it.
+fn tell_lines<A: Aside, O: Write>(
+    alloc: Global,
+    name: &[u8],
+    lines: &[u8],
+    aside: &mut A,
+    out: &mut O,
+) -> Result<(), WriteFault>
+    ensures { Keeps (O.contents out.old) (O.contents out.new) }
+{
+    if lines.is_empty() {
         return Ok(());
     }
     aside.clear();
     flush(out)?;
     // The file's exit status is that of its line, even if its reasons can't be written.
-    let mut text = Vec::new(typed.alloc);
+    let mut text = Vec::new(alloc);
     if gather_reasons(&mut text, name, lines).is_ok() {
         aside.tell(&text);
     }

@@ -57,8 +57,8 @@ pub fn map_file<P: Opener, O: Write>(
     Ok(Ending::Run(outcome))
 }
 
-// Maps a type of a pickle over a space and, if reasons are requested, explains how the run ended.
-fn map_space<S: Space, O: Write>(
+/// Maps a type of a pickle over a space and, if reasons are requested, explains how the run ended.
+pub fn map_space<S: Space, O: Write>(
     alloc: Global,
     pickle: &NamedPickle,
     ask: &Ask<'_>,
@@ -155,17 +155,17 @@ fn tell_arguments(path: &str, order: Order, pickle: &NamedPickle, why: &mut Why<
     }
 }
 
-// Adds a line to the reasons. If an allocation fails it is left out.
-fn tell(text: &mut Vec<u8>, line: &[u8]) {
+/// Adds a line to the reasons. If an allocation fails it is left out.
+pub fn tell(text: &mut Vec<u8>, line: &[u8]) {
     let told = text.len();
     if text.extend_from_slice(line).is_err() {
         text.truncate(told);
     }
 }
 
-// Explains that a file has fewer bytes than a start is before its end, if that is requested. If an allocation fails
-// there is only the line of the refusal.
-fn tell_start(alloc: Global, why: &mut Why<'_>, start: Start, bytes: u64) {
+/// Explains that a file has fewer bytes than a start is before its end, if that is requested. If an allocation fails
+/// there is only the line of the refusal.
+pub fn tell_start(alloc: Global, why: &mut Why<'_>, start: Start, bytes: u64) {
     let Start::BytesFromEnd(back) = start else {
         return;
     };

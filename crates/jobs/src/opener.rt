@@ -1,12 +1,14 @@
 //! Where the pickles and files of jobs come from.
 
-ghost use Rattle.std.specs.Prelude.{◌≡◌, ℕ, List, Option, IfOk, IfErr, IfSome};
+ghost use Rattle.std.specs.Prelude.{◌≡◌, ℕ, List, Option, IfOk, IfErr, IfSome, map, option_map};
 ghost use Rattle.bit_space.specs.SpaceView.{HasRisen, Keeps};
 ghost use Rattle.jobs.specs.Gives.{Gives};
+ghost use Rattle.jobs.specs.Installed.{installed_pickle};
 ghost use Rattle.jobs.specs.Opened.{lengthless_with};
 ghost use Rattle.spool.specs.Window.{cut_at};
 
 use crate::fault::FileFault;
+use crate::installed::Installed;
 use bit_space::Space;
 use std::alloc::AllocError;
 use std::io::Read;
@@ -70,6 +72,12 @@ pub trait Opener {
     /// Opens the list of names at a path; `None` if it can't be opened.
     fn open_list(&self, path: &str) -> Option<Self::List>
         ensures { IfSome result (λ list. (gives self.now).is_list path.now (Self.List.remaining list)) };
+
+    /// Reads the pickles that are installed in a folder, in the order of their names. `None` is the folder of `+NAME`.
+    fn read_installed(&self, folder: Option<&str>) -> Result<Vec<Installed>, FileFault>
+        ensures ok { IfOk result (λ list. (gives self.now).is_installed (option_map (λ path. path.now) folder.entry)
+            (map installed_pickle list.items)) }
+        ensures err { IfErr result ((gives self.now).is_uninstalled (option_map (λ path. path.now) folder.entry)) };
 
     /// Why the file at a path isn't opened, in words.
     fn reason(&self, path: &str, lengthless: Lengthless) -> &'static str;

@@ -87,7 +87,8 @@ pub fn question_of(asked: &Asked) -> Option<(&str, Question<'_>)>
             };
             Some((pickle, Question::BoundText { name, texts }))
         }
-        Job::Map { .. } | Job::Request(_) | Job::Dump { .. } | Job::Formats => None,
+        Job::Map { .. } | Job::Request(_) | Job::Identify(_) | Job::Dump { .. } | Job::Formats =>
+            None,
     }
 }
 

@@ -2,8 +2,8 @@
 ghost use Rattle.std.specs.Prelude.{◌≡◌, ◌≢◌};
 ghost use Rattle.jobs.specs.Aims.{of_mapping};
 ghost use Rattle.jobs.specs.Due.{DueOver, Holds};
-ghost use Rattle.jobs.specs.Given.{DueSettled, IsOverFiles, done};
-ghost use Rattle.jobs.specs.Jobs.{DueFile, DueMapping, DueRequest, HoldsAtEnd};
+ghost use Rattle.jobs.specs.Given.{DueSettled, IsOverFiles};
+ghost use Rattle.jobs.specs.Jobs.{DueFile, DueMapping, DueRequest, HoldsJob};
 
 use crate::aside::Aside;
 use crate::by_head::{Chosen, choose, first_order};
@@ -11,6 +11,9 @@ use crate::dumps::{Range, dump_file};
 use crate::each::map_each;
 use crate::ending::Ending;
 use crate::fault::FileFault;
+use crate::formats::list_formats;
+use crate::identified::show_identified;
+use crate::identify::identify_each;
 use crate::one_file::map_file;
 use crate::opener::{NamedPickle, Opener};
 use crate::pickles::{answer_about, question_of};
@@ -18,15 +21,16 @@ use crate::settings::{Mapping, settle_terms};
 use crate::usage::refuse;
 use crate::why::Why;
 use command_line::request::{Over, Request};
+use command_line::subject::Subject;
 use poke_batch::terms::Terms;
 use poke_batch::words::{Asked, Job};
 use std::alloc::Global;
 use std::io::Write;
 
 /// Does a job, and returns how it ended. What it prints is written to `out`; the line of its ending, [`Ending::tell`], is
-/// the caller's to write. `None` is returned for the list of formats, which isn't read by an opener. Reasons go to `why`, if
-/// they are requested, and those of one file among many to `aside`. The usage error for a type that the head of the
-/// pickle doesn't say is a reason that needs no request. A request gets the terms that the head says.
+/// the caller's to write. Reasons go to `why`, if they are requested, and those of one file among many to `aside`. A usage
+/// error, for a type that the head of the pickle doesn't say or for an installed pickle that is no format, is a reason that
+/// needs no request. A request gets the terms that the head says.
 ///
 /// A [`FileFault`] is returned if the pickle or the file can't be opened or read, or if a read fails in a dump.
 pub fn run_job<P: Opener, O: Write, A: Aside>(
@@ -36,12 +40,12 @@ pub fn run_job<P: Opener, O: Write, A: Aside>(
     out: &mut O,
     aside: &mut A,
     why: &mut Why<'_>,
-) -> Result<Option<Ending>, FileFault>
-    ensures { HoldsAtEnd (P.gives opener.now) why.old.asked asked.old
+) -> Result<Ending, FileFault>
+    ensures { HoldsJob (P.gives opener.now) why.old.asked asked.old.job asked.old.answer
         (O.contents out.old) (O.contents out.new) result }
 {
     match question_of(asked) {
-        Some((word, question)) => done(answer_about(alloc, opener, word, question, out, why)),
+        Some((word, question)) => answer_about(alloc, opener, word, question, out, why),
         None => run_over_files(alloc, opener, asked, out, aside, why),
     }
 }
@@ -54,28 +58,29 @@ fn run_over_files<P: Opener, O: Write, A: Aside>(
     out: &mut O,
     aside: &mut A,
     why: &mut Why<'_>,
-) -> Result<Option<Ending>, FileFault>
+) -> Result<Ending, FileFault>
     requires over { IsOverFiles asked.old.job }
-    ensures { HoldsAtEnd (P.gives opener.now) why.old.asked asked.old
+    ensures { HoldsJob (P.gives opener.now) why.old.asked asked.old.job asked.old.answer
         (O.contents out.old) (O.contents out.new) result }
 {
     match &mut asked.job {
-        Job::Request(request) => done(run_request(alloc, opener, request, out, aside, why)),
-        _ => run_plain(alloc, opener, asked, out, why),
+        Job::Request(request) => run_request(alloc, opener, request, out, aside, why),
+        _ => run_plain(alloc, opener, asked, out, aside, why),
     }
 }
 
 // Does a job over a file that isn't a request.
-fn run_plain<P: Opener, O: Write>(
+fn run_plain<P: Opener, O: Write, A: Aside>(
     alloc: Global,
     opener: &P,
     asked: &Asked,
     out: &mut O,
+    aside: &mut A,
     why: &mut Why<'_>,
-) -> Result<Option<Ending>, FileFault>
+) -> Result<Ending, FileFault>
     requires over { IsOverFiles asked.now.job }
     requires plain { (request : Request) → asked.now.job ≢ Job.Request request }
-    ensures { HoldsAtEnd (P.gives opener.now) why.old.asked asked.now
+    ensures { HoldsJob (P.gives opener.now) why.old.asked asked.now.job asked.now.answer
         (O.contents out.old) (O.contents out.new) result }
 {
     match &asked.job {
@@ -90,7 +95,7 @@ fn run_plain<P: Opener, O: Write>(
         } => {
             let terms = &Terms::none();
             let mapping = Mapping::from_bit(name, *at, *order, *limit, *mode, terms);
-            done(map_plain(alloc, opener, mapping, pickle, file, out, why))
+            map_plain(alloc, opener, mapping, pickle, file, out, why)
         }
         Job::Dump {
             from,
@@ -104,19 +109,14 @@ fn run_plain<P: Opener, O: Write>(
                 ruler: *ruler,
                 tells_rest: asked.default_size,
             };
-            done(dump_file(alloc, opener, file, range, out, why.text))
+            dump_file(alloc, opener, file, range, out, why.text)
         }
-        _ => Ok(None),
-    }
-}
-
-// How a job ended that isn't the list of formats.
-fn done(ended: Result<Ending, FileFault>) -> Result<Option<Ending>, FileFault>
-    ensures { result ≡ done ended }
-{
-    match ended {
-        Ok(ending) => Ok(Some(ending)),
-        Err(fault) => Err(fault),
+        Job::Identify(files) => {
+            let form = asked.answer;
+            identify_each(alloc, opener, files, form, out, aside, why)
+        }
+        // (the list of formats is all that is left)
+        _ => list_formats(opener, asked.answer, out),
     }
 }
 
@@ -149,14 +149,22 @@ fn run_request<P: Opener, O: Write, A: Aside>(
     ensures { Holds (DueRequest (P.gives opener.now) why.old.asked request.old)
         (O.contents out.old) (O.contents out.new) result }
 {
-    let pickle = opener.read_pickle(request.subject.pickle())?;
+    let Some(word) = request.subject.pickle() else {
+        return show_identified(alloc, opener, request, out, why);
+    };
+    let pickle = opener.read_pickle(word)?;
     match choose(&request.subject, &pickle.bytes) {
         Ok(Chosen { whole, .. }) => {
             settle_terms(&mut request.terms, request.form, whole);
             run_settled(alloc, opener, request, &pickle, out, aside, why)
         }
-        Err(missing) => Ok(refuse(why, request.subject.pickle(), missing)),
+        Err(missing) => Ok(refuse(why, word_of(&request.subject), missing)),
     }
+}
+
+// The argument that names the pickle of a subject.
+fn word_of(subject: &Subject) -> &str {
+    subject.pickle().unwrap_or("")
 }
 
 // Maps the type of a request whose terms are settled.
@@ -187,7 +195,7 @@ fn run_settled<P: Opener, O: Write, A: Aside>(
                 why,
             )
         }
-        Err(missing) => Ok(refuse(why, request.subject.pickle(), missing)),
+        Err(missing) => Ok(refuse(why, word_of(&request.subject), missing)),
     }
 }
 

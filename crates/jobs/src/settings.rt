@@ -1,7 +1,7 @@
 //! What a job requests of a mapping.
 ghost use Rattle.std.specs.Prelude.{◌≡◌, None, false, IfNone, IfSome};
 ghost use Rattle.command_line.specs.Starts.{start_bit};
-ghost use Rattle.jobs.specs.Aims.{IsAskOf, aim_of, dims, look_of, of_mapping, of_type, plain_request, settled_terms};
+ghost use Rattle.jobs.specs.Aims.{IsAskAt, IsAskOf, aim_of, dims, look_of, of_mapping, of_type, plain_request, settled_terms};
 
 use bit_space::{Order, Space};
 use command_line::color::Color;
@@ -95,13 +95,20 @@ impl<'a> Mapping<'a> {
         ensures some { IfSome result (IsAskOf (aim_of self.now) (S.view space.now).len) }
         ensures none { IfNone result (start_bit self.now.start (S.view space.now).len ≡ None) }
     {
-        Some(Ask {
+        Some(self.ask_at(self.start.bit_in(space)?))
+    }
+
+    /// What it is given from a bit on.
+    pub fn ask_at(&self, start: u64) -> Ask<'a>
+        ensures { IsAskAt (aim_of self.now) start result }
+    {
+        Ask {
             name: self.name,
-            start: self.start.bit_in(space)?,
+            start,
             order: self.order,
             limit: self.limit,
             mode: self.mode,
-        })
+        }
     }
 }
 

@@ -2,7 +2,7 @@ use Rattle.std.proofs.Common.{Ok, subst, sym}
 use Rattle.std.proofs.KnownBytes.{Keeps-refl}
 use Rattle.jobs.specs.Aims.{aim_of, of_mapping}
 use Rattle.jobs.specs.Due.{Holds}
-use Rattle.jobs.specs.Given.{files_ending}
+use Rattle.jobs.specs.Files.{MapsFrom}
 use Rattle.jobs.specs.Jobs.{DueNamed, every_for, files_due, no_run_due}
 use Rattle.jobs.specs.declared.ending.Ending.TheVariants.{Run}
 use Rattle.jobs.specs.declared.file_run.FileForm.{FileForm}
@@ -28,18 +28,16 @@ returns g c =
     let mapping = c.args.mapping in
     let pickle = c.args.pickle.now.bytes.items in
     let Written : FileForm → Type 0 = λ form. Holds (DueNamed gives (record {
-      pickle = pickle;
-      aim = aim_of mapping;
+      start = mapping.start;
       window = mapping.window;
-      terms = mapping.terms.now;
       spool = mapping.spool;
       form = form;
       why = c.args.why.now.asked;
-    }) c.args.names.now) (g.O.Write.contents c.args.out.now) (g.O.Write.contents c.run_files-written.new.out)
-    (Ok (files_ending c.run_files-written.result)) in
-    rw c.files_ending.ensures
-    (holds_more (DueNamed gives (every_for c.args.why.now.asked (of_mapping mapping) pickle) c.args.names.now) _
-    (Ok (files_ending c.run_files-written.result)) _ _
+      runs = MapsFrom (record { pickle = pickle; aim = aim_of mapping; terms = mapping.terms.now });
+    }) c.args.names.now) (g.O.Write.contents c.args.out.now) (g.O.Write.contents c.run_files.new.out)
+    (Ok c.run_files.result) in
+    holds_more (DueNamed gives (every_for c.args.why.now.asked (of_mapping mapping) pickle) c.args.names.now) _
+    (Ok c.run_files.result) _ _
     (λ lines end due. files_due (rw (sym c.deref.ensures.value) c.in-Ok.ensures.asked)
     (if_not_some c.refuse_parts.result c.in_default.not-Some c.refuse_parts.ensures.none) due)
-    (subst Written c.of.ensures c.run_files-written.ensures))
+    (subst Written c.of.ensures c.run_files.ensures)

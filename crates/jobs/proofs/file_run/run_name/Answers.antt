@@ -4,13 +4,13 @@ use Rattle.jobs.specs.Every.{AppendsFile, every_of}
 use Rattle.jobs.specs.Files.{RunsFile}
 use Rattle.jobs.proofs.FilesWritten.{run_kept, run_unflushed}
 use Rattle.run_parts.proofs.Sayings.{on_err}
-use Rattle.jobs.proofs.file_run.run_name.Goals.{in-Ok+in_ok-status-in-Ok, in-Err+in_ok-status-in-Err, then-typed+in_ok-flush, else-typed}
+use Rattle.jobs.proofs.file_run.run_name.Goals.{in-Ok+in_ok-status-in-Ok, in-Err+in_ok-status-in-Err, then-task+in_ok-flush, else-task}
 use Rattle.jobs.proofs.file_run.run_name.Goals as goal
 
 pub returns-in_err-flush-clause-err : goal.returns-in_err-flush-clause-err
 returns-in_err-flush-clause-err g c =
     let gives = g.P.Opener.gives c.args.opener.now in
-    let every = every_of c.args.typed in
+    let every = every_of c.args.task in
     let written : AppendsFile gives every c.args.name.now (g.O.Write.contents c.args.out.now)
     (g.O.Write.contents c.match-open_named.out) c.match-open_named.status =
     elim c.match-open_named.branch [
@@ -24,16 +24,16 @@ returns-in_err-flush-clause-err g c =
 pub returns-clause-ok : goal.returns-clause-ok
 returns-clause-ok g c =
     let gives = g.P.Opener.gives c.args.opener.now in
-    let every = every_of c.args.typed in
+    let every = every_of c.args.task in
     let written : AppendsFile gives every c.args.name.now (g.O.Write.contents c.args.out.now)
     (g.O.Write.contents c.match-open_named.out) c.match-open_named.status =
     elim c.match-open_named.branch [
       | in-Ok+in_ok-status-in-Ok w ↦ rw (w.status-is, w.out-is) w.in_ok-status-in-Ok.ensures.ok
       | in-Err+in_ok-status-in-Err w ↦ rw (w.status-is, w.out-is) w.in_ok-status-in-Err.ensures.ok
     ] in
-    let keeps : Keeps (g.O.Write.contents c.match-open_named.out) (g.O.Write.contents c.if-typed.out) =
-    elim c.if-typed.branch [
-      | then-typed+in_ok-flush w ↦ rw w.out-is w.flush.ensures
-      | else-typed w ↦ rw w.out-is (Keeps-refl _)
+    let keeps : Keeps (g.O.Write.contents c.match-open_named.out) (g.O.Write.contents c.if-task.out) =
+    elim c.if-task.branch [
+      | then-task+in_ok-flush w ↦ rw w.out-is w.flush.ensures
+      | else-task w ↦ rw w.out-is (Keeps-refl _)
     ] in
     run_kept (RunsFile gives every c.args.name.now) every c.args.name.now _ _ _ c.match-open_named.status written keeps

@@ -1,66 +1,48 @@
+use Rattle.std.proofs.Common.{IfOk, OnErr, subst, sym}
 use Rattle.bit_space.specs.SpaceView.{HasRisen}
-use Rattle.jobs.specs.Every.{every_of}
-use Rattle.jobs.proofs.FilesWritten.{line_cut, line_unflushed, line_written, object_cut, object_written}
-use Rattle.jobs.proofs.Mapped.{risen_more}
-use Rattle.run_parts.proofs.Sayings.{on_err}
+use Rattle.jobs.specs.Every.{every_of, runs_of}
+use Rattle.jobs.specs.Files.{AppendsRun, CutsRun}
+use Rattle.jobs.specs.declared.file_run.Work.{Work}
 use Rattle.jobs.proofs.file_run.run_space.Goals as goal
 
-pub returns-in_err-status-in-Line-clause-err : goal.returns-in_err-status-in-Line-clause-err
-returns-in_err-status-in-Line-clause-err g c =
-    let file = g.S.Space.view c.args.space.now in
-    let after = g.S.Space.view c.run_file.new.space in
-    let cut = c.in_err-status-in-Line.ensures.err _ (rw c.requires.asked c.requires.typed.asked) in
-    on_err c.from_residual.result
-    (line_cut (every_of c.args.typed) file after (HasRisen file.failures after.failures) c.args.ask.now
-    c.in-Line.faults c.args.name.now cut.0 _ _ c.in-Line.is (λ risen. risen) cut.1)
+pub returns-in-Map-clause-ready : goal.returns-in-Map-clause-ready
+returns-in-Map-clause-ready g c = rw c.in-Map.is c.map_space.ensures.ready
 
-pub returns-in_err-tell_reasons-in-Line-clause-err : goal.returns-in_err-tell_reasons-in-Line-clause-err
-returns-in_err-tell_reasons-in-Line-clause-err g c =
+pub returns-in-Map-clause-ok : goal.returns-in-Map-clause-ok
+returns-in-Map-clause-ok g c =
     let file = g.S.Space.view c.args.space.now in
-    let after = g.S.Space.view c.run_file.new.space in
-    let last = g.S.Space.view c.reason_lines-lines.new.space in
-    on_err c.from_residual-in_err-tell_reasons-in-Line.result
-    (line_unflushed (every_of c.args.typed) file after (HasRisen file.failures last.failures) c.args.ask.now
-    c.in-Line.faults c.args.name.now c.in_ok-status-in-Line.status _ _ _ c.in-Line.is
-    (λ risen. risen_more file.failures after.failures last.failures risen
-    c.reason_lines-lines.ensures.keeps.failures)
-    (c.in_ok-status-in-Line.ensures.ok _ (rw c.requires.asked c.requires.typed.asked))
-    c.in_err-tell_reasons-in-Line.ensures)
+    let after = g.S.Space.view c.map_space.new.space in
+    let Written : Work → Type 0 = λ work. IfOk c.map_space.result
+    (AppendsRun (runs_of work c.args.start file (HasRisen file.failures after.failures)) (every_of c.args.task)
+    c.args.name.now (g.O.Write.contents c.args.out.now) (g.O.Write.contents c.map_space.new.out)) in
+    subst Written (sym c.in-Map.is) c.map_space.ensures.ok
 
-pub returns-in_ok-tell_reasons-in-Line-clause-ok : goal.returns-in_ok-tell_reasons-in-Line-clause-ok
-returns-in_ok-tell_reasons-in-Line-clause-ok g c =
+pub returns-in-Map-clause-err : goal.returns-in-Map-clause-err
+returns-in-Map-clause-err g c =
     let file = g.S.Space.view c.args.space.now in
-    let after = g.S.Space.view c.run_file.new.space in
-    let last = g.S.Space.view c.reason_lines-lines.new.space in
-    line_written (every_of c.args.typed) file after (HasRisen file.failures last.failures) c.args.ask.now
-    c.in-Line.faults c.args.name.now c.in_ok-status-in-Line.status _ _ _ c.in-Line.is
-    (λ risen. risen_more file.failures after.failures last.failures risen
-    c.reason_lines-lines.ensures.keeps.failures)
-    (c.in_ok-status-in-Line.ensures.ok _ (rw c.requires.asked c.requires.typed.asked))
-    c.in_ok-tell_reasons-in-Line.ensures
+    let after = g.S.Space.view c.map_space.new.space in
+    let Cut : Work → Type 0 = λ work. OnErr c.map_space.result
+    (CutsRun (runs_of work c.args.start file (HasRisen file.failures after.failures)) (every_of c.args.task)
+    c.args.name.now (g.O.Write.contents c.args.out.now) (g.O.Write.contents c.map_space.new.out)) in
+    subst Cut (sym c.in-Map.is) c.map_space.ensures.err
 
-pub returns-in-Object-clause-ok : goal.returns-in-Object-clause-ok
-returns-in-Object-clause-ok g c =
-    let file = g.S.Space.view c.args.space.now in
-    let after = g.S.Space.view c.map_file.new.space in
-    let last = g.S.Space.view c.reason_lines-lines-in-Object.new.space in
-    object_written (every_of c.args.typed) file after (HasRisen file.failures last.failures) c.args.ask.now
-    c.args.name.now c.deref-in-Object.result.now c.map_file.new.kept c.put_object.result _ _
-    c.in-Object.is (λ e. rw c.deref-in-Object.ensures.value (c.reason_lines-lines-in-Object.ensures.quiet e))
-    (λ risen. risen_more file.failures after.failures last.failures risen
-    c.reason_lines-lines-in-Object.ensures.keeps.failures)
-    (c.map_file.ensures.holds _ (rw c.requires.asked c.requires.typed.asked))
-    c.put_object.ensures.status c.put_object.ensures.ok
+pub returns-in-Identify-clause-ready : goal.returns-in-Identify-clause-ready
+returns-in-Identify-clause-ready g c = rw c.in-Identify.is tt
 
-pub returns-in-Object-clause-err : goal.returns-in-Object-clause-err
-returns-in-Object-clause-err g c =
+pub returns-in-Identify-clause-ok : goal.returns-in-Identify-clause-ok
+returns-in-Identify-clause-ok g c =
     let file = g.S.Space.view c.args.space.now in
-    let after = g.S.Space.view c.map_file.new.space in
-    let last = g.S.Space.view c.reason_lines-lines-in-Object.new.space in
-    object_cut (every_of c.args.typed) file after (HasRisen file.failures last.failures) c.args.ask.now
-    c.args.name.now c.deref-in-Object.result.now c.map_file.new.kept c.put_object.result _ _
-    c.in-Object.is (λ e. rw c.deref-in-Object.ensures.value (c.reason_lines-lines-in-Object.ensures.quiet e))
-    (λ risen. risen_more file.failures after.failures last.failures risen
-    c.reason_lines-lines-in-Object.ensures.keeps.failures)
-    (c.map_file.ensures.holds _ (rw c.requires.asked c.requires.typed.asked))
-    c.put_object.ensures.err
+    let after = g.S.Space.view c.identify_space.new.space in
+    let Written : Work → Type 0 = λ work. IfOk c.identify_space.result
+    (AppendsRun (runs_of work c.args.start file (HasRisen file.failures after.failures)) (every_of c.args.task)
+    c.args.name.now (g.O.Write.contents c.args.out.now) (g.O.Write.contents c.identify_space.new.out)) in
+    subst Written (sym c.in-Identify.is) c.identify_space.ensures.ok
+
+pub returns-in-Identify-clause-err : goal.returns-in-Identify-clause-err
+returns-in-Identify-clause-err g c =
+    let file = g.S.Space.view c.args.space.now in
+    let after = g.S.Space.view c.identify_space.new.space in
+    let Cut : Work → Type 0 = λ work. OnErr c.identify_space.result
+    (CutsRun (runs_of work c.args.start file (HasRisen file.failures after.failures)) (every_of c.args.task)
+    c.args.name.now (g.O.Write.contents c.args.out.now) (g.O.Write.contents c.identify_space.new.out)) in
+    subst Cut (sym c.in-Identify.is) c.identify_space.ensures.err

@@ -4,7 +4,8 @@ use Rattle.std.proofs.Common.{◌≡◌, Ok, subst}
 use Rattle.bit_space.specs.SpaceView.{HasRisen}
 use Rattle.jobs.specs.Aims.{IsAskOf, aim_of}
 use Rattle.jobs.specs.Due.{Holds}
-use Rattle.jobs.specs.Jobs.{DueSpace, maps, no_pages, starts_nowhere, unopened}
+use Rattle.jobs.specs.Spaces.{DueSpace}
+use Rattle.jobs.specs.Jobs.{maps, no_pages, starts_nowhere, unopened}
 use Rattle.jobs.specs.declared.ending.Ending.TheVariants.{Run}
 use Rattle.jobs.proofs.Holding.{holds_more, no_text}
 use Rattle.jobs.proofs.Mapped.{risen_more}

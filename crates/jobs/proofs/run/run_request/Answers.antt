@@ -1,33 +1,49 @@
-use Rattle.std.proofs.Common.{◌≡◌, ℕ, List, Option, None, Some, Ok, ap, option_map, sym, subst}
+use Rattle.std.proofs.Common.{◌≡◌, ◌∙◌, ℕ, List, Option, None, Some, Ok, ap, option_map, sym, subst}
 use Rattle.std.proofs.KnownBytes.{Keeps-refl}
 use Rattle.std.proofs.lemmas.Result.{err_from_is_err_and}
+use Rattle.command_line.specs.Subjects.{pickle_of}
 use Rattle.jobs.specs.Aims.{Requested, of_chosen, of_request, settled_terms}
 use Rattle.jobs.specs.Chosen.{chosen, chosen_type}
 use Rattle.jobs.specs.Due.{End, Holds, of_pickle, unread}
-use Rattle.jobs.specs.Jobs.{DueIfAny, DueMapping}
+use Rattle.jobs.specs.Jobs.{DueIfAny, DueMapping, DueSubject}
 use Rattle.jobs.proofs.Chosen.{settled_request, usage_holds}
 use Rattle.jobs.proofs.Holding.{holds_more, no_text}
 use Rattle.jobs.proofs.run.run_request.Goals as goal
 
+pub returns-in_default : goal.returns-in_default
+returns-in_default g c =
+    let none : pickle_of c.args.request.now.subject ≡ None =
+    sym c.pickle.ensures ∙ ap (option_map (λ word. word.now)) c.in_default.is in
+    subst (λ word. Holds (DueSubject (g.P.Opener.gives c.args.opener.now) c.args.why.now.asked c.args.request.now word)
+    (g.O.Write.contents c.args.out.now) (g.O.Write.contents c.show_identified.new.out) c.show_identified.result)
+    (sym none) c.show_identified.ensures
+
 pub returns-in_err-pickle : goal.returns-in_err-pickle
 returns-in_err-pickle g c =
+    let some : pickle_of c.args.request.now.subject ≡ Some c.in-Some.word.now =
+    sym c.pickle.ensures ∙ ap (option_map (λ word. word.now)) c.in-Some.is in
     let p = err_from_is_err_and c.from_residual.result c.from_residual.ensures.1 in
-    rw (p.1, p.2) (no_text _ _ _ _ (unread (rw c.pickle.ensures at c.in_err-pickle.ensures.err)) (Keeps-refl _))
+    rw (p.1, p.2, some) (no_text _ _ _ _ (unread c.in_err-pickle.ensures.err) (Keeps-refl _))
 
 pub returns : goal.returns
 returns g c =
+    let some : pickle_of c.args.request.now.subject ≡ Some c.in-Some.word.now =
+    sym c.pickle.ensures ∙ ap (option_map (λ word. word.now)) c.in-Some.is in
     let request = c.args.request.now in
     let bytes = c.in_ok-pickle.pickle.bytes.items in
     let Due : Requested → List (List ℕ) → Option End → Type 0 = λ requested.
     DueMapping (g.P.Opener.gives c.args.opener.now) c.args.why.now.asked requested request.over bytes in
     let unsaid : chosen request.subject bytes ≡ None = rw (sym c.deref.ensures.value) c.in-Err.ensures.err in
-    holds_more (DueIfAny Due (of_request request bytes)) _ (Ok c.refuse.result) _ _
-    (λ lines end due. of_pickle (rw c.pickle.ensures at c.in_ok-pickle.ensures.ok) due)
+    rw some
+    (holds_more (DueIfAny Due (of_request request bytes)) _ (Ok c.refuse.result) _ _
+    (λ lines end due. of_pickle c.in_ok-pickle.ensures.ok due)
     (usage_holds Due (of_request request bytes) c.refuse.result _ _ (ap (option_map (of_chosen request)) unsaid)
-    c.refuse.ensures (Keeps-refl _))
+    c.refuse.ensures (Keeps-refl _)))
 
 pub returns-in-Ok : goal.returns-in-Ok
 returns-in-Ok g c =
+    let some : pickle_of c.args.request.now.subject ≡ Some c.in-Some.word.now =
+    sym c.pickle.ensures ∙ ap (option_map (λ word. word.now)) c.in-Some.is in
     let request = c.args.request.now in
     let bytes = c.in_ok-pickle.pickle.bytes.items in
     let found = chosen_type c.in-Ok.field-0 in
@@ -36,8 +52,9 @@ returns-in-Ok g c =
     let said : chosen request.subject bytes ≡ Some found = rw (sym c.deref.ensures.value) c.in-Ok.ensures.ok in
     let settled : c.settle_terms.new.terms ≡ settled_terms request.form found.whole request.terms =
     c.settle_terms.ensures in
-    holds_more (DueIfAny Due (of_request request bytes)) _ c.run_settled.result _ _
-    (λ lines end due. of_pickle (rw c.pickle.ensures at c.in_ok-pickle.ensures.ok) due)
+    rw some
+    (holds_more (DueIfAny Due (of_request request bytes)) _ c.run_settled.result _ _
+    (λ lines end due. of_pickle c.in_ok-pickle.ensures.ok due)
     (subst (λ requested. Holds (DueIfAny Due requested) (g.O.Write.contents c.args.out.now)
     (g.O.Write.contents c.run_settled.new.out) c.run_settled.result)
-    (settled_request request bytes found c.settle_terms.new.terms said settled) c.run_settled.ensures)
+    (settled_request request bytes found c.settle_terms.new.terms said settled) c.run_settled.ensures))

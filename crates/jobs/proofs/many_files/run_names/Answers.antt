@@ -8,12 +8,12 @@ use Rattle.jobs.specs.Jobs.{files_end}
 use Rattle.jobs.specs.Names.{StopsList, none_listed}
 use Rattle.jobs.proofs.EachWritten.{listed_otherwise}
 use Rattle.jobs.proofs.Holding.{holds_more}
-use Rattle.jobs.proofs.each.run_files.Goals as goal
+use Rattle.jobs.proofs.many_files.run_names.Goals as goal
 
 pub returns-in-Words : goal.returns-in-Words
 returns-in-Words g c =
     rw c.in-Words.is
-    (subst (λ words. HoldsWords (g.P.Opener.gives c.args.opener.now) (every_of c.args.typed) words
+    (subst (λ words. HoldsWords (g.P.Opener.gives c.args.opener.now) (every_of c.args.task) words
     (g.O.Write.contents c.args.out.now) (g.O.Write.contents c.run_words.new.out) c.run_words.result)
     c.as_slice.ensures.value c.run_words.ensures)
 
@@ -21,7 +21,7 @@ pub returns-in-Some : goal.returns-in-Some
 returns-in-Some g c =
     rw c.in-EndedByZero.is
     (holds_more _ _ (Ok (files_ending c.run_list.result)) _ _
-    (listed_otherwise (g.P.Opener.gives c.args.opener.now) (every_of c.args.typed) _ _ StopsList
+    (listed_otherwise (g.P.Opener.gives c.args.opener.now) (every_of c.args.task) _ _ StopsList
     (λ bytes is. rw is (rw (sym c.deref.ensures) c.in-Some.ensures)))
     c.run_list.ensures)
 

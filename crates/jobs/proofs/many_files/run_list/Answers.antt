@@ -4,20 +4,19 @@ use Rattle.std.proofs.lemmas.Result.{err_from_is_err_and}
 use Rattle.std.specs.Io.KnownBytes.{Keeps}
 use Rattle.std.specs.Io.Buffered.{reader_remaining}
 use Rattle.jobs.specs.Due.{whole}
-use Rattle.pickle_types.specs.TypeTable.{nodes_of}
 use Rattle.jobs.specs.Every.{every_of}
 use Rattle.jobs.specs.Files.{no_files}
 use Rattle.jobs.specs.Jobs.{files_end}
 use Rattle.jobs.specs.Names.{first_listed, none_listed, none_read, one_read}
 use Rattle.jobs.proofs.EachWritten.{all_hold, cut_hold, first_hold, fresh_reader, kept_written, list_stops, named_otherwise, none_written, one_written, unflushed_hold}
 use Rattle.run_parts.specs.declared.outcome.Failure.TheVariants.{Memory}
-use Rattle.jobs.proofs.each.run_list.Goals.{then-not-contains+in_ok-flush, else-not-contains}
-use Rattle.jobs.proofs.each.run_list.Goals as goal
+use Rattle.jobs.proofs.many_files.run_list.Goals.{then-not-contains+in_ok-flush, else-not-contains}
+use Rattle.jobs.proofs.many_files.run_list.Goals as goal
 
 pub loop-init : goal.loop-init
 loop-init g c = record {
-  ready = c.in_ok-kept.ensures (nodes_of c.args.typed.table.now);
-  written = none_written (g.P.Opener.gives c.args.opener.now) (every_of c.args.typed) _ _ none_read;
+  ready = c.in_ok-kept.ensures;
+  written = none_written (g.P.Opener.gives c.args.opener.now) (every_of c.args.task) _ _ none_read;
 }
 
 pub returns-in_default : goal.returns-in_default
@@ -35,8 +34,8 @@ returns-in_err-flush g c =
     c.in-Ok.ensures.capacity refl in
     let p = err_from_is_err_and c.from_residual-in_err-flush.result c.from_residual-in_err-flush.ensures.1 in
     rw (p.1, p.2)
-    (unflushed_hold gives (every_of c.args.typed) _ _ _ _ _ _ c.loop.greatest (λ names read. first_listed is read)
-    (kept_written gives (every_of c.args.typed) _ _ _ _ c.loop.greatest c.loop.invariant.written
+    (unflushed_hold gives (every_of c.args.task) _ _ _ _ _ _ c.loop.greatest (λ names read. first_listed is read)
+    (kept_written gives (every_of c.args.task) _ _ _ _ c.loop.greatest c.loop.invariant.written
     c.in_err-flush.ensures))
 
 pub returns-in_err-read_name : goal.returns-in_err-read_name
@@ -51,9 +50,9 @@ returns-in_err-read_name g c =
     ] in
     let p = err_from_is_err_and c.from_residual-in_err-read_name.result c.from_residual-in_err-read_name.ensures.1 in
     rw (p.1, p.2)
-    (first_hold gives (every_of c.args.typed) _ _ _ _ _ _ c.loop.greatest _ (λ names read. first_listed is read)
+    (first_hold gives (every_of c.args.task) _ _ _ _ _ _ c.loop.greatest _ (λ names read. first_listed is read)
     (list_stops c.in_err-read_name.field-0.0 c.in_err-read_name.ensures.err)
-    (kept_written gives (every_of c.args.typed) _ _ _ _ c.loop.greatest c.loop.invariant.written keeps))
+    (kept_written gives (every_of c.args.task) _ _ _ _ c.loop.greatest c.loop.invariant.written keeps))
 
 pub returns-in_err-status : goal.returns-in_err-status
 returns-in_err-status g c =
@@ -67,11 +66,11 @@ returns-in_err-status g c =
     ] in
     let p = err_from_is_err_and c.from_residual-in_err-status.result c.from_residual-in_err-status.ensures.1 in
     rw (p.1, p.2)
-    (cut_hold gives (every_of c.args.typed) _ _ _ _ c.deref.result.now _
+    (cut_hold gives (every_of c.args.task) _ _ _ _ c.deref.result.now _
     (g.O.Write.contents c.if-not-contains.out) _ c.loop.greatest
     (λ names read. first_listed {rest = reader_remaining g.L.Read.remaining c.read_name.new.list} is
     (one_read read (rw c.deref.ensures.value (c.in_ok-read_name.ensures.next c.if-not-branch.false))))
-    (kept_written gives (every_of c.args.typed) _ _ _ _ c.loop.greatest c.loop.invariant.written keeps)
+    (kept_written gives (every_of c.args.task) _ _ _ _ c.loop.greatest c.loop.invariant.written keeps)
     c.in_err-status.ensures.err)
 
 pub returns-then-not-branch : goal.returns-then-not-branch
@@ -82,8 +81,8 @@ returns-then-not-branch g c =
       | then-not-contains+in_ok-flush w ↦ rw w.out-is w.flush.ensures
       | else-not-contains w ↦ rw w.out-is (Keeps-refl _)
     ] in
-    all_hold gives (every_of c.args.typed) _ _ _ _ _ c.loop.greatest
-    (named_otherwise gives (every_of c.args.typed) _ _ _ _ c.loop.greatest
+    all_hold gives (every_of c.args.task) _ _ _ _ _ c.loop.greatest
+    (named_otherwise gives (every_of c.args.task) _ _ _ _ c.loop.greatest
     (λ names read. record {
       list = reader_remaining g.L.Read.remaining c.in-Ok.list;
       rest = reader_remaining g.L.Read.remaining c.loop.list;
@@ -92,7 +91,7 @@ returns-then-not-branch g c =
       read = read;
       end = c.in_ok-read_name.ensures.end c.if-not-branch.true;
     })
-    (kept_written gives (every_of c.args.typed) _ _ _ _ c.loop.greatest c.loop.invariant.written keeps))
+    (kept_written gives (every_of c.args.task) _ _ _ _ c.loop.greatest c.loop.invariant.written keeps))
 
 pub loop-preserved : goal.loop-preserved
 loop-preserved g c =
@@ -103,11 +102,11 @@ loop-preserved g c =
     ] in
     record {
       ready = c.run_name.ensures.ready;
-      written = rw c.greater-greatest.ensures (one_written (g.P.Opener.gives c.args.opener.now) (every_of c.args.typed)
+      written = rw c.greater-greatest.ensures (one_written (g.P.Opener.gives c.args.opener.now) (every_of c.args.task)
           _ _ c.deref.result.now _ _ _ c.loop.greatest c.in_ok-status.status
           (λ names read.
           one_read read (rw c.deref.ensures.value (c.in_ok-read_name.ensures.next c.if-not-branch.false)))
-          (kept_written (g.P.Opener.gives c.args.opener.now) (every_of c.args.typed) _ _ _ _ c.loop.greatest
+          (kept_written (g.P.Opener.gives c.args.opener.now) (every_of c.args.task) _ _ _ _ c.loop.greatest
           c.loop.invariant.written keeps)
           c.in_ok-status.ensures.ok);
     }
@@ -117,5 +116,5 @@ returns g c =
     let gives = g.P.Opener.gives c.args.opener.now in
     let is = fresh_reader g.L.Read.remaining c.in-Ok.list c.args.list 8192 c.in-Ok.ensures.inner c.in-Ok.ensures.empty
     c.in-Ok.ensures.capacity refl in
-    first_hold gives (every_of c.args.typed) _ _ _ _ _ _ c.loop.greatest Memory (λ names read. first_listed is read)
+    first_hold gives (every_of c.args.task) _ _ _ _ _ _ c.loop.greatest Memory (λ names read. first_listed is read)
     (inl refl) c.loop.invariant.written
