@@ -1,6 +1,7 @@
 //! What is written to standard error while many files are mapped.
+use crate::file_names::{names_of, shows_progress};
 use crate::progress::{Counted, Progress};
-use command_line::request::{FileNames, Over};
+use command_line::request::FileNames;
 use jobs::Aside;
 use poke_batch::words::Job;
 use poke_batch::write::put;
@@ -58,13 +59,8 @@ impl<C: Clock + Drop, E: Write + Drop> Aside for StandardError<C, E> {
 
 // How many files are done before the first of them, if a job shows that.
 fn progress_of(job: &Job) -> Option<Progress> {
-    let Job::Request(request) = job else {
-        return None;
-    };
-    let Over::Files { names, .. } = &request.over else {
-        return None;
-    };
-    if !request.progress {
+    let names = names_of(job)?;
+    if !shows_progress(job) {
         return None;
     }
     let total = match names {

@@ -3,11 +3,11 @@ ghost use Rattle.jobs.specs.Gives.{anything};
 
 use crate::file_reasons::file_reason;
 use crate::given::{argument, stands_for};
-use crate::installed::pickle_path;
+use crate::installed::{pickle_path, read_all};
 use crate::own_streams::OwnStreams;
 use crate::with_progress::ShownSpace;
 use bit_space::{FileSpace, MemSpace, OpenFault, Space};
-use jobs::{FileFault, Lengthless, NamedPickle, Opener};
+use jobs::{FileFault, Installed, Lengthless, NamedPickle, Opener};
 use poke_batch::pickle::{PickleFault, read_pickle};
 use spool::{Source, read_stream};
 use std::alloc::AllocError;
@@ -90,6 +90,10 @@ impl<
             Ok(file) => Some(NameList::File(file)),
             Err(_) => None,
         }
+    }
+
+    fn read_installed(&self, folder: Option<&str>) -> Result<Vec<Installed>, FileFault> {
+        read_all(&self.rt, folder)
     }
 
     fn reason(&self, path: &str, lengthless: Lengthless) -> &'static str {

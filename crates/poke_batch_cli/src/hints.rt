@@ -31,8 +31,10 @@ pub fn explained_endings(asked: &Asked) -> Explained {
     if asked.why || lacks_why(&asked.job) {
         return Explained::Nothing;
     }
-    let Job::Request(request) = &asked.job else {
-        return Explained::Endings;
+    let request = match &asked.job {
+        Job::Request(request) => request,
+        Job::Identify(files) if files.faults == FaultForm::Json => return Explained::Nothing,
+        _ => return Explained::Endings,
     };
     match (&request.over, &request.form) {
         (

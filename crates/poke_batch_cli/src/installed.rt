@@ -1,11 +1,12 @@
 //! The pickles that are installed with the program. `+NAME` instead of a pickle's path names one.
+use crate::files::read_pickle_of;
 use crate::reason_text::{add, add_word};
-use jobs::FileFault;
+use jobs::{FileFault, Installed, NamedPickle};
 use pickle_source::near::nearest;
 use poke_batch::pickle::PickleFault;
 use std::alloc::{AllocError, Global};
 use std::env::VarError;
-use std::io::{self, ErrorKind};
+use std::io::{self, ErrorKind, Input};
 use std::rt::{Env, Files};
 use std::{env, fs};
 
@@ -60,6 +61,52 @@ pub fn pickles_folder<R: Files + Env + AllocGlobal>(rt: &R) -> Result<Option<Str
     }
 }
 
+// The folder that is named, or else that of the installed pickles, if there can be one.
+fn folder_or_installed<R: Files + Env + AllocGlobal>(
+    rt: &R,
+    folder: Option<&str>,
+) -> Result<Option<String>, AllocError> {
+    match folder {
+        Some(folder) => Ok(Some(String::from_str(rt.alloc(), folder)?)),
+        None => pickles_folder(rt),
+    }
+}
+
+/// Reads the pickles of a folder, in the order of their names. `None` is the folder of the installed ones.
+pub fn read_all<R: Files + Env + Input + AllocGlobal + Clone + Drop>(
+    rt: &R,
+    folder: Option<&str>,
+) -> Result<Vec<Installed>, FileFault> {
+    let folder = folder_or_installed(rt, folder)?.ok_or(PickleFault::Read)?;
+    let mut pickles = Vec::new(rt.alloc());
+    for name in pickles_in(rt, folder.as_str())? {
+        let path = path_in(rt.alloc(), folder.as_str(), name.as_str())?;
+        let pickle = match read_installed(rt, path.as_str()) {
+            Ok(bytes) => Ok(NamedPickle { path, bytes }),
+            Err(fault) => Err(fault),
+        };
+        let one = Installed {
+            name: name.into_bytes(),
+            pickle,
+        };
+        if pickles.push(one).is_err() {
+            return Err(FileFault::Memory);
+        }
+    }
+    Ok(pickles)
+}
+
+// Reads an installed pickle. A FIFO isn't opened, since that would wait for a writer.
+fn read_installed<R: Files + Input + AllocGlobal>(
+    rt: &R,
+    path: &str,
+) -> Result<Vec<u8>, FileFault> {
+    if !is_regular(rt, path) {
+        return Err(PickleFault::Read.into());
+    }
+    read_pickle_of(rt, path)
+}
+
 /// The names of the pickles in a folder, in the order of their bytes.
 pub fn pickles_in<R: Files + AllocGlobal + Clone + Drop>(
     rt: &R,
@@ -87,8 +134,8 @@ fn unread(error: io::Error) -> FileFault {
     }
 }
 
-/// Whether a path names a regular file, so that reading it waits for nobody.
-pub fn is_regular<R: Files>(rt: &R, path: &str) -> bool {
+// Whether a path names a regular file, so that reading it waits for nobody.
+fn is_regular<R: Files>(rt: &R, path: &str) -> bool {
     match fs::metadata(rt, path) {
         Ok(file) => file.file_type().is_file(),
         Err(_) => false,
@@ -137,18 +184,20 @@ pub fn tell_missing<R: Files + Env + AllocGlobal + Clone + Drop>(
     }
 }
 
-/// Adds why the installed pickles weren't listed, if that is because of their folder.
+/// Adds why the pickles of a folder weren't listed, if that is because of the folder. `None` is that of the installed ones.
 pub fn tell_unlisted<R: Files + Env + AllocGlobal + Clone + Drop>(
     rt: &R,
+    folder: Option<&str>,
     text: &mut Vec<u8>,
 ) -> Result<(), AllocError> {
-    let Some(folder) = pickles_folder(rt)? else {
+    let Some(path) = folder_or_installed(rt, folder)? else {
         return text.extend_from_slice(NO_FOLDER);
     };
-    match pickles_in(rt, folder.as_str()) {
-        Ok(names) => tell_irregular(rt, folder.as_str(), &names, text),
+    match pickles_in(rt, path.as_str()) {
+        Ok(names) => tell_irregular(rt, path.as_str(), &names, text),
         Err(FileFault::Memory) => Err(AllocError),
-        Err(_) => tell_folder(folder.as_str(), text),
+        Err(_) if folder.is_some() => tell_unread(path.as_str(), text),
+        Err(_) => tell_folder(path.as_str(), text),
     }
 }
 
@@ -168,6 +217,12 @@ fn tell_irregular<R: Files + AllocGlobal>(
         }
     }
     Ok(())
+}
+
+fn tell_unread(folder: &str, text: &mut Vec<u8>) -> Result<(), AllocError> {
+    add(text, &["  the folder "])?;
+    add_word(text, folder)?;
+    add(text, &[" can't be read\n"])
 }
 
 fn tell_folder(folder: &str, text: &mut Vec<u8>) -> Result<(), AllocError> {

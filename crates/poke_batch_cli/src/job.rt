@@ -2,7 +2,6 @@
 use crate::aside::StandardError;
 use crate::file_reasons::{file_reason, is_there, reason_of, tell_unopened};
 use crate::files::SystemFiles;
-use crate::formats::list_formats;
 use crate::installed::{names_installed, tell_installed, tell_missing, tell_unlisted};
 use crate::own_streams::OwnStreams;
 use crate::reason_text::{add, add_word, leave_untold};
@@ -93,8 +92,8 @@ fn explain_fault<R: Files<File = File> + Env + AllocGlobal + Clone + Drop>(
         return;
     }
     let told = match fault {
-        FileFault::Pickle(PickleFault::Read) if matches!(job, Job::Formats) => {
-            tell_unlisted(rt, why.text).map_err(FileFault::from)
+        FileFault::Pickle(PickleFault::Read) if reads_folder(job) => {
+            tell_unlisted(rt, folder_of(job), why.text).map_err(FileFault::from)
         }
         FileFault::Pickle(PickleFault::Read) => tell_unread(rt, pickle_of(job), why.text),
         FileFault::Space(OpenFault::NotOpened) => match file_of(job) {
@@ -189,6 +188,7 @@ fn shows_reads(job: &Job) -> bool {
 fn lengthless_of(job: &Job) -> Lengthless {
     match job {
         Job::Request(request) => Lengthless::with_spool(request.spool),
+        Job::Identify(asked) => Lengthless::with_spool(asked.spool),
         Job::Map { .. } => Lengthless::NeedsSpool,
         _ => Lengthless::Refuses,
     }
@@ -209,6 +209,7 @@ fn subject_of(job: &Job) -> Option<Type<'_>> {
         Job::Request(request) => match &request.subject {
             Subject::Named { name, .. } => Some(Type::Named(name)),
             Subject::ByHead { pickle, .. } => Some(Type::ByHead(pickle)),
+            Subject::Identified => None,
         },
         _ => None,
     }
@@ -217,18 +218,35 @@ fn subject_of(job: &Job) -> Option<Type<'_>> {
 // The argument that names the pickle of a job, if it has one.
 fn pickle_of(job: &Job) -> Option<&str> {
     match job {
-        Job::Request(request) => Some(request.subject.pickle()),
+        Job::Request(request) => request.subject.pickle(),
         Job::Map { pickle, .. }
         | Job::Bound { pickle, .. }
         | Job::BoundText { pickle, .. }
         | Job::Check { pickle }
         | Job::Types { pickle }
         | Job::Parts { pickle, .. } => Some(pickle.as_str()),
-        Job::Formats | Job::Dump { .. } => None,
+        Job::Formats | Job::Identify(_) | Job::Dump { .. } => None,
     }
 }
 
-// Runs a job, or lists the formats.
+// Whether a job reads all pickles of a folder.
+fn reads_folder(job: &Job) -> bool {
+    match job {
+        Job::Formats | Job::Identify(_) => true,
+        Job::Request(request) => request.subject.pickle().is_none(),
+        _ => false,
+    }
+}
+
+// The folder of pickles that a job names, if it names one.
+fn folder_of(job: &Job) -> Option<&str> {
+    match job {
+        Job::Identify(asked) => asked.folder.as_deref(),
+        _ => None,
+    }
+}
+
+// Runs a job.
 fn run_any<
     R: Files<File = File> + Env + Input + Clock + AllocGlobal + Clone + Drop,
     O: Write,
@@ -244,8 +262,7 @@ fn run_any<
     let mut aside = StandardError::new(rt.clone()?, aside, &asked.job);
     match run_job(rt.alloc(), &opener, asked, out, &mut aside, why)? {
         // Reasons that can't be written are an output that failed.
-        Some(Ending::Silent(_)) if aside.has_failed() => Ok(Ending::Silent(Status::Outside)),
-        Some(ending) => Ok(ending),
-        None => Ok(Ending::Run(list_formats(rt, asked.answer, out)?)),
+        Ending::Silent(_) if aside.has_failed() => Ok(Ending::Silent(Status::Outside)),
+        ending => Ok(ending),
     }
 }

@@ -2,14 +2,15 @@
 #![tactic(auto)]
 
 mod aside;
+mod file_names;
 mod file_reasons;
 mod files;
-mod formats;
 mod given;
 mod hints;
 mod installed;
 mod job;
 mod looks;
+mod main_type;
 mod offset_reasons;
 mod own_streams;
 mod progress;
@@ -19,12 +20,13 @@ mod with_progress;
 
 use arrayvec::ArrayVec;
 use command_line::request::{FileNames, Over};
-use formats::tell_main;
+use file_names::names_of;
 use given::{given_words, stands_for};
 use hints::{Explained, explained_endings, hint, lacks_why};
 use job::do_job;
 use jobs::Ending;
 use looks::settle_colors;
+use main_type::tell_main;
 use offset_reasons::tell_offset;
 use poke_batch::fault_form::FaultForm;
 use poke_batch::outcome::{Failure, Outcome};
@@ -133,20 +135,11 @@ fn read_job(rt: &HostRuntime) -> Result<Asked, WordFault> {
 
 // How many of the files that arguments name have names that aren't UTF-8. Each of them has its own line.
 fn unread_files(read: &Result<Asked, WordFault>) -> usize {
-    let Ok(
-        Asked {
-            job: Job::Request(request),
-            ..
-        },
-    ) = read
-    else {
+    let Ok(asked) = read else {
         return 0;
     };
-    match &request.over {
-        Over::Files {
-            names: FileNames::Words(names),
-            ..
-        } => names
+    match names_of(&asked.job) {
+        Some(FileNames::Words(names)) => names
             .iter()
             .filter(|name| stands_for(name).is_some())
             .count(),
@@ -157,12 +150,18 @@ fn unread_files(read: &Result<Asked, WordFault>) -> usize {
 // Progress is shown on a terminal only. If the lines of the files are printed there too, each is written before the next
 // file is mapped, so that none is on the line of the progress.
 fn give_progress(prints_to_terminal: bool, has_terminal: bool, job: &mut Job) {
-    let Job::Request(request) = job else {
-        return;
-    };
-    request.progress &= has_terminal;
-    if let Over::Files { flush, .. } = &mut request.over {
-        *flush |= request.progress && prints_to_terminal;
+    match job {
+        Job::Request(request) => {
+            request.progress &= has_terminal;
+            if let Over::Files { flush, .. } = &mut request.over {
+                *flush |= request.progress && prints_to_terminal;
+            }
+        }
+        Job::Identify(asked) => {
+            asked.progress &= has_terminal;
+            asked.flush |= asked.progress && prints_to_terminal;
+        }
+        _ => {}
     }
 }
 
@@ -178,6 +177,7 @@ fn always_explains<R: Env + AllocGlobal>(rt: &R) -> bool {
 fn faults_in(job: &Job) -> FaultForm {
     match job {
         Job::Request(request) => request.faults(),
+        Job::Identify(asked) => asked.faults,
         _ => FaultForm::Text,
     }
 }
@@ -191,7 +191,7 @@ fn reads_input_twice(job: &Job) -> bool {
         Over::Files {
             names: FileNames::EndedByZero(list),
             ..
-        } => request.subject.pickle() == "-" && list.as_str() == "-",
+        } => request.subject.pickle() == Some("-") && list.as_str() == "-",
         _ => false,
     }
 }
@@ -215,7 +215,7 @@ fn show_help<E: Write>(alloc: Global, err: &mut E) -> Result<(), AllocError> {
 fn maps(rt: &HostRuntime) -> bool {
     match given_words(rt) {
         Ok(words) => match words.first() {
-            Some(first) => matches!(first.as_str(), "map" | "each"),
+            Some(first) => matches!(first.as_str(), "map" | "each" | "identify"),
             None => false,
         },
         Err(_) => false,

@@ -77,8 +77,14 @@ impl OwnStreams {
             ) => [
                 Shared::at(rt, OUTPUT),
                 Shared::at(rt, ERRORS),
-                Shared::at(rt, path_of(subject.pickle())),
+                subject.pickle().and_then(|word| Shared::at(rt, path_of(word))),
                 list_in(names).and_then(|path| Shared::at(rt, path_of(path))),
+            ],
+            Job::Identify(asked) => [
+                Shared::at(rt, OUTPUT),
+                Shared::at(rt, ERRORS),
+                None,
+                list_in(&asked.names).and_then(|path| Shared::at(rt, path_of(path))),
             ],
             _ => [
                 Shared::pipe_at(rt, OUTPUT),
