@@ -5,3 +5,5 @@
 mod fits;
 #[cfg(test)]
 mod pickles;
+#[cfg(test)]
+mod texts;

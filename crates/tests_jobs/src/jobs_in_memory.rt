@@ -51,6 +51,58 @@ const ROWS: [(&str, &str, &str); 18] = [
     ),
 ];
 
+/// A command line about formats. The same three parts, and the usage error, if there is one.
+const FORMAT_ROWS: [(&str, &str, &str, &str); 9] = [
+    (
+        "identify word.bin pair.bin a.bin none",
+        "word.bin\t0\tword\tWord\tbig\npair.bin\t0\tpair\tPair\tlittle\na.bin\t1\tfault Unidentified\n\
+        none\t3\tfault Open\n",
+        "",
+        "",
+    ),
+    (
+        "identify --length 1 pair.bin",
+        "pair.bin\t1\tfault Unidentified\n",
+        "",
+        "",
+    ),
+    (
+        "identify --files0-from broken.list",
+        "a.bin\t1\tfault Unidentified\n",
+        "fault Read\n",
+        "",
+    ),
+    (
+        "identify --mode json pair.bin a.bin",
+        "{\"name\":\"pair.bin\",\"status\":0,\"value\":{\"format\":\"pair\",\"type\":\"Pair\",\"endian\":\"little\",\
+        \"size\":16,\"description\":\"Two numbers.\"}}\n{\"name\":\"a.bin\",\"status\":1,\"fault\":\"Unidentified\"}\n",
+        "",
+        "",
+    ),
+    (
+        "identify --in refused word.bin",
+        "",
+        "",
+        "error: the pickle bad is no format: refused Syntax at byte 25\n",
+    ),
+    ("identify --in unread word.bin", "", "fault Read\n", ""),
+    ("identify --in none word.bin", "", "fault Read\n", ""),
+    (
+        "formats",
+        "pair\tPair\t--endian little\tTwo numbers.\nword\tWord\t\tA word.\n",
+        "",
+        "",
+    ),
+    (
+        "formats --mode json",
+        "{\"name\":\"pair\",\"type\":\"Pair\",\"endian\":\"little\",\"whole\":false,\"inside\":null,\
+        \"description\":\"Two numbers.\"}\n{\"name\":\"word\",\"type\":\"Word\",\"endian\":\"big\",\"whole\":false,\
+        \"inside\":\"Word\",\"description\":\"A word.\"}\n",
+        "",
+        "",
+    ),
+];
+
 /// A command line whose type, options or end the head of the pickle or a window says. The same three parts, and the usage
 /// error, if there is one.
 const HEAD_ROWS: [(&str, &str, &str, &str); 36] = [
@@ -213,10 +265,9 @@ fn written_by(alloc: Global, words: &str) -> Result<Written, Fail> {
     };
     let shelf = Shelf { alloc };
     match run_job(alloc, &shelf, &mut asked, &mut out, &mut notes, &mut why) {
-        Ok(Some(ending)) => {
+        Ok(ending) => {
             ending.tell(FaultForm::Text, &mut line);
         }
-        Ok(None) => return Err(Fail::from("not done")),
         Err(fault) => {
             let text = format!(in alloc; "{fault}\n")?;
             line.extend_from_slice(text.as_bytes())?;
@@ -250,6 +301,18 @@ fn heads_and_windows_apply(rt: HostRuntime) -> Result<(), Fail> {
         assert_eq!(&rt; written.line.as_slice(), line.as_bytes(), "{words}");
         assert_eq!(&rt; written.reasons.as_slice(), usage.as_bytes(), "{words}");
         assert!(rt; written.aside.is_empty(), "{words}");
+    }
+    Ok(())
+}
+
+// The formats of files, and the list of formats, are those of the installed pickles.
+#[test]
+fn formats_are_installed(rt: HostRuntime) -> Result<(), Fail> {
+    for (words, out, line, usage) in FORMAT_ROWS {
+        let written = written_by(rt.alloc(), words)?;
+        assert_eq!(&rt; written.out.as_slice(), out.as_bytes(), "{words}");
+        assert_eq!(&rt; written.line.as_slice(), line.as_bytes(), "{words}");
+        assert_eq!(&rt; written.reasons.as_slice(), usage.as_bytes(), "{words}");
     }
     Ok(())
 }

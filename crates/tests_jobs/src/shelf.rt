@@ -3,13 +3,13 @@
 ghost use Rattle.jobs.specs.Gives.{anything};
 
 use bit_space::{MemSpace, OpenFault};
-use jobs::{Aside, FileFault, Lengthless, NamedPickle, Opener};
+use jobs::{Aside, FileFault, Installed, Lengthless, NamedPickle, Opener};
 use poke_batch::pickle::PickleFault;
 use std::alloc::{AllocError, Global};
 use tests_kit::streams::OneByOne;
 
 /// The files, with their bytes.
-const FILES: [(&str, &[u8]); 10] = [
+const FILES: [(&str, &[u8]); 12] = [
     (
         "p.pk",
         b"type P = struct { uint<8> a; uint<16> b; }; type Q = uint<8>[];",
@@ -29,8 +29,24 @@ const FILES: [(&str, &[u8]); 10] = [
     ("wrong.pk", b"type P = struct { uint<8> a }"),
     ("a.bin", b"\x01\x02\x03"),
     ("b.bin", b"\x01"),
+    ("pair.bin", b"21\x07"),
+    ("word.bin", b"word"),
     ("list", b"a.bin\0b.bin\0none"),
     ("empty.list", b""),
+];
+
+/// The installed pickles, with their names.
+const INSTALLED: [(&str, &[u8]); 2] = [
+    (
+        "pair",
+        b"// pair: Two numbers.\n// main: Pair, options: --endian little\n// Identified by: Mark, little, big\n\
+        type Mark = struct { uint<16> mark : mark == 0x3132; }; type Pair = struct { Mark mark; byte rest; };",
+    ),
+    (
+        "word",
+        b"// word: A word.\n// main: Word\n// Identified by: Mark\n// Inside: Word\n\
+        type Mark = struct { uint<32> mark : mark == 0x776f7264; }; type Word = struct { char[4] word; };",
+    ),
 ];
 
 /// The read at which the list `broken.list` fails, counted from 1.
@@ -91,9 +107,44 @@ impl Opener for Shelf {
         })
     }
 
+    // The folder `refused` has a pickle that is refused, and `unread` one that isn't read. `none` isn't there.
+    fn read_installed(&self, folder: Option<&str>) -> Result<Vec<Installed>, FileFault> {
+        let mut pickles = Vec::new(self.alloc);
+        match folder {
+            Some("refused") => push(&mut pickles, "bad", Ok(b"type A = struct { byte b }"))?,
+            Some("unread") => push(&mut pickles, "gone", Err(PickleFault::Read.into()))?,
+            Some(_) => return Err(PickleFault::Read.into()),
+            None => {}
+        }
+        for (name, bytes) in INSTALLED {
+            push(&mut pickles, name, Ok(bytes))?;
+        }
+        Ok(pickles)
+    }
+
     fn reason(&self, _path: &str, _lengthless: Lengthless) -> &'static str {
         "it isn't on the shelf"
     }
+}
+
+fn push(
+    pickles: &mut Vec<Installed>,
+    name: &str,
+    bytes: Result<&[u8], FileFault>,
+) -> Result<(), AllocError> {
+    let alloc = *pickles.allocator();
+    let pickle = match bytes {
+        Ok(bytes) => Ok(NamedPickle {
+            path: String::from_str(alloc, name)?,
+            bytes: bytes.to_vec(alloc)?,
+        }),
+        Err(fault) => Err(fault),
+    };
+    pickles.push(Installed {
+        name: name.as_bytes().to_vec(alloc)?,
+        pickle,
+    })?;
+    Ok(())
 }
 
 // The bytes of the file with a name.
