@@ -58,14 +58,14 @@ pub met_holds : (pickle : List ℕ) (ask : Ask) (terms : Terms) (file after : Sp
 met_holds pickle ask terms file after why ended _ out mid out' asked ends (adds_none keeps) =
     space_holds pickle ask terms file after why ended out out'
     (ends_keep (MapsRequested pickle ask terms file after) ended out mid out' ends keeps)
-met_holds pickle ask terms file after why ended _ out mid out' asked ends (adds_met met fault look h) =
-    fault_reported (MapsRequested pickle ask terms file after) ended out mid _ ends fault
+met_holds pickle ask terms file after why ended _ out mid out' asked ends (adds_met met may h) =
+    fault_reported (MapsRequested pickle ask terms file after) ended out mid _ ends may.faulty
     (λ right keeps. whole_text (DueSpace pickle ask terms file after why) met (Ok (Run ended)) out out'
-    (met_due met right fault asked look) (keeps_before out mid out' met keeps h))
-met_holds pickle ask terms file after why ended _ out mid out' asked ends (cuts_met met fault look h) =
-    fault_reported (MapsRequested pickle ask terms file after) ended out mid _ ends fault
+    (met_due met right asked may) (keeps_before out mid out' met keeps h))
+met_holds pickle ask terms file after why ended _ out mid out' asked ends (cuts_met met may h) =
+    fault_reported (MapsRequested pickle ask terms file after) ended out mid _ ends may.faulty
     (λ right keeps. part_text (DueSpace pickle ask terms file after why) met (Ok (Run ended)) out out'
-    (met_due met right fault asked look) (keeps_before_part out mid out' met keeps h))
+    (met_due met right asked may) (keeps_before_part out mid out' met keeps h))
 
 -- a count of failures that rose once is above what it was
 pub risen_more : (a b c : ℕ) → HasRisen a b → b ≤ c → HasRisen a c

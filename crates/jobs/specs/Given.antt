@@ -1,5 +1,5 @@
 -- What jobs give to their runs, and what these write.
-use Rattle.std.specs.Prelude.{◌≡◌, ◌≤◌, Bool, ℕ, List, Option, Some, IsSome, Result, Ok, Err, String, option_map, string_bytes}
+use Rattle.std.specs.Prelude.{◌≡◌, ◌≤◌, Bool, ℕ, List, Option, Some, Result, Ok, Err, String, option_map, string_bytes}
 use Rattle.std.specs.Borrow.{Bor}
 use Rattle.std.specs.declared.alloc.Global.{Global}
 use Rattle.std.specs.Io.KnownBytes.{Appends, Keeps}
@@ -17,7 +17,7 @@ use Rattle.jobs.specs.FaultNames.{list_failure}
 use Rattle.jobs.specs.Gives.{Gives}
 use Rattle.jobs.specs.Files.{Every}
 use Rattle.jobs.specs.Jobs.{DueBound, DueCheckIn, DueFiles, DueIfAny, DueMapping, DueTextBound, DueTypesIn, HoldsDump}
-use Rattle.jobs.specs.Spaces.{DueSpace}
+use Rattle.jobs.specs.Spaces.{DueSpace, MayShow}
 use Rattle.jobs.specs.Names.{AreListed, AreListedFirst, AreNamed, AreNamedFirst, StopsList}
 use Rattle.jobs.specs.declared.dumps.Range.{Range}
 use Rattle.jobs.specs.declared.ending.Ending.{Ending}
@@ -28,14 +28,12 @@ use Rattle.jobs.specs.declared.names.ListFault.{ListFault}
 use Rattle.jobs.specs.declared.pickles.Question.{Question}
 use Rattle.jobs.specs.declared.pickles.Question.TheVariants as about
 use Rattle.part_lists.specs.PartRuns.{PartsAs}
-use Rattle.run_parts.specs.Outcomes.{outcome_status}
 use Rattle.run_parts.specs.declared.dump.DumpFault.{DumpFault}
 use Rattle.run_parts.specs.declared.dump.DumpFault.TheVariants as dump
 use Rattle.run_parts.specs.declared.outcome.Failure.TheVariants as failure
 use Rattle.run_parts.specs.declared.outcome.Outcome.{Outcome}
 use Rattle.run_parts.specs.declared.outcome.Outcome.TheVariants as outcome
 use Rattle.run_parts.specs.declared.status.Status.{Status}
-use Rattle.run_parts.specs.declared.status.Status.TheVariants.{Fault}
 use Rattle.text_output.specs.Written.{AppendsPart}
 use Rattle.text_output.specs.declared.mode.Mode.{Mode}
 use Rattle.text_output.specs.declared.style.Style.{Style}
@@ -102,9 +100,8 @@ pub record MapsSpace (pickle : List ℕ) (ask : Ask) (terms : Terms) (space spac
 -- after a run of a value that is shown to the eye, what it had before its fault is added; the output may fail then
 pub data AddsMet (terms : Terms) (ended : Outcome) (out out' : Option (List ℕ)) : Outcome → Type 0 where
   adds_none : Keeps out out' → AddsMet terms ended out out' ended
-  adds_met : (met : List ℕ) → outcome_status ended ≡ Fault → IsSome terms.look → Appends out out' met →
-      AddsMet terms ended out out' ended
-  cuts_met : (met : List ℕ) → outcome_status ended ≡ Fault → IsSome terms.look → AppendsPart out out' met →
+  adds_met : (met : List ℕ) → MayShow terms ended met → Appends out out' met → AddsMet terms ended out out' ended
+  cuts_met : (met : List ℕ) → MayShow terms ended met → AppendsPart out out' met →
       AddsMet terms ended out out' (outcome.Failed failure.Write)
 
 -- how a job ends that wrote its answer, or whose output failed

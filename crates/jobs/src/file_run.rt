@@ -1,5 +1,5 @@
 //! What is done with one file among many: a type of a pickle is mapped over it, or its format is found.
-ghost use Rattle.std.specs.Prelude.{◌≡◌, [], false, IfOk, IfErr, OnErr, OnOk};
+ghost use Rattle.std.specs.Prelude.{◌≡◌, [], false, IfOk, IfErr, IfSome, OnErr, OnOk};
 ghost use Rattle.std.specs.Io.KnownBytes.{Appends, Keeps};
 ghost use Rattle.bit_space.specs.SpaceView.{HasRisen, Keeps as SpaceKeeps};
 ghost use Rattle.text_output.specs.Written.{AppendsPart};
@@ -71,8 +71,17 @@ pub struct Typed<'a> {
     pub id: TypeId,
 }
 
-/// What is stored from file to file. `Memory` is returned if an allocation fails.
-pub fn kept_for(task: Task<'_>) -> Result<Kept, Memory>
+/// What is stored from file to file. `None` is returned if an allocation fails.
+pub fn store_for(task: Task<'_>) -> Option<Kept>
+    ensures { IfSome result (IsReadyFor task.entry.work) }
+{
+    match kept_for(task) {
+        Ok(kept) => Some(kept),
+        Err(Memory) => None,
+    }
+}
+
+fn kept_for(task: Task<'_>) -> Result<Kept, Memory>
     ensures { IfOk result (IsReadyFor task.entry.work) }
 {
     match task.work {
@@ -112,18 +121,19 @@ impl FileForm {
     }
 }
 
-/// Does a task over a file, and writes its line. A file that can't be opened has a line too.
+/// Does a task over a file, and writes its line. A file that can't be opened has a line too, and so has each file if
+/// nothing can be stored.
 pub fn run_name<P: Opener, A: Aside, O: Write>(
     opener: &P,
     task: Task<'_>,
-    kept: &mut Kept,
+    kept: &mut Option<Kept>,
     name: &[u8],
     aside: &mut A,
     out: &mut O,
 ) -> Result<Status, WriteFault>
     requires set { IsSet task.work }
-    requires ready { IsReadyFor task.work kept.old }
-    ensures ready { IsReadyFor task.entry.work kept.new }
+    requires ready { IfSome kept.old (IsReadyFor task.work) }
+    ensures ready { IfSome kept.new (IsReadyFor task.entry.work) }
     ensures ok { IfOk result
         (AppendsFile (P.gives opener.now) (every_of task.entry) name.now (O.contents out.old) (O.contents out.new)) }
     ensures err { OnErr result
@@ -157,16 +167,16 @@ fn open_named<P: Opener>(opener: &P, spool: Option<u64>, name: &[u8]) -> Result<
 fn run_opened<P: Opener, A: Aside, O: Write>(
     opener: &P,
     task: Task<'_>,
-    kept: &mut Kept,
+    kept: &mut Option<Kept>,
     name: &[u8],
     bytes: P::Bytes,
     aside: &mut A,
     out: &mut O,
 ) -> Result<Status, WriteFault>
     requires set { IsSet task.work }
-    requires ready { IsReadyFor task.work kept.old }
+    requires ready { IfSome kept.old (IsReadyFor task.work) }
     requires opened { (P.gives opener.now).is_file name.now task.spool (P.Bytes.view bytes) }
-    ensures ready { IsReadyFor task.entry.work kept.new }
+    ensures ready { IfSome kept.new (IsReadyFor task.entry.work) }
     ensures ok { IfOk result
         (AppendsFile (P.gives opener.now) (every_of task.entry) name.now (O.contents out.old) (O.contents out.new)) }
     ensures err { OnErr result
@@ -177,6 +187,10 @@ fn run_opened<P: Opener, A: Aside, O: Write>(
     };
     let window = Window::from_start(bytes, start, task.window);
     let Ok(mut space) = Paged::new(task.alloc, window) else {
+        let outcome = Outcome::Failed(Failure::Memory);
+        return put_run(task.form, name, outcome, b"", b"", out);
+    };
+    let Some(kept) = kept else {
         let outcome = Outcome::Failed(Failure::Memory);
         return put_run(task.form, name, outcome, b"", b"", out);
     };

@@ -8,7 +8,7 @@ ghost use Rattle.jobs.specs.Jobs.{DueNamed};
 
 use crate::aside::Aside;
 use crate::ending::Ending;
-use crate::file_run::{Task, flush, kept_for, run_name};
+use crate::file_run::{Task, flush, run_name, store_for};
 use crate::names::{ListFault, read_name};
 use crate::opener::Opener;
 use command_line::request::FileNames;
@@ -76,7 +76,7 @@ fn run_words<P: Opener, A: Aside, O: Write>(
     ensures { HoldsWords (P.gives opener.now) (every_of task.entry) words.now
         (O.contents out.old) (O.contents out.new) result }
 {
-    let mut kept = kept_for(task)?;
+    let mut kept = store_for(task);
     let mut greatest = Status::Done;
     for word in words {
         let name = opener.file_name(word)?;
@@ -101,7 +101,7 @@ fn run_list<P: Opener, L: Read + Drop, A: Aside, O: Write>(
     let Ok(mut list) = BufReader::new(task.alloc, list) else {
         return Err(ListFault::Memory);
     };
-    let mut kept = kept_for(task)?;
+    let mut kept = store_for(task);
     let mut name = Vec::new(task.alloc);
     let mut greatest = Status::Done;
     for _ in 0..u64::MAX {

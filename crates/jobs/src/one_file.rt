@@ -1,11 +1,12 @@
 //! Mappings of a type of a pickle over a file.
-ghost use Rattle.std.specs.Prelude.{◌≡◌};
+ghost use Rattle.std.specs.Prelude.{◌≡◌, IsTrue};
 ghost use Rattle.bit_space.specs.SpaceView.{Keeps};
 ghost use Rattle.jobs.specs.Aims.{of_mapping};
 ghost use Rattle.jobs.specs.Due.{Holds};
 ghost use Rattle.jobs.specs.Endings.{is_mapped};
 ghost use Rattle.jobs.specs.Given.{AddsMet, MapsSpace};
 ghost use Rattle.jobs.specs.Jobs.{DueFile};
+ghost use Rattle.jobs.specs.Spaces.{MayShow, is_within};
 
 use crate::ending::Ending;
 use crate::fault::FileFault;
@@ -25,6 +26,9 @@ use poke_batch::write::{WriteFault, put};
 use spool::Window;
 use std::alloc::Global;
 use std::io::Write;
+
+/// The reason why what was met before a fault isn't shown.
+const TOO_LONG: &[u8] = b"  what was read before isn't shown: it is longer than --max-output\n";
 
 /// How the name of a pickle's file ends.
 const PICKLE_ENDING: &str = ".pk";
@@ -118,6 +122,9 @@ fn explain_run<S: Space, O: Write>(
     let ended = show_met(run.terms, outcome, reasons.met.as_slice(), out);
     if ended == outcome {
         *why.text = reasons.text;
+        if !is_within(run.terms.most_output, &reasons.met) {
+            tell(why.text, TOO_LONG);
+        }
     }
     ended
 }
@@ -126,15 +133,28 @@ fn explain_run<S: Space, O: Write>(
 fn show_met<O: Write>(terms: &Terms, outcome: Outcome, met: &[u8], out: &mut O) -> Outcome
     ensures { AddsMet terms.now outcome (O.contents out.old) (O.contents out.new) result }
 {
-    let Some(_look) = terms.look else {
+    if !may_show(terms, outcome, met) {
         return outcome;
-    };
-    match outcome.status() {
-        Status::Fault => match put(out, met) {
-            Ok(()) => outcome,
-            Err(WriteFault) => Outcome::Failed(Failure::Write),
-        },
-        _ => outcome,
+    }
+    match put(out, met) {
+        Ok(()) => outcome,
+        Err(WriteFault) => Outcome::Failed(Failure::Write),
+    }
+}
+
+// Whether what was met before the fault of a value is shown. It isn't if it is longer than the output may be.
+fn may_show(terms: &Terms, outcome: Outcome, met: &[u8]) -> bool
+    ensures { IsTrue result → MayShow terms.now outcome met.now }
+{
+    terms.look.is_some() && outcome.status() == Status::Fault && is_within(terms.most_output, met)
+}
+
+fn is_within(most: Option<u64>, text: &[u8]) -> bool
+    ensures { result ≡ is_within most text.now }
+{
+    match most {
+        Some(most) => text.len() as u64 <= most,
+        None => true,
     }
 }
 

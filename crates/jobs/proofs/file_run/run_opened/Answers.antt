@@ -42,6 +42,20 @@ returns-in_default-new-clause-err g c =
     (outcome.Failed failure.Memory) [] [] c.put_run-in_default-new.result _ _ (λ e. refl) no_cache
     c.put_run-in_default-new.ensures.err
 
+pub returns-in_default-kept-clause-ok : goal.returns-in_default-kept-clause-ok
+returns-in_default-kept-clause-ok g c =
+    let every = every_of c.args.task in
+    text_written (RunsFile (g.P.Opener.gives c.args.opener.now) every c.args.name.now) every c.args.name.now
+    (outcome.Failed failure.Memory) [] [] c.put_run-in_default-kept.result _ _ (λ e. refl) no_cache
+    c.put_run-in_default-kept.ensures.status c.put_run-in_default-kept.ensures.ok
+
+pub returns-in_default-kept-clause-err : goal.returns-in_default-kept-clause-err
+returns-in_default-kept-clause-err g c =
+    let every = every_of c.args.task in
+    text_cut (RunsFile (g.P.Opener.gives c.args.opener.now) every c.args.name.now) every c.args.name.now
+    (outcome.Failed failure.Memory) [] [] c.put_run-in_default-kept.result _ _ (λ e. refl) no_cache
+    c.put_run-in_default-kept.ensures.err
+
 pub returns-clause-ok : goal.returns-clause-ok
 returns-clause-ok g c =
     let gives = g.P.Opener.gives c.args.opener.now in

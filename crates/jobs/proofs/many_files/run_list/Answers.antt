@@ -15,24 +15,19 @@ use Rattle.jobs.proofs.many_files.run_list.Goals as goal
 
 pub loop-init : goal.loop-init
 loop-init g c = record {
-  ready = c.in_ok-kept.ensures;
+  ready = c.store_for-kept.ensures;
   written = none_written (g.P.Opener.gives c.args.opener.now) (every_of c.args.task) _ _ none_read;
 }
 
 pub returns-in_default : goal.returns-in_default
 returns-in_default g c = whole (files_end (inl refl) none_listed no_files) (Appends-nil _)
 
-pub returns-in_err-kept : goal.returns-in_err-kept
-returns-in_err-kept g c =
-    let p = err_from_is_err_and c.from_residual.result c.from_residual.ensures.1 in
-    rw (p.1, p.2) (whole (files_end (inl refl) none_listed no_files) (Appends-nil _))
-
 pub returns-in_err-flush : goal.returns-in_err-flush
 returns-in_err-flush g c =
     let gives = g.P.Opener.gives c.args.opener.now in
     let is = fresh_reader g.L.Read.remaining c.in-Ok.list c.args.list 8192 c.in-Ok.ensures.inner c.in-Ok.ensures.empty
     c.in-Ok.ensures.capacity refl in
-    let p = err_from_is_err_and c.from_residual-in_err-flush.result c.from_residual-in_err-flush.ensures.1 in
+    let p = err_from_is_err_and c.from_residual.result c.from_residual.ensures.1 in
     rw (p.1, p.2)
     (unflushed_hold gives (every_of c.args.task) _ _ _ _ _ _ c.loop.greatest (λ names read. first_listed is read)
     (kept_written gives (every_of c.args.task) _ _ _ _ c.loop.greatest c.loop.invariant.written

@@ -1,3 +1,4 @@
+use Rattle.std.specs.Prelude.{IfSome}
 use Rattle.std.specs.Io.Buffered.{reader_remaining}
 use Rattle.jobs.specs.Every.{AppendsNamed, IsReadyFor, every_of}
 use Rattle.jobs.specs.Names.{ReadsNames}
@@ -5,7 +6,7 @@ use Rattle.jobs.proofs.many_files.run_list.Given as goal
 
 abbrev pub invariant-loop : goal.invariant-loop
 invariant-loop g l = record {
-  ready : IsReadyFor l.task.work l.kept;
+  ready : IfSome l.kept (IsReadyFor l.task.work);
   written : AppendsNamed (g.P.Opener.gives l.opener) (every_of l.task)
       (ReadsNames (reader_remaining g.L.Read.remaining l.initial.list) (reader_remaining g.L.Read.remaining l.list))
       (g.O.Write.contents l.initial.out) (g.O.Write.contents l.out) l.greatest;

@@ -10,7 +10,7 @@ use Rattle.jobs.proofs.many_files.run_words.Goals as goal
 
 pub loop-word-init : goal.loop-word-init
 loop-word-init g c = record {
-  ready = c.in_ok-kept.ensures;
+  ready = c.store_for-kept.ensures;
   written = none_written (g.P.Opener.gives c.args.opener.now) (every_of c.args.task)
       (AreNamed (g.P.Opener.gives c.args.opener.now).is_name []) _ tt;
 }
@@ -33,19 +33,10 @@ loop-word-preserved g c =
           c.loop-word.invariant.written c.in_ok-status.ensures.ok);
     }
 
-pub returns-in_err-kept : goal.returns-in_err-kept
-returns-in_err-kept g c =
-    let gives = g.P.Opener.gives c.args.opener.now in
-    let p = err_from_is_err_and c.from_residual.result c.from_residual.ensures.1 in
-    rw (p.1, p.2)
-    (first_hold gives (every_of c.args.task) _ _ (AreNamed gives.is_name []) _ _ _ Done Memory
-    (λ names are. named_first gives.is_name c.args.words.now 0 names are) refl
-    (none_written gives (every_of c.args.task) _ _ tt))
-
 pub returns-in_err-name : goal.returns-in_err-name
 returns-in_err-name g c =
     let gives = g.P.Opener.gives c.args.opener.now in
-    let p = err_from_is_err_and c.from_residual-in_err-name.result c.from_residual-in_err-name.ensures.1 in
+    let p = err_from_is_err_and c.from_residual.result c.from_residual.ensures.1 in
     rw (p.1, p.2)
     (first_hold gives (every_of c.args.task) _ _
     (AreNamed gives.is_name (take c.loop-word.word-index c.args.words.now)) _ _ _ c.loop-word.greatest Memory
