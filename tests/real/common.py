@@ -3,9 +3,11 @@
 import importlib
 import json
 import os
+import random
 import re
 import shutil
 import subprocess
+import tempfile
 from contextlib import contextmanager
 from dataclasses import dataclass
 from functools import lru_cache
@@ -45,6 +47,28 @@ def formats(names):
         if not names or any(name == module or name.startswith(f"{module}_") for name in names):
             found |= importlib.import_module(f"readers.{module}").FORMATS
     return {name: found[name] for name in names or found}
+
+
+def files_of(name, form):
+    """The files of a format. They are made in a folder beside, which gets its name when all are there."""
+    if not os.path.isdir(name):
+        shutil.rmtree(f"{name}.new", ignore_errors=True)
+        os.makedirs(f"{name}.new")
+        os.chdir(f"{name}.new")
+        random.seed(1)
+        form.make()
+        os.chdir("..")
+        os.rename(f"{name}.new", name)
+    return sorted(glob(f"{name}/*"))
+
+
+def lines_of(command, files):
+    """The line that a command prints of each file of a list, in order."""
+    with tempfile.TemporaryFile() as listed:
+        listed.write(b"".join(os.fsencode(it) + b"\0" for it in files))
+        listed.seek(0)
+        with subprocess.Popen([*command, "--files0-from", "-"], stdin=listed, stdout=subprocess.PIPE) as running:
+            yield from zip(files, running.stdout, strict=True)
 
 
 def run(*command, **more):
