@@ -77,7 +77,9 @@ impl OwnStreams {
             ) => [
                 Shared::at(rt, OUTPUT),
                 Shared::at(rt, ERRORS),
-                subject.pickle().and_then(|word| Shared::at(rt, path_of(word))),
+                subject
+                    .pickle()
+                    .and_then(|word| Shared::at(rt, path_of(word))),
                 list_in(names).and_then(|path| Shared::at(rt, path_of(path))),
             ],
             Job::Identify(asked) => [
