@@ -46,10 +46,25 @@ impl Style {
 /// How a value is shown to the eye.
 #[derive(Clone, Copy, Debug, Drop, PartialEq, Eq)]
 pub struct Look {
+    /// How numbers are shown, without their types. `None` shows them in decimal and, from 10 on, in hexadecimal too.
+    pub numbers: Option<Numbers>,
+    /// How an array is shown whose element was declared as `char`: as a text, or as a dump of its bytes.
+    pub chars: Chars,
     /// The most elements of an array, and lines of an array of bytes. `None` shows all of them.
     pub elements: Option<u64>,
     /// The most levels of parts below the value. Parts below those are left out. `None` shows all levels.
     pub depth: Option<u64>,
     /// Whether types are written in a dim colour.
     pub dim: bool,
+    /// What is shown beside each part.
+    pub beside: Beside,
+}
+
+/// What is shown beside each part of a value, after its place.
+#[derive(Clone, Copy, Debug, Drop, PartialEq, Eq)]
+pub struct Beside {
+    /// Whether its size is.
+    pub sizes: bool,
+    /// Whether its first bytes in the file are.
+    pub bytes: bool,
 }

@@ -8,11 +8,12 @@ use Rattle.value_store.specs.declared.value.Kind.TheVariants as kind
 use Rattle.pickle_meaning.specs.Values.{Value, Mapped, Label, IntegerLabel, OffsetLabel, TextLabel, ArrayLabel, StructLabel, UnionLabel, Members, NoMembers, MemberThen, AbsentThen, label_of, start_of, end_of, members_of, member_count, member_at}
 use Rattle.value_store.specs.Labels.{kind_of, number_of, unit_of, bytes_of, width_of, signed_of, member_name}
 use Rattle.text_output.specs.Brackets.{in_brackets}
+use Rattle.text_output.specs.declared.style.Look.{Look}
 use Rattle.value_text.specs.LinesText.{any_present}
 use Rattle.value_text.specs.PartTypes.{part_node}
 use Rattle.value_text.specs.ShowWords.{shown_number, shown_offset, shown_string}
 use Rattle.value_text.specs.ShowText.{View, margin, name_cell, found_name, is_array, is_inline, are_inline, inline_text, inline_members, inline_name, separator, is_byte_label, is_number_label, cut_of, at_most, within, rows_text, rest_from, dump_text, shown_rest, shown_parts, show_text}
-use Rattle.value_text.specs.ShowParts.{is_inline_if, whole_text, rest_text, part_text, start_text, all_inline_text, braced_text}
+use Rattle.value_text.specs.ShowParts.{is_inline_if, whole_text, rest_text, part_text, start_text, sight_in, all_inline_text, braced_text}
 use Rattle.value_text.proofs.MemberTexts.{members_from, with_member, from_at, from_end}
 
 rest_is : (view : View) (level : ℕ) (inner : Bool) (of : Option ℕ) (value : Value) →
@@ -20,7 +21,7 @@ rest_is : (view : View) (level : ℕ) (inner : Bool) (of : Option ℕ) (value : 
 rest_is view level inner of (Mapped label start end members) = refl
 
 pub show_is : (view : View) (of : Option ℕ) (value : Value) → show_text view of value ≡ whole_text view of value
-show_is view of value = ap (λ s. margin 0 value ++ s) (rest_is view 0 false of value)
+show_is view of value = ap (λ s. margin view.look view.file 0 value ++ s) (rest_is view 0 false of value)
 
 -- what is cut, and what an element is, by the kind of the value
 pub cut_array : (most : Option ℕ) (label : Label) → kind.Array ≡ kind_of label → cut_of most label ≡ most
@@ -178,85 +179,85 @@ line_union (Mapped (UnionLabel name index alternative) start end _) e = refl
 pub ruleset by_line = (line_integer, line_offset, line_string, line_array, line_struct, line_union)
 
 -- the text of a value on its line
-pub inline_integer : (most : Option ℕ) (v : Value) → kind.Integer ≡ kind_of (label_of v) →
-    inline_text most v ≡ shown_number (number_of (label_of v))
-inline_integer most (Mapped (IntegerLabel number type) start end _) e = refl
-inline_integer most (Mapped (OffsetLabel magnitude type unit) start end _) e = cc
-inline_integer most (Mapped (TextLabel bytes) start end _) e = cc
-inline_integer most (Mapped ArrayLabel start end _) e = cc
-inline_integer most (Mapped (StructLabel name fields) start end _) e = cc
-inline_integer most (Mapped (UnionLabel name index alternative) start end _) e = cc
+pub inline_integer : (look : Look) (v : Value) → kind.Integer ≡ kind_of (label_of v) →
+    inline_text look v ≡ shown_number look.numbers (number_of (label_of v))
+inline_integer look (Mapped (IntegerLabel number type) start end _) e = refl
+inline_integer look (Mapped (OffsetLabel magnitude type unit) start end _) e = cc
+inline_integer look (Mapped (TextLabel bytes) start end _) e = cc
+inline_integer look (Mapped ArrayLabel start end _) e = cc
+inline_integer look (Mapped (StructLabel name fields) start end _) e = cc
+inline_integer look (Mapped (UnionLabel name index alternative) start end _) e = cc
 
-pub inline_offset : (most : Option ℕ) (v : Value) → kind.Offset ≡ kind_of (label_of v) →
-    inline_text most v ≡ shown_offset (unit_of (label_of v)) (number_of (label_of v))
-inline_offset most (Mapped (IntegerLabel number type) start end _) e = cc
-inline_offset most (Mapped (OffsetLabel magnitude type unit) start end _) e = refl
-inline_offset most (Mapped (TextLabel bytes) start end _) e = cc
-inline_offset most (Mapped ArrayLabel start end _) e = cc
-inline_offset most (Mapped (StructLabel name fields) start end _) e = cc
-inline_offset most (Mapped (UnionLabel name index alternative) start end _) e = cc
+pub inline_offset : (look : Look) (v : Value) → kind.Offset ≡ kind_of (label_of v) →
+    inline_text look v ≡ shown_offset look.numbers (unit_of (label_of v)) (number_of (label_of v))
+inline_offset look (Mapped (IntegerLabel number type) start end _) e = cc
+inline_offset look (Mapped (OffsetLabel magnitude type unit) start end _) e = refl
+inline_offset look (Mapped (TextLabel bytes) start end _) e = cc
+inline_offset look (Mapped ArrayLabel start end _) e = cc
+inline_offset look (Mapped (StructLabel name fields) start end _) e = cc
+inline_offset look (Mapped (UnionLabel name index alternative) start end _) e = cc
 
-pub inline_string : (most : Option ℕ) (v : Value) → kind.Text ≡ kind_of (label_of v) →
-    inline_text most v ≡ shown_string most (bytes_of (label_of v))
-inline_string most (Mapped (IntegerLabel number type) start end _) e = cc
-inline_string most (Mapped (OffsetLabel magnitude type unit) start end _) e = cc
-inline_string most (Mapped (TextLabel bytes) start end _) e = refl
-inline_string most (Mapped ArrayLabel start end _) e = cc
-inline_string most (Mapped (StructLabel name fields) start end _) e = cc
-inline_string most (Mapped (UnionLabel name index alternative) start end _) e = cc
+pub inline_string : (look : Look) (v : Value) → kind.Text ≡ kind_of (label_of v) →
+    inline_text look v ≡ shown_string look.elements (bytes_of (label_of v))
+inline_string look (Mapped (IntegerLabel number type) start end _) e = cc
+inline_string look (Mapped (OffsetLabel magnitude type unit) start end _) e = cc
+inline_string look (Mapped (TextLabel bytes) start end _) e = refl
+inline_string look (Mapped ArrayLabel start end _) e = cc
+inline_string look (Mapped (StructLabel name fields) start end _) e = cc
+inline_string look (Mapped (UnionLabel name index alternative) start end _) e = cc
 
-pub inline_array : (most : Option ℕ) (v : Value) → kind.Array ≡ kind_of (label_of v) → inline_text most v ≡ []
-inline_array most (Mapped (IntegerLabel number type) start end _) e = cc
-inline_array most (Mapped (OffsetLabel magnitude type unit) start end _) e = cc
-inline_array most (Mapped (TextLabel bytes) start end _) e = cc
-inline_array most (Mapped ArrayLabel start end _) e = refl
-inline_array most (Mapped (StructLabel name fields) start end _) e = cc
-inline_array most (Mapped (UnionLabel name index alternative) start end _) e = cc
+pub inline_array : (look : Look) (v : Value) → kind.Array ≡ kind_of (label_of v) → inline_text look v ≡ []
+inline_array look (Mapped (IntegerLabel number type) start end _) e = cc
+inline_array look (Mapped (OffsetLabel magnitude type unit) start end _) e = cc
+inline_array look (Mapped (TextLabel bytes) start end _) e = cc
+inline_array look (Mapped ArrayLabel start end _) e = refl
+inline_array look (Mapped (StructLabel name fields) start end _) e = cc
+inline_array look (Mapped (UnionLabel name index alternative) start end _) e = cc
 
-pub inline_struct : (most : Option ℕ) (v : Value) → kind.Struct ≡ kind_of (label_of v) →
-    inline_text most v ≡ all_inline_text most v
-inline_struct most (Mapped (IntegerLabel number type) start end _) e = cc
-inline_struct most (Mapped (OffsetLabel magnitude type unit) start end _) e = cc
-inline_struct most (Mapped (TextLabel bytes) start end _) e = cc
-inline_struct most (Mapped ArrayLabel start end _) e = cc
-inline_struct most (Mapped (StructLabel name fields) start end _) e = refl
-inline_struct most (Mapped (UnionLabel name index alternative) start end _) e = cc
+pub inline_struct : (look : Look) (v : Value) → kind.Struct ≡ kind_of (label_of v) →
+    inline_text look v ≡ all_inline_text look v
+inline_struct look (Mapped (IntegerLabel number type) start end _) e = cc
+inline_struct look (Mapped (OffsetLabel magnitude type unit) start end _) e = cc
+inline_struct look (Mapped (TextLabel bytes) start end _) e = cc
+inline_struct look (Mapped ArrayLabel start end _) e = cc
+inline_struct look (Mapped (StructLabel name fields) start end _) e = refl
+inline_struct look (Mapped (UnionLabel name index alternative) start end _) e = cc
 
-pub inline_union : (most : Option ℕ) (v : Value) → kind.Union ≡ kind_of (label_of v) →
-    inline_text most v ≡ all_inline_text most v
-inline_union most (Mapped (IntegerLabel number type) start end _) e = cc
-inline_union most (Mapped (OffsetLabel magnitude type unit) start end _) e = cc
-inline_union most (Mapped (TextLabel bytes) start end _) e = cc
-inline_union most (Mapped ArrayLabel start end _) e = cc
-inline_union most (Mapped (StructLabel name fields) start end _) e = cc
-inline_union most (Mapped (UnionLabel name index alternative) start end _) e = refl
+pub inline_union : (look : Look) (v : Value) → kind.Union ≡ kind_of (label_of v) →
+    inline_text look v ≡ all_inline_text look v
+inline_union look (Mapped (IntegerLabel number type) start end _) e = cc
+inline_union look (Mapped (OffsetLabel magnitude type unit) start end _) e = cc
+inline_union look (Mapped (TextLabel bytes) start end _) e = cc
+inline_union look (Mapped ArrayLabel start end _) e = cc
+inline_union look (Mapped (StructLabel name fields) start end _) e = cc
+inline_union look (Mapped (UnionLabel name index alternative) start end _) e = refl
 
 pub ruleset by_inline = (inline_integer, inline_offset, inline_string, inline_array, inline_struct, inline_union)
 
 -- the members on a line, one after the other
-pub inline_present : (most : Option ℕ) (label : Label) (all : Members) (i : ℕ) (first : Bool) (value : Value)
+pub inline_present : (look : Look) (label : Label) (all : Members) (i : ℕ) (first : Bool) (value : Value)
     → i < member_count all → Some value ≡ member_at all i
-    → inline_members most label i first (members_from i all)
-    ≡ ((separator first ++ inline_name (member_name label i)) ++ braced_text most value)
-    ++ inline_members most label (i + 1) false (members_from (i + 1) all)
-inline_present most label all i first value lt is =
-    ap (inline_members most label i first)
+    → inline_members look label i first (members_from i all)
+    ≡ ((separator first ++ inline_name (member_name label i)) ++ braced_text look value)
+    ++ inline_members look label (i + 1) false (members_from (i + 1) all)
+inline_present look label all i first value lt is =
+    ap (inline_members look label i first)
     (from_at all i lt ∙ ap (λ o. with_member o (members_from (i + 1) all)) (sym is))
-    ∙ ap (λ n. ((separator first ++ inline_name (member_name label i)) ++ braced_text most value)
-    ++ inline_members most label n false (members_from (i + 1) all)) (sym (add-one i))
+    ∙ ap (λ n. ((separator first ++ inline_name (member_name label i)) ++ braced_text look value)
+    ++ inline_members look label n false (members_from (i + 1) all)) (sym (add-one i))
 
-pub inline_absent : (most : Option ℕ) (label : Label) (all : Members) (i : ℕ) (first : Bool) → i < member_count all
+pub inline_absent : (look : Look) (label : Label) (all : Members) (i : ℕ) (first : Bool) → i < member_count all
     → None ≡ member_at all i
-    → inline_members most label i first (members_from i all)
-    ≡ inline_members most label (i + 1) first (members_from (i + 1) all)
-inline_absent most label all i first lt is =
-    ap (inline_members most label i first)
+    → inline_members look label i first (members_from i all)
+    ≡ inline_members look label (i + 1) first (members_from (i + 1) all)
+inline_absent look label all i first lt is =
+    ap (inline_members look label i first)
     (from_at all i lt ∙ ap (λ o. with_member o (members_from (i + 1) all)) (sym is))
-    ∙ ap (λ n. inline_members most label n first (members_from (i + 1) all)) (sym (add-one i))
+    ∙ ap (λ n. inline_members look label n first (members_from (i + 1) all)) (sym (add-one i))
 
-pub inline_end : (most : Option ℕ) (label : Label) (all : Members) (i : ℕ) (first : Bool) → member_count all ≤ i →
-    inline_members most label i first (members_from i all) ≡ []
-inline_end most label all i first h = ap (inline_members most label i first) (from_end all i h)
+pub inline_end : (look : Look) (label : Label) (all : Members) (i : ℕ) (first : Bool) → member_count all ≤ i →
+    inline_members look label i first (members_from i all) ≡ []
+inline_end look label all i first h = ap (inline_members look label i first) (from_end all i h)
 
 -- whether the members from a place on go on the line
 pub are_inline_at : (all : Members) (i : ℕ) → i < member_count all →
@@ -281,38 +282,39 @@ below_count None count i h = h
 below_count (Some m) count i h = omega arith
 
 pub parts_present : (view : View) (level : ℕ) (of : Option ℕ) (label : Label) (all : Members) (i : ℕ) (value : Value)
-    → i < at_most (cut_of view.elements label) (member_count all) → Some value ≡ member_at all i
+    → i < at_most (cut_of view.look.elements label) (member_count all) → Some value ≡ member_at all i
     → shown_parts view level of label i (members_from i all)
     ≡ part_text view level of label i value ++ shown_parts view level of label (i + 1) (members_from (i + 1) all)
 parts_present view level of label all i value h is =
-    let here = within_at (cut_of view.elements label) (member_count all) i h in
-    let lt = below_count (cut_of view.elements label) (member_count all) i h in
+    let here = within_at (cut_of view.look.elements label) (member_count all) i h in
+    let lt = below_count (cut_of view.look.elements label) (member_count all) i h in
     ap (shown_parts view level of label i)
     (from_at all i lt ∙ ap (λ o. with_member o (members_from (i + 1) all)) (sym is))
     ∙ shown here
     ∙ ap (λ n. part_text view level of label i value ++ shown_parts view level of label n (members_from (i + 1) all))
     (sym (add-one i))
   where
-    shown : within (cut_of view.elements label) i ≡ true
+    shown : within (cut_of view.look.elements label) i ≡ true
         → shown_parts view level of label i (MemberThen value (members_from (i + 1) all))
         ≡ part_text view level of label i value ++ shown_parts view level of label (suc i) (members_from (i + 1) all)
     shown here = rw here (ap (λ s.
-        (start_text level label i value ++ s) ++ shown_parts view level of label (suc i) (members_from (i + 1) all))
+        (start_text (sight_in view) level label i value ++ s)
+        ++ shown_parts view level of label (suc i) (members_from (i + 1) all))
         (rest_is view level (is_array label) (part_node view.types.nodes of label i) value))
 
 pub parts_absent : (view : View) (level : ℕ) (of : Option ℕ) (label : Label) (all : Members) (i : ℕ)
-    → i < at_most (cut_of view.elements label) (member_count all) → None ≡ member_at all i
+    → i < at_most (cut_of view.look.elements label) (member_count all) → None ≡ member_at all i
     → shown_parts view level of label i (members_from i all)
     ≡ shown_parts view level of label (i + 1) (members_from (i + 1) all)
 parts_absent view level of label all i h is =
     ap (shown_parts view level of label i)
-    (from_at all i (below_count (cut_of view.elements label) (member_count all) i h)
+    (from_at all i (below_count (cut_of view.look.elements label) (member_count all) i h)
     ∙ ap (λ o. with_member o (members_from (i + 1) all)) (sym is))
     ∙ ap (λ n. shown_parts view level of label n (members_from (i + 1) all)) (sym (add-one i))
 
 -- nothing of what is cut off
 cut_off : (view : View) (level : ℕ) (of : Option ℕ) (label : Label) (m i : ℕ) (members : Members) →
-    cut_of view.elements label ≡ Some m → m ≤ i → shown_parts view level of label i members ≡ []
+    cut_of view.look.elements label ≡ Some m → m ≤ i → shown_parts view level of label i members ≡ []
 cut_off view level of label m i NoMembers e h = refl
 cut_off view level of label m i (AbsentThen rest) e h = cut_off view level of label m (suc i) rest e (omega arith)
 cut_off view level of label m i (MemberThen value rest) e h =
@@ -323,11 +325,11 @@ cut_off view level of label m i (MemberThen value rest) e h =
     not_below i m h = grind arith
 
 pub parts_end : (view : View) (level : ℕ) (of : Option ℕ) (label : Label) (all : Members) (i : ℕ) →
-    at_most (cut_of view.elements label) (member_count all) ≤ i →
+    at_most (cut_of view.look.elements label) (member_count all) ≤ i →
     shown_parts view level of label i (members_from i all) ≡ []
-parts_end view level of label all i h = by_most (cut_of view.elements label) refl h
+parts_end view level of label all i h = by_most (cut_of view.look.elements label) refl h
   where
-    by_most : (most : Option ℕ) → cut_of view.elements label ≡ most → at_most most (member_count all) ≤ i →
+    by_most : (most : Option ℕ) → cut_of view.look.elements label ≡ most → at_most most (member_count all) ≤ i →
         shown_parts view level of label i (members_from i all) ≡ []
     by_most None e h = ap (shown_parts view level of label i) (from_end all i h)
     by_most (Some m) e h = elim (cases_lt i m) [
@@ -353,19 +355,20 @@ past_end (MemberThen value rest) (suc i) h = past_end rest i (omega (arith, h))
 past_end (AbsentThen rest) (suc i) h = past_end rest i (omega (arith, h))
 
 -- a dump of all rows, and one that is cut
-pub dump_all : (level : ℕ) (members : Members) →
-    dump_text level None members ≡ rows_text level ((member_count members + 15) / 16) members
-dump_all level members = append-nil (rows_text level ((member_count members + 15) / 16) members)
+pub dump_all : (look : Look) (level : ℕ) (members : Members) →
+    dump_text look level None members ≡ rows_text look level ((member_count members + 15) / 16) members
+dump_all look level members = append-nil (rows_text look level ((member_count members + 15) / 16) members)
 
-pub dump_whole : (level most : ℕ) (members : Members) → (member_count members + 15) / 16 ≤ most →
-    dump_text level (Some most) members ≡ rows_text level ((member_count members + 15) / 16) members
-dump_whole level most members h =
+pub dump_whole : (look : Look) (level most : ℕ) (members : Members) → (member_count members + 15) / 16 ≤ most →
+    dump_text look level (Some most) members ≡ rows_text look level ((member_count members + 15) / 16) members
+dump_whole look level most members h =
     let rows : min ((member_count members + 15) / 16) most ≡ (member_count members + 15) / 16 = omega arith in
     let none : member_at members (16 * most) ≡ None = past_end members (16 * most) (omega arith) in
-    rw (rows, none) (append-nil (rows_text level ((member_count members + 15) / 16) members))
+    rw (rows, none) (append-nil (rows_text look level ((member_count members + 15) / 16) members))
 
-pub dump_cut : (level most : ℕ) (members : Members) → most < (member_count members + 15) / 16 →
-    dump_text level (Some most) members ≡ rows_text level most members ++ rest_from level members (16 * most)
-dump_cut level most members h =
+pub dump_cut : (look : Look) (level most : ℕ) (members : Members) → most < (member_count members + 15) / 16 →
+    dump_text look level (Some most) members
+    ≡ rows_text look level most members ++ rest_from look level members (16 * most)
+dump_cut look level most members h =
     let rows : min ((member_count members + 15) / 16) most ≡ most = omega arith in
     rw rows refl

@@ -1,5 +1,5 @@
 -- Values and the texts that show them, worked out by hand, against the definition.
-use Rattle.std.proofs.Common.{◌≡◌, ℕ, zero, suc, ◌+◌, pos, negsuc, refl, true, false, List, codes, [], ◌∷◌, ◌++◌, Some, None}
+use Rattle.std.proofs.Common.{◌≡◌, ℕ, zero, suc, ◌+◌, pos, negsuc, refl, Bool, true, false, List, codes, [], ◌∷◌, ◌++◌, Option, Some, None}
 use Rattle.std.specs.Fmt.{digits}
 use Rattle.pickle_types.specs.declared.integer.IntegerType.{IntegerType}
 use Rattle.pickle_types.specs.declared.node.Extent.TheVariants as extent
@@ -7,8 +7,13 @@ use Rattle.pickle_types.specs.declared.node.Node.{Node}
 use Rattle.pickle_types.specs.declared.node.Shape.{Shape}
 use Rattle.pickle_types.specs.declared.node.Shape.TheVariants as shape
 use Rattle.pickle_meaning.specs.Values.{Value, Mapped, IntegerLabel, OffsetLabel, TextLabel, ArrayLabel, StructLabel, UnionLabel, Members, NoMembers, MemberThen, AbsentThen}
+use Rattle.text_output.specs.declared.style.Chars.TheVariants as chars
+use Rattle.text_output.specs.declared.style.Beside.{Beside}
+use Rattle.text_output.specs.declared.style.Look.{Look}
+use Rattle.text_output.specs.declared.style.Numbers.TheVariants as form
+use Rattle.value_text.specs.StyledNumbers.{hexadecimal}
 use Rattle.value_text.specs.ValueText.{string_text}
-use Rattle.value_text.specs.ShowWords.{hex_text, byte_place, shown_number, shown_offset, shown_string}
+use Rattle.value_text.specs.ShowWords.{hex_text, byte_place, byte_columns, shown_number, shown_offset, shown_string}
 use Rattle.value_text.specs.TypeWords.{node_word}
 use Rattle.value_text.specs.ShowText.{View, columns, shown_letters, show_text}
 
@@ -18,12 +23,26 @@ unsigned width = record { width = width; signed = false }
 abbrev number : (start width n : ℕ) → Value
 number start width n = Mapped (IntegerLabel (pos n) (unsigned width)) start (start + width) NoMembers
 
+abbrev beside : (sizes bytes : Bool) → Beside
+beside sizes bytes = record { sizes = sizes; bytes = bytes }
+
+abbrev look : (elements depth : Option ℕ) → (dim : Bool) → Look
+look elements depth dim =
+    record {
+      numbers = None;
+      chars = chars.Text;
+      elements = elements;
+      depth = depth;
+      dim = dim;
+      beside = beside false false;
+    }
+
 -- without types
 abbrev bare : View
-bare = record { types = record { nodes = []; letters = None }; elements = Some 16; depth = None; dim = false }
+bare = record { types = record { nodes = []; letters = None }; look = look (Some 16) None false; file = None }
 
 abbrev cut : (most : ℕ) → View
-cut most = record { types = record { nodes = []; letters = None }; elements = Some most; depth = None; dim = false }
+cut most = record { types = record { nodes = []; letters = None }; look = look (Some most) None false; file = None }
 
 -- a place in bytes, and a number that is the same in hexadecimal
 small_number : show_text bare None (number 48 8 5) ≡ codes "00000006    = 5\n"
@@ -35,15 +54,62 @@ within_a_byte : show_text bare None (number 132 12 308) ≡ codes "00000010.4  =
 unfolding shown_number byte_place hex_text digits
 within_a_byte = refl
 
-ten : shown_number (pos 10) ≡ codes "10 0xa"
+-- one form alone
+hexadecimal_alone : shown_number (Some form.Hexadecimal) (pos 308) ≡ codes "0x134"
+unfolding shown_number hexadecimal
+hexadecimal_alone = refl
+
+decimal_alone : shown_number (Some form.Decimal) (pos 308) ≡ codes "308"
+unfolding shown_number digits
+decimal_alone = refl
+
+below_zero : shown_offset (Some form.Hexadecimal) 8 (negsuc 15) ≡ codes "-0x10 B"
+unfolding shown_offset shown_number hexadecimal
+below_zero = refl
+
+-- sizes: 12 bits, and two bytes of a dump, whose line has none
+abbrev with_sizes : View
+with_sizes = record bare { look = record bare.look { beside = beside true false } }
+
+a_size : show_text with_sizes None (number 132 12 5) ≡ codes "00000010.4 00000001.4  = 5\n"
+unfolding shown_number byte_place hex_text digits
+a_size = refl
+
+dump_size : show_text with_sizes None
+    (Mapped ArrayLabel 8 24 (MemberThen (number 8 8 65) (MemberThen (number 16 8 66) NoMembers)))
+    ≡ codes
+    "00000001   00000002    [2]\n00000001                 4142                                     AB\n"
+unfolding byte_place hex_text columns shown_letters digits
+dump_size = refl
+
+-- bytes: those of 12 bits that two bytes hold, of a string of more than eight, and of a part that the bytes don't have
+abbrev with_bytes : View
+with_bytes = record bare {
+  look = record bare.look { beside = beside false true };
+  file = Some (record { from = 1; bytes = 65 ∷ 10 ∷ 255 ∷ 1 ∷ 2 ∷ 3 ∷ 4 ∷ 5 ∷ 6 ∷ 7 ∷ [] });
+}
+
+two_bytes : show_text with_bytes None (number 12 8 5) ≡ codes "00000001.4 410a                = 5\n"
+unfolding shown_number byte_place hex_text byte_columns digits
+two_bytes = refl
+
+eight_bytes : show_text with_bytes None (number 8 72 5) ≡ codes "00000001   410aff0102030405..  = 5\n"
+unfolding shown_number byte_place hex_text byte_columns digits
+eight_bytes = refl
+
+other_bytes : show_text with_bytes None (number 80 16 5) ≡ codes "0000000a   07                  = 5\n"
+unfolding shown_number byte_place hex_text byte_columns digits
+other_bytes = refl
+
+ten : shown_number None (pos 10) ≡ codes "10 0xa"
 unfolding shown_number hex_text digits
 ten = refl
 
-largest : shown_number (pos 18446744073709551615) ≡ codes "18446744073709551615 0xffffffffffffffff"
+largest : shown_number None (pos 18446744073709551615) ≡ codes "18446744073709551615 0xffffffffffffffff"
 unfolding shown_number hex_text digits
 largest = refl
 
-negative : shown_number (negsuc 299) ≡ codes "-300"
+negative : shown_number None (negsuc 299) ≡ codes "-300"
 unfolding shown_number digits
 negative = refl
 
@@ -53,23 +119,23 @@ unfolding byte_place hex_text
 far = refl
 
 -- offsets in bytes, in bits, and in a unit of its own
-bytes : shown_offset 8 (pos 2) ≡ codes "2 B"
+bytes : shown_offset None 8 (pos 2) ≡ codes "2 B"
 unfolding shown_offset shown_number digits
 bytes = refl
 
-few_bits : shown_offset 1 (pos 3) ≡ codes "3 b"
+few_bits : shown_offset None 1 (pos 3) ≡ codes "3 b"
 unfolding shown_offset shown_number digits
 few_bits = refl
 
-bits : shown_offset 1 (pos 27) ≡ codes "27 0x1b b, 3 B 3 b"
+bits : shown_offset None 1 (pos 27) ≡ codes "27 0x1b b, 3 B 3 b"
 unfolding shown_offset shown_number hex_text digits
 bits = refl
 
-sectors : shown_offset 4096 (pos 4) ≡ codes "4 of 4096 b, 2048 0x800 B"
+sectors : shown_offset None 4096 (pos 4) ≡ codes "4 of 4096 b, 2048 0x800 B"
 unfolding shown_offset shown_number hex_text digits
 sectors = refl
 
-negative_offset : shown_offset 1 (negsuc 8) ≡ codes "-9 b"
+negative_offset : shown_offset None 1 (negsuc 8) ≡ codes "-9 b"
 unfolding shown_offset shown_number digits
 negative_offset = refl
 
@@ -122,7 +188,8 @@ union_of_struct = refl
 
 -- levels of parts that are left out: all, and those below the first
 abbrev deep : (most : ℕ) → View
-deep most = record { types = record { nodes = []; letters = None }; elements = Some 16; depth = Some most; dim = false }
+deep most =
+    record { types = record { nodes = []; letters = None }; look = look (Some 16) (Some most) false; file = None }
 
 abbrev nest : Value
 nest = Mapped (StructLabel None (Some (codes "a") ∷ Some (codes "b") ∷ Some (codes "c") ∷ [])) 0 64
@@ -207,7 +274,7 @@ types = node_of (shape.Integer (unsigned 8))
     ∷ []
 
 abbrev typed : View
-typed = record { types = record { nodes = types; letters = Some 0 }; elements = Some 16; depth = None; dim = false }
+typed = record { types = record { nodes = types; letters = Some 0 }; look = look (Some 16) None false; file = None }
 
 -- an array of `char` as a text, without the zeros at its end
 a_text : show_text typed (Some 1) (Mapped ArrayLabel 0 48 (bytes_from 0 0 (codes "boot" ++ 0 ∷ 0 ∷ [])))
@@ -229,7 +296,7 @@ an_offset = refl
 
 -- a type in a dim colour
 dim_type : show_text
-    (record { types = record { nodes = types; letters = Some 0 }; elements = None; depth = None; dim = true })
+    (record { types = record { nodes = types; letters = Some 0 }; look = look None None true; file = None })
     (Some 2) (number 0 8 7)
     ≡ codes "00000000    " ++ 27 ∷ codes "[2mbyte" ++ 27 ∷ codes "[22m = 7\n"
 unfolding node_word shown_number byte_place hex_text digits

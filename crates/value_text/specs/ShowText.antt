@@ -6,27 +6,34 @@ use Rattle.pickle_meaning.specs.Values.{Naming, Label, IntegerLabel, OffsetLabel
 use Rattle.value_store.specs.Labels.{kind_of, member_name}
 use Rattle.text_output.specs.Brackets.{in_brackets}
 use Rattle.text_output.specs.HexDigits.{hex_digit}
+use Rattle.text_output.specs.declared.style.Chars.TheVariants as chars
+use Rattle.text_output.specs.declared.style.Chars.{Chars}
+use Rattle.text_output.specs.declared.style.Look.{Look}
 use Rattle.value_text.specs.CharTexts.{has_chars, char_of, chars_in, trimmed}
 use Rattle.value_text.specs.LinesText.{any_present}
 use Rattle.value_text.specs.PartTypes.{part_node}
-use Rattle.value_text.specs.ShowWords.{place_text, shown_number, shown_offset, shown_string, left_out}
+use Rattle.value_text.specs.ShowWords.{place_text, size_cell, no_size_cell, FileBytes, file_cell, no_file_cell, shown_number, shown_offset, shown_string, left_out}
 use Rattle.value_text.specs.ValueText.{string_text}
 use Rattle.value_text.specs.TreeText.{indent_text, has_parts}
 use Rattle.value_text.specs.TypeWords.{Known, is_byte, type_word}
 
--- how a value is shown
+-- how a value is shown, by which types, and beside which bytes of its file
 pub record View : Type 0 where
   pub types : Known
-  -- the most elements of an array, and lines of its bytes
-  pub elements : Option ℕ
-  -- the most levels of parts below the value
-  pub depth : Option ℕ
-  -- whether types are written in a dim colour
-  pub dim : Bool
+  pub look : Look
+  pub file : Option FileBytes
 
 -- what a line of a part begins with
-abbrev pub margin : (level : ℕ) → Value → List ℕ
-margin level value = place_text (start_of value) ++ (indent_text level ++ codes " ")
+abbrev pub margin : Look → Option FileBytes → (level : ℕ) → Value → List ℕ
+margin look file level value = place_text (start_of value)
+    ++ (size_cell look.beside.sizes (end_of value - start_of value)
+    ++ (file_cell look.beside.bytes file (start_of value) (end_of value - start_of value)
+    ++ (indent_text level ++ codes " ")))
+
+-- the same of a line for many parts, at the first of them
+abbrev pub margin_of_many : Look → (level : ℕ) → Value → List ℕ
+margin_of_many look level first = place_text (start_of first)
+    ++ (no_size_cell look.beside.sizes ++ (no_file_cell look.beside.bytes ++ (indent_text level ++ codes " ")))
 
 -- around what is written in a dim colour: ESC [ 2 m and ESC [ 22 m
 abbrev pub dim_start : (dim : Bool) → List ℕ
@@ -91,24 +98,24 @@ closing value = if has_parts (kind_of (label_of value)) then codes "}" else []
 
 abbrev mutual
   -- a value on the line of its name
-  pub inline_text : (most : Option ℕ) → Value → List ℕ
-  inline_text most (Mapped (IntegerLabel number type) start end _) = shown_number number
-  inline_text most (Mapped (OffsetLabel magnitude type unit) start end _) = shown_offset unit magnitude
-  inline_text most (Mapped (TextLabel bytes) start end _) = shown_string most bytes
-  inline_text most (Mapped ArrayLabel start end _) = []
-  inline_text most (Mapped (StructLabel name fields) start end members) =
-      inline_members most (StructLabel name fields) 0 true members
-  inline_text most (Mapped (UnionLabel name index alternative) start end members) =
-      inline_members most (UnionLabel name index alternative) 0 true members
+  pub inline_text : Look → Value → List ℕ
+  inline_text look (Mapped (IntegerLabel number type) start end _) = shown_number look.numbers number
+  inline_text look (Mapped (OffsetLabel magnitude type unit) start end _) = shown_offset look.numbers unit magnitude
+  inline_text look (Mapped (TextLabel bytes) start end _) = shown_string look.elements bytes
+  inline_text look (Mapped ArrayLabel start end _) = []
+  inline_text look (Mapped (StructLabel name fields) start end members) =
+      inline_members look (StructLabel name fields) 0 true members
+  inline_text look (Mapped (UnionLabel name index alternative) start end members) =
+      inline_members look (UnionLabel name index alternative) 0 true members
 
   -- the present members from a place on, each after its name if it has one
-  pub inline_members : (most : Option ℕ) → Label → (place : ℕ) (first : Bool) → Members → List ℕ
-  inline_members most label place first NoMembers = []
-  inline_members most label place first (AbsentThen rest) = inline_members most label (suc place) first rest
-  inline_members most label place first (MemberThen value rest) =
+  pub inline_members : Look → Label → (place : ℕ) (first : Bool) → Members → List ℕ
+  inline_members look label place first NoMembers = []
+  inline_members look label place first (AbsentThen rest) = inline_members look label (suc place) first rest
+  inline_members look label place first (MemberThen value rest) =
       ((separator first ++ inline_name (member_name label place))
-      ++ (opening value ++ (inline_text most value ++ closing value)))
-      ++ inline_members most label (suc place) false rest
+      ++ (opening value ++ (inline_text look value ++ closing value)))
+      ++ inline_members look label (suc place) false rest
 
 -- whether a value is an unsigned integer of 8 bits
 abbrev pub is_byte_label : Label → Bool
@@ -188,38 +195,41 @@ unfoldable pub shown_letters : Members → (from : ℕ) → List ℕ
 shown_letters members from = flat_map (shown_letter members from) (range_with_len 0 16)
 
 -- up to 16 bytes, from an element on
-abbrev pub row_text : (level : ℕ) → Members → (from : ℕ) → Option Value → List ℕ
-row_text level _ from None = []
-row_text level members from (Some first) =
-    margin level first ++ (columns members from ++ (codes "  " ++ (shown_letters members from ++ codes "\n")))
+abbrev pub row_text : Look → (level : ℕ) → Members → (from : ℕ) → Option Value → List ℕ
+row_text look level _ from None = []
+row_text look level members from (Some first) =
+    margin_of_many look level first
+    ++ (columns members from ++ (codes "  " ++ (shown_letters members from ++ codes "\n")))
 
-abbrev pub row_at : (level : ℕ) → Members → (row : ℕ) → List ℕ
-row_at level members row = row_text level members (16 * row) (member_at members (16 * row))
+abbrev pub row_at : Look → (level : ℕ) → Members → (row : ℕ) → List ℕ
+row_at look level members row = row_text look level members (16 * row) (member_at members (16 * row))
 
 abbrev pub at_most : Option ℕ → ℕ → ℕ
 at_most None count = count
 at_most (Some most) count = min count most
 
-abbrev pub rows_text : (level : ℕ) → (count : ℕ) → Members → List ℕ
-rows_text level count members = flat_map (row_at level members) (range_with_len 0 count)
+abbrev pub rows_text : Look → (level : ℕ) → (count : ℕ) → Members → List ℕ
+rows_text look level count members = flat_map (row_at look level members) (range_with_len 0 count)
 
 -- the line for elements that are left out, at the first of them
-abbrev pub rest_line : (level : ℕ) → (count : ℕ) → Option Value → List ℕ
-rest_line level count None = []
-rest_line level count (Some first) = margin level first ++ (codes " " ++ (left_out count ++ codes "\n"))
+abbrev pub rest_line : Look → (level : ℕ) → (count : ℕ) → Option Value → List ℕ
+rest_line look level count None = []
+rest_line look level count (Some first) =
+    margin_of_many look level first ++ (codes " " ++ (left_out count ++ codes "\n"))
 
 -- the line for the elements from a place on
-abbrev pub rest_from : (level : ℕ) → Members → (place : ℕ) → List ℕ
-rest_from level members place = rest_line level (member_count members - place) (member_at members place)
+abbrev pub rest_from : Look → (level : ℕ) → Members → (place : ℕ) → List ℕ
+rest_from look level members place = rest_line look level (member_count members - place) (member_at members place)
 
-abbrev pub rest_of : (level unit : ℕ) → (most : Option ℕ) → Members → List ℕ
-rest_of level unit None _ = []
-rest_of level unit (Some most) members = rest_from level members (unit * most)
+abbrev pub rest_of : Look → (level unit : ℕ) → (most : Option ℕ) → Members → List ℕ
+rest_of look level unit None _ = []
+rest_of look level unit (Some most) members = rest_from look level members (unit * most)
 
 -- the lines of an array of bytes, 16 in a line
-abbrev pub dump_text : (level : ℕ) → (most : Option ℕ) → Members → List ℕ
-dump_text level most members =
-    rows_text level (at_most most ((member_count members + 15) / 16)) members ++ rest_of level 16 most members
+abbrev pub dump_text : Look → (level : ℕ) → (most : Option ℕ) → Members → List ℕ
+dump_text look level most members =
+    rows_text look level (at_most most ((member_count members + 15) / 16)) members
+    ++ rest_of look level 16 most members
 
 -- whether a part at a place isn't cut off
 abbrev pub within : (most : Option ℕ) → (place : ℕ) → Bool
@@ -240,11 +250,15 @@ abbrev pub are_few : (most : Option ℕ) → (count : ℕ) → Bool
 are_few None count = true
 are_few (Some most) count = nat_le count (16 * most)
 
+abbrev pub are_texts : Chars → Bool
+are_texts chars.Numbers = false
+are_texts chars.Text = true
+
 -- whether an array of a type is shown as a text
-abbrev pub is_text : View → (of : Option ℕ) → Label → Members → Bool
-is_text view of label members =
-    has_chars view.types.letters (part_node view.types.nodes of label 0) label
-    && are_few view.elements (member_count members)
+abbrev pub is_text : Look → Known → (of : Option ℕ) → Label → Members → Bool
+is_text look types of label members =
+    are_texts look.chars && has_chars types.letters (part_node types.nodes of label 0) label
+    && are_few look.elements (member_count members)
 
 -- an array of characters as a text without the zeros at its end
 abbrev pub text_of : Members → List ℕ
@@ -254,38 +268,38 @@ text_of members = string_text (trimmed (chars_in members))
 abbrev pub bytes_body : View → (level : ℕ) → (text : Bool) → Members → List ℕ
 bytes_body view level true members = value_cell (text_of members)
 bytes_body view level false members =
-    if is_below view.depth (level + 1) then left_below
-    else codes "\n" ++ dump_text (level + 1) view.elements members
+    if is_below view.look.depth (level + 1) then left_below
+    else codes "\n" ++ dump_text view.look (level + 1) view.look.elements members
 
 -- whether the parts of a value at a level are left out, if it has any
 abbrev pub leaves_below : View → (level : ℕ) → Members → Bool
-leaves_below view level members = is_below view.depth (level + 1) && any_present members
+leaves_below view level members = is_below view.look.depth (level + 1) && any_present members
 
 abbrev mutual
   -- what is after the name of a value, and the lines of its parts below it
   pub shown_rest : View → (level : ℕ) (inner : Bool) (of : Option ℕ) → Value → List ℕ
   shown_rest view level inner of (Mapped label start end members) =
-      type_cell view.dim (type_word view.types inner of label (member_count members))
+      type_cell view.look.dim (type_word view.types inner of label (member_count members))
       ++ (if is_inline (Mapped label start end members)
-      then value_cell (inline_text view.elements (Mapped label start end members))
-      else if is_bytes label members then bytes_body view level (is_text view of label members) members
-      else if is_number_row view.elements (Mapped label start end members)
-      then value_cell (inline_members view.elements label 0 true members)
+      then value_cell (inline_text view.look (Mapped label start end members))
+      else if is_bytes label members then bytes_body view level (is_text view.look view.types of label members) members
+      else if is_number_row view.look.elements (Mapped label start end members)
+      then value_cell (inline_members view.look label 0 true members)
       else if leaves_below view level members then left_below
       else codes "\n" ++ (shown_parts view (level + 1) of label 0 members
-      ++ rest_of (level + 1) 1 (cut_of view.elements label) members))
+      ++ rest_of view.look (level + 1) 1 (cut_of view.look.elements label) members))
 
   -- the lines of the present members from a place on
   pub shown_parts : View → (level : ℕ) (of : Option ℕ) → Label → (place : ℕ) → Members → List ℕ
   shown_parts view level of label place NoMembers = []
   shown_parts view level of label place (AbsentThen rest) = shown_parts view level of label (suc place) rest
   shown_parts view level of label place (MemberThen value rest) =
-      (if within (cut_of view.elements label) place
-      then (margin level value ++ name_cell label place)
+      (if within (cut_of view.look.elements label) place
+      then (margin view.look view.file level value ++ name_cell label place)
       ++ shown_rest view level (is_array label) (part_node view.types.nodes of label place) value
       else [])
       ++ shown_parts view level of label (suc place) rest
 
 -- the whole output
 abbrev pub show_text : View → (of : Option ℕ) → Value → List ℕ
-show_text view of value = margin 0 value ++ shown_rest view 0 false of value
+show_text view of value = margin view.look view.file 0 value ++ shown_rest view 0 false of value

@@ -1,8 +1,11 @@
 -- The words of a shown value: where it is, and its number, offset or string.
-use Rattle.std.specs.Prelude.{ℕ, zero, suc, ◌*◌, ◌-◌, ◌/◌, ◌%◌, ◌^◌, ◌+◌, ℤ, pos, negsuc, Bool, List, [], ◌∷◌, ◌++◌, Option, Some, None, ◌==◌, nat_lt, if◌then◌else◌, codes, decimal, take, drop, length}
+use Rattle.std.specs.Prelude.{ℕ, zero, suc, ◌*◌, ◌-◌, ◌/◌, ◌%◌, ◌^◌, ◌+◌, ℤ, pos, negsuc, Bool, true, false, List, [], ◌∷◌, ◌++◌, Option, Some, None, ◌==◌, nat_lt, slice_get, if◌then◌else◌, codes, decimal, take, drop, length}
 use Rattle.std.specs.Fmt.{signed_decimal}
-use Rattle.std.specs.List.{prefix_len}
+use Rattle.std.specs.List.{prefix_len, flat_map, range_with_len}
 use Rattle.text_output.specs.HexDigits.{hex_digit}
+use Rattle.text_output.specs.declared.style.Numbers.{Numbers}
+use Rattle.text_output.specs.declared.style.Numbers.TheVariants.{Decimal, Hexadecimal, Digits}
+use Rattle.value_text.specs.StyledNumbers.{signed_hex}
 use Rattle.value_text.specs.ValueText.{string_text}
 
 -- the last hexadecimal digits of a number, so many
@@ -29,6 +32,65 @@ bit_place bit = if bit == 0 then codes "  " else codes "." ++ (48 + bit) ∷ []
 abbrev pub place_text : (start : ℕ) → List ℕ
 place_text start = byte_place (start / 8) ++ bit_place (start % 8)
 
+-- the size of a part after its place, in the same form, if sizes are shown; blanks for a line that is no part
+abbrev pub size_cell : (sizes : Bool) → (size : ℕ) → List ℕ
+size_cell false size = []
+size_cell true size = codes " " ++ place_text size
+
+abbrev pub no_size_cell : (sizes : Bool) → List ℕ
+no_size_cell false = []
+no_size_cell true = codes "           "
+
+-- some bytes of a file: the place of the first of them, and these bytes
+pub record FileBytes : Type 0 where
+  pub from : ℕ
+  pub bytes : List ℕ
+
+-- the byte of the file at a place, if it is among them
+abbrev pub byte_at : FileBytes → (place : ℕ) → Option ℕ
+byte_at file place = if nat_lt place file.from then None else slice_get file.bytes (place - file.from)
+
+-- the byte after those that so many bits from a start on touch
+abbrev pub byte_after : (start size : ℕ) → ℕ
+byte_after start size = (start + size + 7) / 8
+
+-- one of the bytes that a part takes
+abbrev pub part_byte : FileBytes → (start size i : ℕ) → Option ℕ
+part_byte file start size i =
+    if nat_lt (start / 8 + i) (byte_after start size) then byte_at file (start / 8 + i) else None
+
+-- two digits for a byte, blanks if there is none
+abbrev pub two_digits : Option ℕ → List ℕ
+two_digits None = codes "  "
+two_digits (Some byte) = hex_digit (byte / 16) ∷ hex_digit (byte % 16) ∷ []
+
+abbrev pub byte_column : FileBytes → (start size i : ℕ) → List ℕ
+byte_column file start size i = two_digits (part_byte file start size i)
+
+unfoldable pub byte_columns : FileBytes → (start size : ℕ) → List ℕ
+byte_columns file start size = flat_map (byte_column file start size) (range_with_len 0 8)
+
+-- whether a part takes more bytes
+abbrev pub more_bytes : (start size : ℕ) → List ℕ
+more_bytes start size = if nat_lt (start / 8 + 8) (byte_after start size) then codes ".." else codes "  "
+
+abbrev pub no_bytes : List ℕ
+no_bytes = codes "                   "
+
+-- the first eight bytes that a part takes after its place, if bytes are shown; blanks for a line that is no part, and
+-- where the file isn't known
+abbrev pub bytes_cell_of : Option FileBytes → (start size : ℕ) → List ℕ
+bytes_cell_of None start size = no_bytes
+bytes_cell_of (Some file) start size = codes " " ++ (byte_columns file start size ++ more_bytes start size)
+
+abbrev pub file_cell : (shown : Bool) → Option FileBytes → (start size : ℕ) → List ℕ
+file_cell false file start size = []
+file_cell true file start size = bytes_cell_of file start size
+
+abbrev pub no_file_cell : (shown : Bool) → List ℕ
+no_file_cell false = []
+no_file_cell true = no_bytes
+
 -- a number as one that fits in 64 bits
 abbrev pub natural_of : ℤ → Option ℕ
 natural_of (pos n) = if nat_lt n (2 ^ 64) then Some n else None
@@ -39,8 +101,12 @@ abbrev pub hex_cell : Option ℕ → List ℕ
 hex_cell None = []
 hex_cell (Some n) = if nat_lt n 10 then [] else codes " 0x" ++ hex_text n
 
-unfoldable pub shown_number : ℤ → List ℕ
-shown_number number = signed_decimal number ++ hex_cell (natural_of number)
+-- in the form that is given, or else in decimal with hexadecimal after it
+unfoldable pub shown_number : Option Numbers → ℤ → List ℕ
+shown_number None number = signed_decimal number ++ hex_cell (natural_of number)
+shown_number (Some Decimal) number = signed_decimal number
+shown_number (Some Hexadecimal) number = signed_hex number
+shown_number (Some Digits) number = signed_decimal number
 
 -- the unit after a magnitude
 abbrev pub unit_cell : (unit : ℕ) → List ℕ
@@ -54,18 +120,19 @@ abbrev pub bits_after : ℕ → List ℕ
 bits_after bits = if bits == 0 then [] else codes " " ++ (decimal bits ++ codes " b")
 
 -- so many bits in bytes, from one byte on
-abbrev pub bytes_cell : (bits : ℕ) → List ℕ
-bytes_cell bits =
+abbrev pub bytes_cell : Option Numbers → (bits : ℕ) → List ℕ
+bytes_cell numbers bits =
     if nat_lt bits 8 then []
-    else codes ", " ++ (shown_number (pos (bits / 8)) ++ (codes " B" ++ bits_after (bits % 8)))
+    else codes ", " ++ (shown_number numbers (pos (bits / 8)) ++ (codes " B" ++ bits_after (bits % 8)))
 
 -- an offset in bytes, unless its unit is the byte or it is negative
-abbrev pub in_bytes : (unit : ℕ) → Option ℕ → List ℕ
-in_bytes unit None = []
-in_bytes unit (Some n) = if unit == 8 then [] else bytes_cell (n * unit)
+abbrev pub in_bytes : Option Numbers → (unit : ℕ) → Option ℕ → List ℕ
+in_bytes numbers unit None = []
+in_bytes numbers unit (Some n) = if unit == 8 then [] else bytes_cell numbers (n * unit)
 
-unfoldable pub shown_offset : (unit : ℕ) → (magnitude : ℤ) → List ℕ
-shown_offset unit magnitude = shown_number magnitude ++ (unit_cell unit ++ in_bytes unit (natural_of magnitude))
+unfoldable pub shown_offset : Option Numbers → (unit : ℕ) → (magnitude : ℤ) → List ℕ
+shown_offset numbers unit magnitude =
+    shown_number numbers magnitude ++ (unit_cell unit ++ in_bytes numbers unit (natural_of magnitude))
 
 -- how many elements or bytes are left out
 abbrev pub left_out : ℕ → List ℕ

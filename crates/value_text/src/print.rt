@@ -26,14 +26,14 @@ ghost use Rattle.value_store.specs.Refs.{value_shown};
 ghost use Rattle.text_output.specs.Written.{AppendsPart};
 ghost use Rattle.value_text.specs.Puts.{Puts};
 ghost use Rattle.value_text.specs.Printed.{printed};
-ghost use Rattle.value_text.specs.ShowParts.{shown_at};
+ghost use Rattle.value_text.specs.ShowParts.{shown_at, sight_of};
 ghost use Rattle.value_text.specs.JsonText.{json_string};
 ghost use Rattle.value_text.specs.Styled.{styled, with_chars_in, typed_printed};
 ghost use Rattle.value_text.specs.Cells.{cell, typed_cell};
 ghost use Rattle.value_text.specs.TypedValue.{typed_shown};
 
 use crate::mode::Mode;
-use crate::style::{Chars, Look, Style};
+use crate::style::{Chars, Style};
 use crate::typed::{Typed, Types};
 use escape::Escapes;
 use flat::Flat;
@@ -41,6 +41,7 @@ use json::Json;
 pub use json_string::print_json_string;
 use line::Line;
 use printer::Printer;
+use show::Sight;
 use std::io::Write;
 use text_output::write::WriteFault;
 use value_store::ValueRef;
@@ -79,16 +80,22 @@ pub fn print_styled<W: Write>(
 
 /// Prints a value beside its type for the eye. If the writer fails, what it accepted is the first bytes of the text, but
 /// not all of them. The text may change between versions.
-pub fn print_shown<W: Write>(value: Typed<'_>, look: Look, w: &mut W) -> Result<(), WriteFault>
-    ensures ok { OnOk result (Appends (W.contents w.old) (W.contents w.new) (shown_at look value.entry)) }
-    ensures err { OnErr result (AppendsPart (W.contents w.old) (W.contents w.new) (shown_at look value.entry)) }
+pub fn print_shown<W: Write>(
+    value: Typed<'_>,
+    sight: Sight<'_>,
+    w: &mut W,
+) -> Result<(), WriteFault>
+    ensures ok { OnOk result
+        (Appends (W.contents w.old) (W.contents w.new) (shown_at (sight_of sight.entry) value.entry)) }
+    ensures err { OnErr result
+        (AppendsPart (W.contents w.old) (W.contents w.new) (shown_at (sight_of sight.entry) value.entry)) }
 {
     let mut printer = Printer {
         writer: w,
         line: Line::new(),
         failed: false,
     };
-    printer.put_show(look, value);
+    printer.put_show(sight, value);
     printer.finish()
 }
 

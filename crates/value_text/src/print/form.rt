@@ -66,7 +66,7 @@ pub trait Form {
     )
         ensures { Puts W.contents printer.old printer.new (comma first ++ notation.key (lent_name name.entry) place) };
 
-    /// Writes what stands for so many elements that are left out.
+    /// Writes what replaces so many elements that are left out.
     fn put_more<W: Write>(printer: &mut Printer<'_, W>, left: usize)
         ensures { Puts W.contents printer.old printer.new (notation.more left) };
 

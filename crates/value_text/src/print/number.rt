@@ -39,7 +39,7 @@ impl<W: Write> Printer<'_, W> {
         self.put_unit_in(numbers, unit);
     }
 
-    // Writes what is behind a magnitude.
+    // Writes what is after a magnitude.
     #[tactic(auto, using(crate::proofs::Puts::puts), unfolding(crate::specs::StyledNumbers::unit_in))]
     fn put_unit_in(&mut self, numbers: Numbers, unit: u32)
         ensures { Puts W.contents self.old self.new (unit_in numbers unit) }

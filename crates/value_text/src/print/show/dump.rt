@@ -46,72 +46,80 @@ impl<W: Write> Printer<'_, W> {
     #[tactic(auto, using(crate::proofs::Puts::puts))]
     pub fn put_dump_below(&mut self, look: Look, level: u128, value: ValueRef<'_>)
         ensures { Puts W.contents self.old self.new
-            (codes "\n" ++ dump_of level look.elements (value_shown value.entry)) }
+            (codes "\n" ++ dump_of look level look.elements (value_shown value.entry)) }
     {
         self.put(b"\n");
-        self.put_dump(level, look.elements, value);
+        self.put_dump(look, level, value);
     }
 
-    fn put_dump(&mut self, level: u128, most: Option<u64>, value: ValueRef<'_>)
-        ensures { Puts W.contents self.old self.new (dump_of level most (value_shown value.entry)) }
+    fn put_dump(&mut self, look: Look, level: u128, value: ValueRef<'_>)
+        ensures { Puts W.contents self.old self.new (dump_of look level look.elements (value_shown value.entry)) }
     {
-        match most {
-            Some(most) => self.put_cut_dump(level, most, value),
-            None => self.put_rows(level, row_count(value), value),
+        match look.elements {
+            Some(most) => self.put_cut_dump(look, level, most, value),
+            None => self.put_rows(look, level, row_count(value), value),
         }
     }
 
-    fn put_cut_dump(&mut self, level: u128, most: u64, value: ValueRef<'_>)
-        ensures { Puts W.contents self.old self.new (dump_of level (Some most) (value_shown value.entry)) }
+    fn put_cut_dump(&mut self, look: Look, level: u128, most: u64, value: ValueRef<'_>)
+        ensures { Puts W.contents self.old self.new (dump_of look level (Some most) (value_shown value.entry)) }
     {
         let rows = row_count(value);
         if most < rows as u64 {
-            self.put_front_rows(level, most as usize, value)
+            self.put_front_rows(look, level, most as usize, value)
         } else {
-            self.put_rows(level, rows, value)
+            self.put_rows(look, level, rows, value)
         }
     }
 
     // Writes the first lines, and how many bytes are left out.
     #[tactic(auto, using(crate::proofs::Puts::puts))]
-    fn put_front_rows(&mut self, level: u128, rows: usize, value: ValueRef<'_>)
+    fn put_front_rows(&mut self, look: Look, level: u128, rows: usize, value: ValueRef<'_>)
         requires { rows < 2 ^ 60 }
         ensures { Puts W.contents self.old self.new
-            (rows_of level rows (value_shown value.entry) ++ rest_at level (value_shown value.entry) (16 * rows)) }
+            (rows_of look level rows (value_shown value.entry)
+            ++ rest_at look level (value_shown value.entry) (16 * rows)) }
     {
-        self.put_rows(level, rows, value);
-        self.put_rest_from(level, value, 16 * rows);
+        self.put_rows(look, level, rows, value);
+        self.put_rest_from(look, level, value, 16 * rows);
     }
 
-    fn put_rows(&mut self, level: u128, rows: usize, value: ValueRef<'_>)
+    fn put_rows(&mut self, look: Look, level: u128, rows: usize, value: ValueRef<'_>)
         requires { rows ≤ 2 ^ 60 }
-        ensures { Puts W.contents self.old self.new (rows_of level rows (value_shown value.entry)) }
+        ensures { Puts W.contents self.old self.new (rows_of look level rows (value_shown value.entry)) }
     {
         for row in 0..rows {
             if self.failed {
                 return;
             }
-            self.put_row_from(level, value, 16 * row);
+            self.put_row_from(look, level, value, 16 * row);
         }
     }
 
     // Writes a line of up to 16 bytes from an element on.
-    fn put_row_from(&mut self, level: u128, value: ValueRef<'_>, from: usize)
+    fn put_row_from(&mut self, look: Look, level: u128, value: ValueRef<'_>, from: usize)
         requires { from + 15 < 2 ^ 64 }
-        ensures { Puts W.contents self.old self.new (row_from level (value_shown value.entry) from) }
+        ensures { Puts W.contents self.old self.new (row_from look level (value_shown value.entry) from) }
     {
         match value.members().get(from) {
-            Some(first) => self.put_row_of(level, value, from, first),
+            Some(first) => self.put_row_of(look, level, value, from, first),
             None => {}
         }
     }
 
     #[tactic(auto, using(crate::proofs::Puts::puts))]
-    fn put_row_of(&mut self, level: u128, value: ValueRef<'_>, from: usize, first: ValueRef<'_>)
+    fn put_row_of(
+        &mut self,
+        look: Look,
+        level: u128,
+        value: ValueRef<'_>,
+        from: usize,
+        first: ValueRef<'_>,
+    )
         requires { from + 15 < 2 ^ 64 }
-        ensures { Puts W.contents self.old self.new (lent_row level value.entry from first.entry) }
+        ensures { Puts W.contents self.old self.new (lent_row look level value.entry from first.entry) }
     {
-        self.put_margin(level, first);
+        self.put_margin_of_many(look, level, first);
         self.put_columns(value, from);
         self.put(b"  ");
         self.put_shown_letters(value, from);
@@ -185,29 +193,34 @@ impl<W: Write> Printer<'_, W> {
     }
 
     /// Writes the line for the elements from a place on, if some are cut off.
-    pub fn put_cut_line(&mut self, most: Option<u64>, level: u128, value: ValueRef<'_>)
-        ensures { Puts W.contents self.old self.new (rest_of level 1 most (members_of (value_shown value.entry))) }
+    pub fn put_cut_line(&mut self, look: Look, most: Option<u64>, level: u128, value: ValueRef<'_>)
+        ensures { Puts W.contents self.old self.new (rest_of look level 1 most (members_of (value_shown value.entry))) }
     {
         match most {
-            Some(most) => self.put_rest_from(level, value, most as usize),
+            Some(most) => self.put_rest_from(look, level, value, most as usize),
             None => {}
         }
     }
 
-    fn put_rest_from(&mut self, level: u128, value: ValueRef<'_>, place: usize)
-        ensures { Puts W.contents self.old self.new (rest_at level (value_shown value.entry) place) }
+    fn put_rest_from(&mut self, look: Look, level: u128, value: ValueRef<'_>, place: usize)
+        ensures { Puts W.contents self.old self.new (rest_at look level (value_shown value.entry) place) }
     {
         match value.members().get(place) {
-            Some(first) => self.put_rest_line(level, value.len().saturating_sub(place), first),
+            Some(first) => self.put_rest_line(
+                look,
+                level,
+                value.len().saturating_sub(place),
+                first,
+            ),
             None => {}
         }
     }
 
     #[tactic(auto, using(crate::proofs::Puts::puts))]
-    fn put_rest_line(&mut self, level: u128, count: usize, first: ValueRef<'_>)
-        ensures { Puts W.contents self.old self.new (lent_rest_line level count first.entry) }
+    fn put_rest_line(&mut self, look: Look, level: u128, count: usize, first: ValueRef<'_>)
+        ensures { Puts W.contents self.old self.new (lent_rest_line look level count first.entry) }
     {
-        self.put_margin(level, first);
+        self.put_margin_of_many(look, level, first);
         self.put(b" ");
         self.put_left_out(count);
         self.put(b"\n");

@@ -107,11 +107,11 @@ impl<W: Write> Printer<'_, W> {
     /// Writes the members of a value after ` = `, and a line feed.
     #[tactic(auto, using(crate::proofs::Puts::puts))]
     #[inline(always)]
-    pub fn put_row_cell(&mut self, most: Option<u64>, value: ValueRef<'_>)
-        ensures { Puts W.contents self.old self.new (value_cell (all_inline_text most (value_shown value.entry))) }
+    pub fn put_row_cell(&mut self, look: Look, value: ValueRef<'_>)
+        ensures { Puts W.contents self.old self.new (value_cell (all_inline_text look (value_shown value.entry))) }
     {
         self.put(b" = ");
-        self.put_inline_members(most, value);
+        self.put_inline_members(look, value);
         self.put(b"\n");
     }
 
@@ -119,33 +119,33 @@ impl<W: Write> Printer<'_, W> {
     #[tactic(auto, using(crate::proofs::Puts::puts))]
     #[inline(always)]
     pub fn put_value_cell(&mut self, look: Look, value: ValueRef<'_>)
-        ensures { Puts W.contents self.old self.new (value_cell (inline_text look.elements (value_shown value.entry))) }
+        ensures { Puts W.contents self.old self.new (value_cell (inline_text look (value_shown value.entry))) }
     {
         self.put(b" = ");
-        self.put_inline(look.elements, value);
+        self.put_inline(look, value);
         self.put(b"\n");
     }
 
     #[tactic(auto, using(crate::proofs::ShowLines::by_inline))]
     #[inline(always)]
     #[cycle(inline_text)]
-    fn put_inline(&mut self, most: Option<u64>, value: ValueRef<'_>)
-        ensures { Puts W.contents self.old self.new (inline_text most (value_shown value.entry)) }
+    fn put_inline(&mut self, look: Look, value: ValueRef<'_>)
+        ensures { Puts W.contents self.old self.new (inline_text look (value_shown value.entry)) }
     {
         match value.kind() {
-            Kind::Integer => self.put_shown_number(value.number()),
-            Kind::Offset => self.put_shown_offset(value.unit(), value.number()),
-            Kind::Text => self.put_shown_string(most, value.bytes()),
+            Kind::Integer => self.put_shown_number(look.numbers, value.number()),
+            Kind::Offset => self.put_shown_offset(look.numbers, value.unit(), value.number()),
+            Kind::Text => self.put_shown_string(look.elements, value.bytes()),
             Kind::Array => {}
-            Kind::Struct => self.put_inline_members(most, value),
-            Kind::Union => self.put_inline_members(most, value),
+            Kind::Struct => self.put_inline_members(look, value),
+            Kind::Union => self.put_inline_members(look, value),
         }
     }
 
     #[inline(never)]
     #[cycle(inline_text)]
-    fn put_inline_members(&mut self, most: Option<u64>, value: ValueRef<'_>)
-        ensures { Puts W.contents self.old self.new (all_inline_text most (value_shown value.entry)) }
+    fn put_inline_members(&mut self, look: Look, value: ValueRef<'_>)
+        ensures { Puts W.contents self.old self.new (all_inline_text look (value_shown value.entry)) }
     {
         let members = value.members();
         let mut first = true;
@@ -154,7 +154,7 @@ impl<W: Write> Printer<'_, W> {
                 return;
             }
             if let Some(member) = members.get(place) {
-                self.put_inline_part(most, first, value.field_name(place), member);
+                self.put_inline_part(look, first, value.field_name(place), member);
                 first = false;
             }
         }
@@ -164,16 +164,16 @@ impl<W: Write> Printer<'_, W> {
     #[cycle(inline_text)]
     fn put_inline_part(
         &mut self,
-        most: Option<u64>,
+        look: Look,
         first: bool,
         name: Option<&[u8]>,
         member: ValueRef<'_>,
     )
-        ensures { Puts W.contents self.old self.new (lent_inline most first name.entry member.entry) }
+        ensures { Puts W.contents self.old self.new (lent_inline look first name.entry member.entry) }
     {
         self.put_inline_title(first, name);
         self.put_opening(member);
-        self.put_inline(most, member);
+        self.put_inline(look, member);
         self.put_closing(member);
     }
 

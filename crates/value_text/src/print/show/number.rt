@@ -1,18 +1,33 @@
 //! Writes numbers, offsets and strings.
 ghost use Rattle.std.specs.Prelude.{◌≡◌, ◌*◌, ◌-◌, ◌<◌, ◌≤◌, ◌^◌, pos, ◌++◌, codes, decimal, take, length};
+ghost use Rattle.std.specs.Fmt.{signed_decimal};
 ghost use Rattle.value_text.specs.Puts.{Puts};
 ghost use Rattle.value_text.specs.ShowWords.{natural_of, hex_text, hex_cell, shown_number, unit_cell, bits_after, bytes_cell, in_bytes, shown_offset, left_out, cut_at, shown_string};
 ghost use Rattle.value_text.specs.ValueText.{string_text};
 
 use super::super::escape::Escapes;
 use super::super::printer::Printer;
+use crate::style::Numbers;
 use std::io::Write;
 
 impl<W: Write> Printer<'_, W> {
-    /// Writes a number in decimal and, from 10 on, in hexadecimal.
-    #[tactic(auto, using(crate::proofs::Puts::puts), unfolding(crate::specs::ShowWords::shown_number))]
-    pub fn put_shown_number(&mut self, number: i128)
-        ensures { Puts W.contents self.old self.new (shown_number number) }
+    /// Writes a number in a form or, with `None`, in decimal and, from 10 on, in hexadecimal.
+    #[tactic(auto, unfolding(crate::specs::ShowWords::shown_number))]
+    pub fn put_shown_number(&mut self, numbers: Option<Numbers>, number: i128)
+        ensures { Puts W.contents self.old self.new (shown_number numbers number) }
+    {
+        match numbers {
+            None => self.put_in_both(number),
+            Some(Numbers::Decimal) => self.put_number(number),
+            Some(Numbers::Hexadecimal) => self.put_signed_hex(number),
+            Some(Numbers::Digits) => self.put_number(number),
+        }
+    }
+
+    #[tactic(auto, using(crate::proofs::Puts::puts))]
+    #[inline(always)]
+    fn put_in_both(&mut self, number: i128)
+        ensures { Puts W.contents self.old self.new (signed_decimal number ++ hex_cell (natural_of number)) }
     {
         self.put_number(number);
         self.put_hex_cell(natural_of(number));
@@ -40,19 +55,20 @@ impl<W: Write> Printer<'_, W> {
     /// Writes an offset of so many units, of a number of bits each: in its unit, and in bytes.
     #[tactic(auto, using(crate::proofs::Puts::puts), unfolding(crate::specs::ShowWords::shown_offset))]
     #[inline(never)]
-    pub fn put_shown_offset(&mut self, unit: u32, magnitude: i128)
-        ensures { Puts W.contents self.old self.new (shown_offset unit magnitude) }
+    pub fn put_shown_offset(&mut self, numbers: Option<Numbers>, unit: u32, magnitude: i128)
+        ensures { Puts W.contents self.old self.new (shown_offset numbers unit magnitude) }
     {
-        self.put_shown_number(magnitude);
-        self.put_unit_and_bytes(unit, magnitude);
+        self.put_shown_number(numbers, magnitude);
+        self.put_unit_and_bytes(numbers, unit, magnitude);
     }
 
     #[tactic(auto, using(crate::proofs::Puts::puts))]
-    fn put_unit_and_bytes(&mut self, unit: u32, magnitude: i128)
-        ensures { Puts W.contents self.old self.new (unit_cell unit ++ in_bytes unit (natural_of magnitude)) }
+    fn put_unit_and_bytes(&mut self, numbers: Option<Numbers>, unit: u32, magnitude: i128)
+        ensures { Puts W.contents self.old self.new
+            (unit_cell unit ++ in_bytes numbers unit (natural_of magnitude)) }
     {
         self.put_unit_cell(unit);
-        self.put_in_bytes(unit, magnitude);
+        self.put_in_bytes(numbers, unit, magnitude);
     }
 
     fn put_unit_cell(&mut self, unit: u32)
@@ -74,32 +90,32 @@ impl<W: Write> Printer<'_, W> {
         self.put(b" b");
     }
 
-    fn put_in_bytes(&mut self, unit: u32, magnitude: i128)
-        ensures { Puts W.contents self.old self.new (in_bytes unit (natural_of magnitude)) }
+    fn put_in_bytes(&mut self, numbers: Option<Numbers>, unit: u32, magnitude: i128)
+        ensures { Puts W.contents self.old self.new (in_bytes numbers unit (natural_of magnitude)) }
     {
         match natural_of(magnitude) {
-            Some(n) if unit != 8 => self.put_bytes_cell(u128::from(n) * u128::from(unit)),
+            Some(n) if unit != 8 => self.put_bytes_cell(numbers, u128::from(n) * u128::from(unit)),
             _ => {}
         }
     }
 
-    fn put_bytes_cell(&mut self, bits: u128)
+    fn put_bytes_cell(&mut self, numbers: Option<Numbers>, bits: u128)
         requires { bits < 2 ^ 120 }
-        ensures { Puts W.contents self.old self.new (bytes_cell bits) }
+        ensures { Puts W.contents self.old self.new (bytes_cell numbers bits) }
     {
         if bits >= 8 {
-            self.put_bytes_and_bits(bits / 8, (bits % 8) as u32);
+            self.put_bytes_and_bits(numbers, bits / 8, (bits % 8) as u32);
         }
     }
 
     #[tactic(auto, using(crate::proofs::Puts::puts))]
-    fn put_bytes_and_bits(&mut self, bytes: u128, bits: u32)
+    fn put_bytes_and_bits(&mut self, numbers: Option<Numbers>, bytes: u128, bits: u32)
         requires { bytes < 2 ^ 120 }
         ensures { Puts W.contents self.old self.new
-            (codes ", " ++ (shown_number (pos bytes) ++ (codes " B" ++ bits_after bits))) }
+            (codes ", " ++ (shown_number numbers (pos bytes) ++ (codes " B" ++ bits_after bits))) }
     {
         self.put(b", ");
-        self.put_shown_number(bytes as i128);
+        self.put_shown_number(numbers, bytes as i128);
         self.put(b" B");
         self.put_bits_after(bits);
     }

@@ -2,26 +2,72 @@
 ghost use Rattle.std.specs.Prelude.{◌<◌, ◌++◌, codes};
 ghost use Rattle.value_store.specs.Refs.{value_shown};
 ghost use Rattle.value_text.specs.Puts.{Puts};
-ghost use Rattle.value_text.specs.ShowText.{margin, name_cell, found_name};
-ghost use Rattle.value_text.specs.ShowWords.{place_text, byte_place, bit_place};
-ghost use Rattle.value_text.specs.ShowParts.{name_at, lent_found};
+ghost use Rattle.value_text.specs.ShowText.{margin, margin_of_many, name_cell, found_name};
+ghost use Rattle.value_text.specs.ShowWords.{place_text, size_cell, no_size_cell, byte_place, bit_place};
+ghost use Rattle.value_text.specs.ShowParts.{name_at, lent_found, sight_of};
 ghost use Rattle.text_output.specs.Brackets.{in_brackets};
 
 use super::super::printer::Printer;
+use super::Sight;
 use super::hex::eight_digits;
 use std::io::Write;
+use text_output::style::Look;
 use value_store::{Kind, ValueRef};
 
 impl<W: Write> Printer<'_, W> {
-    /// Writes what the line of a part at a level begins with: where the part starts, and two blanks for each level.
+    /// Writes what the line of a part at a level begins with: where the part starts, its size and its bytes if they are
+    /// shown, and two blanks for each level.
     #[tactic(auto, using(crate::proofs::Puts::puts))]
     #[inline(always)]
-    pub fn put_margin(&mut self, level: u128, value: ValueRef<'_>)
-        ensures { Puts W.contents self.old self.new (margin level (value_shown value.entry)) }
+    pub fn put_margin(&mut self, sight: Sight<'_>, level: u128, value: ValueRef<'_>)
+        ensures { let sight = sight_of sight.entry in
+            Puts W.contents self.old self.new (margin sight.look sight.file level (value_shown value.entry)) }
     {
+        let beside = sight.look.beside;
         self.put_place(value.start());
+        self.put_size_cell(beside.sizes, value.size());
+        self.put_file_cell(beside.bytes, sight.file, value.start(), value.size());
         self.put_indent(level);
         self.put(b" ");
+    }
+
+    /// Writes the same for a line of many parts, at the first of them: without a size and bytes.
+    #[tactic(auto, using(crate::proofs::Puts::puts))]
+    #[inline(always)]
+    pub fn put_margin_of_many(&mut self, look: Look, level: u128, first: ValueRef<'_>)
+        ensures { Puts W.contents self.old self.new (margin_of_many look level (value_shown first.entry)) }
+    {
+        self.put_place(first.start());
+        self.put_no_size_cell(look.beside.sizes);
+        self.put_no_file_cell(look.beside.bytes);
+        self.put_indent(level);
+        self.put(b" ");
+    }
+
+    #[inline(always)]
+    fn put_size_cell(&mut self, sizes: bool, size: u64)
+        ensures { Puts W.contents self.old self.new (size_cell sizes size) }
+    {
+        if sizes {
+            self.put_size(size);
+        }
+    }
+
+    #[tactic(auto, using(crate::proofs::Puts::puts))]
+    fn put_size(&mut self, size: u64)
+        ensures { Puts W.contents self.old self.new (codes " " ++ place_text size) }
+    {
+        self.put(b" ");
+        self.put_place(size);
+    }
+
+    #[inline(always)]
+    fn put_no_size_cell(&mut self, sizes: bool)
+        ensures { Puts W.contents self.old self.new (no_size_cell sizes) }
+    {
+        if sizes {
+            self.put(b"           ");
+        }
     }
 
     #[tactic(auto, using(crate::proofs::Puts::puts))]

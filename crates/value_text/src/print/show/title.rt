@@ -1,4 +1,4 @@
-//! Writes the type of a value behind its name.
+//! Writes the type of a value after its name.
 ghost use Rattle.std.specs.Prelude.{◌++◌};
 ghost use Rattle.pickle_types.specs.NodeParts.{node_part};
 ghost use Rattle.value_store.specs.Refs.{value_shown};
@@ -6,7 +6,7 @@ ghost use Rattle.text_output.specs.Brackets.{in_brackets};
 ghost use Rattle.value_text.specs.Puts.{Puts};
 ghost use Rattle.value_text.specs.TypedValue.{nodes_in, node_in, mapped_in};
 ghost use Rattle.value_text.specs.ShowText.{dim_start, dim_end};
-ghost use Rattle.value_text.specs.ShowParts.{known_of, look_at, type_at, known_type, bare_type, inner_type, known_at, counted, titled};
+ghost use Rattle.value_text.specs.ShowParts.{known_of, known_in, type_at, known_type, bare_type, inner_type, known_at, counted, titled};
 ghost use Rattle.value_text.specs.TypeWords.{some_word};
 
 use super::super::printer::Printer;
@@ -24,7 +24,7 @@ impl<W: Write> Printer<'_, W> {
     #[inline(always)]
     pub fn put_type(&mut self, look: Look, inner: bool, value: Typed<'_>)
         ensures { Puts W.contents self.old self.new
-            (type_at (look_at look value.entry) inner (node_in value.entry) (mapped_in value.entry)) }
+            (type_at look.dim (known_in value.entry) inner (node_in value.entry) (mapped_in value.entry)) }
     {
         if inner {
             return self.put_inner_type(look.dim, value.value());

@@ -18,11 +18,11 @@ put_inline_members-loop-place-preserved g t c =
           (let is : Some (value_shown w.in-Some.member) ≡ member_at all i =
           subst (λ v. Some (value_shown w.in-Some.member) ≡ member_at (members_of (value_shown v)) i)
           c.members-members.ensures w.in-Some.ensures.member in
-          rw (w.self-is, w.first-is) (told_next (inline_present c.args.most (label_of (value_shown c.args.value)) all i
+          rw (w.self-is, w.first-is) (told_next (inline_present c.args.look (label_of (value_shown c.args.value)) all i
           c.loop-place.first _ (omega (arith, len, c.loop-place-test.true)) is)
           c.loop-place.invariant (rw w.field_name.ensures at w.put_inline_part.ensures)))
       | put_inline_members-in_default w ↦
-          rw (w.self-is, w.first-is) (told_same (inline_absent c.args.most (label_of (value_shown c.args.value)) all i
+          rw (w.self-is, w.first-is) (told_same (inline_absent c.args.look (label_of (value_shown c.args.value)) all i
           c.loop-place.first (omega (arith, len, c.loop-place-test.true)) (subst
           (λ v. None ≡ member_at (members_of (value_shown v)) i) c.members-members.ensures w.in_default.ensures.member))
           c.loop-place.invariant)
@@ -33,7 +33,7 @@ put_inline_members-returns g t c =
     let len : c.len-place-end.result ≡ member_count (members_of (value_shown c.args.value)) =
     subst (λ v. c.len-place-end.result ≡ member_count (members_of (value_shown v))) c.members-members.ensures
     c.len-place-end.ensures in
-    told_all (inline_end c.args.most (label_of (value_shown c.args.value)) (members_of (value_shown c.args.value))
+    told_all (inline_end c.args.look (label_of (value_shown c.args.value)) (members_of (value_shown c.args.value))
     c.loop-place.place c.loop-place.first (omega (arith, len, c.loop-place-test.false))) c.loop-place.invariant
 
 pub put_inline_members-returns-then-self : goal.put_inline_members-returns-then-self

@@ -18,6 +18,6 @@ decreases-put_inline_part g l = 3 * rank_of l.member + 3
 
 abbrev pub invariant-put_inline_members-loop-place : goal.invariant-put_inline_members-loop-place
 invariant-put_inline_members-loop-place g l =
-    Told g.W.Write.contents l.initial.self l.self (inline_members l.fn.most (label_of (value_shown l.fn.value)) l.place
+    Told g.W.Write.contents l.initial.self l.self (inline_members l.fn.look (label_of (value_shown l.fn.value)) l.place
     l.first (members_from l.place (members_of (value_shown l.fn.value))))
-    (all_inline_text l.fn.most (value_shown l.fn.value))
+    (all_inline_text l.fn.look (value_shown l.fn.value))

@@ -3,7 +3,7 @@ use Rattle.pickle_meaning.specs.Values.{label_of, members_of}
 use Rattle.value_store.specs.Refs.{rank_of}
 use Rattle.value_text.specs.TypedValue.{value_in, node_in, mapped_in}
 use Rattle.value_text.specs.ShowText.{shown_parts}
-use Rattle.value_text.specs.ShowParts.{look_at, all_parts_text}
+use Rattle.value_text.specs.ShowParts.{view_at, all_parts_text}
 use Rattle.value_text.proofs.Puts.{Told}
 use Rattle.value_text.proofs.MemberTexts.{members_from}
 use Rattle.value_text.proofs.print.printer.Printer.+show.Given as goal
@@ -29,6 +29,6 @@ decreases-put_shown_part g l = 6 * rank_of l.part + 6
 abbrev pub invariant-put_shown_parts-loop-place : goal.invariant-put_shown_parts-loop-place
 invariant-put_shown_parts-loop-place g l =
     Told g.W.Write.contents l.initial.self l.self
-    (shown_parts (look_at l.fn.look l.fn.value) (l.fn.level + 1) (node_in l.fn.value) (label_of (mapped_in l.fn.value))
+    (shown_parts (view_at l.fn.sight l.fn.value) (l.fn.level + 1) (node_in l.fn.value) (label_of (mapped_in l.fn.value))
     l.place (members_from l.place (members_of (mapped_in l.fn.value))))
-    (all_parts_text (look_at l.fn.look l.fn.value) l.fn.level (node_in l.fn.value) (mapped_in l.fn.value))
+    (all_parts_text (view_at l.fn.sight l.fn.value) l.fn.level (node_in l.fn.value) (mapped_in l.fn.value))

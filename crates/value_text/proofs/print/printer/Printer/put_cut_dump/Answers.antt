@@ -12,6 +12,7 @@ returns-else-most-rows g c =
     let few : (member_count members + 15) / 16 ≤ c.args.most =
     omega (arith, c.row_count-rows.ensures.count, c.if-most-rows.false) in
     subst (Puts g.W.Write.contents c.args.self.now c.put_rows.new.self)
-    (sym (dump_whole c.args.level c.args.most members few))
-    (subst (λ n. Puts g.W.Write.contents c.args.self.now c.put_rows.new.self (rows_text c.args.level n members))
+    (sym (dump_whole c.args.look c.args.level c.args.most members few))
+    (subst
+    (λ n. Puts g.W.Write.contents c.args.self.now c.put_rows.new.self (rows_text c.args.look c.args.level n members))
     c.row_count-rows.ensures.count c.put_rows.ensures)

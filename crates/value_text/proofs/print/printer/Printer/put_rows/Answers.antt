@@ -7,11 +7,12 @@ use Rattle.value_text.proofs.ShowLines.{flat_first, flat_none}
 use Rattle.value_text.proofs.print.printer.Printer.put_rows.Goals as goal
 
 pub loop-row-preserved : goal.loop-row-preserved
-loop-row-preserved g c = told_next (flat_first (row_at c.args.level (members_of (value_shown c.args.value)))
+loop-row-preserved g c = told_next (flat_first (row_at c.args.look c.args.level (members_of (value_shown c.args.value)))
     c.loop-row.row c.args.rows (omega (arith, c.loop-row-test.true))) c.loop-row.invariant c.put_row_from.ensures
 
 pub returns : goal.returns
-returns g c = told_all (flat_none (row_at c.args.level (members_of (value_shown c.args.value))) c.loop-row.row
+returns g c =
+    told_all (flat_none (row_at c.args.look c.args.level (members_of (value_shown c.args.value))) c.loop-row.row
     c.args.rows (omega (arith, c.loop-row-test.false))) c.loop-row.invariant
 
 pub returns-then-self : goal.returns-then-self

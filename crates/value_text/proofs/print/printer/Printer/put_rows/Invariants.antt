@@ -10,5 +10,6 @@ use Rattle.value_text.proofs.print.printer.Printer.put_rows.Given as goal
 abbrev pub invariant-loop-row : goal.invariant-loop-row
 invariant-loop-row g l =
     Told g.W.Write.contents l.initial.self l.self
-    (flat_map (row_at l.fn.level (members_of (value_shown l.fn.value))) (range_with_len l.row (l.fn.rows - l.row)))
-    (rows_of l.fn.level l.fn.rows (value_shown l.fn.value))
+    (flat_map (row_at l.fn.look l.fn.level (members_of (value_shown l.fn.value)))
+    (range_with_len l.row (l.fn.rows - l.row)))
+    (rows_of l.fn.look l.fn.level l.fn.rows (value_shown l.fn.value))
