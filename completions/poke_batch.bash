@@ -6,7 +6,7 @@
 _poke_batch_options_of() {
     case $1 in
         map) echo '--at --byte --length --inside --endian --limit --whole --max-output --slots --get --spool --progress --rows --header --absent --mode --numbers --chars --elements --faults --why --help' ;;
-        show) echo '--at --byte --length --inside --endian --limit --whole --max-output --slots --get --spool --progress --elements --depth --color --help' ;;
+        show) echo '--at --byte --length --inside --endian --limit --whole --max-output --slots --get --spool --progress --absent --numbers --chars --elements --depth --sizes --bytes --color --help' ;;
         each) echo '--at --byte --length --inside --endian --limit --whole --max-output --slots --get --spool --progress --absent --mode --numbers --chars --elements --faults --why --flush --files0-from --help' ;;
         identify) echo '--spool --progress --all --in --byte --length --mode --faults --why --flush --files0-from --help' ;;
         bound) echo '--text --mode --numbers --chars --elements --why --help' ;;
@@ -27,12 +27,12 @@ _poke_batch_takes_value_of() {
 _poke_batch_words_of() {
     case $1/$2 in
         map/--endian | show/--endian | each/--endian) echo 'big little' ;;
-        map/--absent | each/--absent) echo 'fault empty' ;;
+        map/--absent | show/--absent | each/--absent) echo 'fault empty' ;;
         map/--mode | bound/--mode) echo 'flat tree json lines' ;;
         each/--mode) echo 'flat json' ;;
         check/--mode | types/--mode | formats/--mode | identify/--mode | map/--faults | each/--faults | identify/--faults) echo 'text json' ;;
-        map/--numbers | each/--numbers | bound/--numbers) echo 'decimal hex digits' ;;
-        map/--chars | each/--chars | bound/--chars) echo 'numbers text' ;;
+        map/--numbers | show/--numbers | each/--numbers | bound/--numbers) echo 'decimal hex digits' ;;
+        map/--chars | show/--chars | each/--chars | bound/--chars) echo 'numbers text' ;;
         show/--color) echo 'auto always never' ;;
     esac
 }

@@ -16,7 +16,7 @@ use Rattle.command_line.specs.declared.selection.Column.{Column}
 use Rattle.command_line.specs.declared.selection.Selection.{Selection}
 use Rattle.command_line.specs.Misread.{AnyWord, IsNoPath, IsNoPathIfAny, MisreadRequest}
 use Rattle.command_line.specs.Misread.MisreadColumns.{path_wrong}
-use Rattle.command_line.specs.Misread.MisreadRequest.{selection_wrong, part_wrong}
+use Rattle.command_line.specs.Misread.MisreadRequest.{selection_wrong}
 use Rattle.command_line.specs.Patterns.{parts_of, IsPattern}
 use Rattle.command_line.specs.Selects.{ArePatterns, IsColumn, AreColumns, ArePaths, IsOneAtMost, SelectsAny, Selects, is_one_path, words_in}
 use Rattle.command_line.proofs.PatternTexts.{path_of_exact}
@@ -99,11 +99,10 @@ parts_wrong : (found : Found) (rows : Option (List ℕ)) (given : Absent)
 parts_wrong found None given selects wrong = none_wrong _ selects.1 wrong
 parts_wrong found (Some pattern) given selects wrong = selects
 
--- where nothing is selected, a text that is no path is the only reason of `show`, a wrong column of `each`, and none of
--- `map`, whose texts were read as patterns
+-- where nothing is selected, a text that is no path is a wrong column of `each`, and none of `map` and `show`, whose
+-- texts were read as patterns
 pub beside_wrong : (found : Found) (offered : Choice) (selection : Option Selection) → Selects found offered selection
     → (selection ≡ None) × IsNoPathIfAny (first_value found (codes "get")) → MisreadRequest found offered
-beside_wrong found choice.Part selection selects wrong = part_wrong refl wrong.1
 beside_wrong found choice.Parts selection selects wrong =
     let Any : Option Selection → Type 0 = SelectsAny found (first_value found (codes "rows")) selects.absent in
     absurd (parts_wrong found (first_value found (codes "rows")) selects.absent

@@ -119,14 +119,13 @@ mapping_options =
     ∷ flag mapping (codes "whole")
     ∷ number mapping (codes "max-output") (codes "N")
     ∷ number mapping (codes "slots") (codes "N")
-    ∷ repeated (option (only (codes "map")) (codes "get") (codes "PATH"))
-    ∷ option (only (codes "show")) (codes "get") (codes "PATH")
+    ∷ repeated (option (codes "map" ∷ codes "show" ∷ []) (codes "get") (codes "PATH"))
     ∷ repeated (option (only (codes "each")) (codes "get") (codes "PATH"))
     ∷ number reading (codes "spool") (codes "BYTES")
     ∷ flag reading (codes "progress")
     ∷ option (only (codes "map")) (codes "rows") (codes "PATTERN")
     ∷ flag (only (codes "map")) (codes "header")
-    ∷ defaulted (choice printing (codes "absent") (codes "WHAT") (codes "fault" ∷ codes "empty" ∷ [])) (codes "fault")
+    ∷ defaulted (choice mapping (codes "absent") (codes "WHAT") (codes "fault" ∷ codes "empty" ∷ [])) (codes "fault")
     ∷ []
 
 -- those of formats of files
@@ -149,23 +148,23 @@ style_options =
     ∷ defaulted (choice (codes "check" ∷ codes "types" ∷ codes "formats" ∷ []) (codes "mode") (codes "MODE") forms)
     (codes "text")
     ∷ defaulted (choice (only (codes "identify")) (codes "mode") (codes "MODE") forms) (codes "text")
-    ∷ defaulted (choice printing (codes "numbers") (codes "FORM") numbers) (codes "decimal")
+    ∷ choice mapping (codes "numbers") (codes "FORM") numbers
     ∷ choice (only (codes "bound")) (codes "numbers") (codes "FORM") numbers
-    ∷ defaulted (choice printing (codes "chars") (codes "FORM") chars) (codes "numbers")
+    ∷ choice mapping (codes "chars") (codes "FORM") chars
     ∷ choice (only (codes "bound")) (codes "chars") (codes "FORM") chars
-    ∷ defaulted (option printing (codes "elements") (codes "N")) (codes "all")
-    ∷ defaulted (option (only (codes "show")) (codes "elements") (codes "N")) (codes "16")
+    ∷ option mapping (codes "elements") (codes "N")
     ∷ option (only (codes "bound")) (codes "elements") (codes "N")
     ∷ defaulted (choice reporting (codes "faults") (codes "FORM") forms) (codes "text")
     ∷ defaulted (option (only (codes "show")) (codes "depth") (codes "N")) (codes "6")
     ∷ option (only (codes "types")) (codes "parts") (codes "NAME")
     ∷ defaulted (option (only (codes "types")) (codes "depth") (codes "N")) (codes "6")
+    ∷ flag (only (codes "show")) (codes "sizes")
+    ∷ flag (only (codes "show")) (codes "bytes")
     ∷ defaulted (choice (only (codes "show")) (codes "color") (codes "WHEN")
     (codes "auto" ∷ codes "always" ∷ codes "never" ∷ [])) (codes "auto")
     ∷ flag printing (codes "why")
-    ∷ flag (only (codes "bound")) (codes "why")
+    ∷ flag (codes "bound" ∷ codes "types" ∷ []) (codes "why")
     ∷ flag (only (codes "check")) (codes "why")
-    ∷ flag (only (codes "types")) (codes "why")
     ∷ flag (only (codes "identify")) (codes "why")
     ∷ []
 

@@ -8,15 +8,18 @@ use Rattle.bit_space.specs.declared.order.Order.TheVariants.{Big, Little}
 use Rattle.text_output.specs.declared.mode.Mode.{Mode}
 use Rattle.text_output.specs.declared.style.Style.{Style}
 use Rattle.text_output.specs.Styles.{plain}
+use Rattle.text_output.specs.declared.style.Beside.{Beside}
+use Rattle.text_output.specs.declared.style.Chars.TheVariants.{Text as AsText}
+use Rattle.text_output.specs.declared.style.Numbers.TheVariants.{Decimal}
 use Rattle.command_line.specs.Numerals.{IsNumber, IsNoNumber}
 use Rattle.command_line.specs.Starts.{NamesStart, IsNoStart, NamesByteIfAny, IsNoByteIfAny, NamesBytes, IsNoBytes, NamesWindow, IsNoWindow}
 use Rattle.command_line.specs.Subjects.{HasPart, IsTypeOf, is_file_alone, pickle_of, type_before, word_after}
 use Rattle.command_line.specs.Flags.{FlagIn}
 use Rattle.command_line.specs.Selects.{Selects, PartBeside}
-use Rattle.command_line.specs.Styles.{NamesNumbers, NamesChars, NamesElementsOr, IsNoElementsIfAny, NamesColor, NamesFaults}
+use Rattle.command_line.specs.Styles.{NamesNumbersOr, NamesNumbersIfAny, NamesCharsOr, NamesElementsOr, IsNoElementsIfAny, NamesColor, NamesFaults}
 use Rattle.command_line.specs.Words.{NamesMode, NamesModeIfAny}
 use Rattle.command_line.specs.declared.selection.Choice.{Choice}
-use Rattle.command_line.specs.declared.selection.Choice.TheVariants.{Part, Parts, Columns}
+use Rattle.command_line.specs.declared.selection.Choice.TheVariants.{Parts, Columns}
 use Rattle.command_line.specs.declared.start.Start.{Start}
 use Rattle.command_line.specs.declared.start.Start.TheVariants.{Bit}
 use Rattle.command_line.specs.declared.subject.Subject.{Subject}
@@ -74,13 +77,13 @@ NamesOrderOrBig None order = order ≡ Big
 NamesOrderOrBig (Some word) order = NamesOrder word order
 
 -- how a printed value looks, with so many elements by default
-pub record NamesStyle (found : Found) (default : Option ℕ) (style : Style) : Type 0 where
-  pub numbers : NamesNumbers (word_in found (codes "numbers")) style.numbers
-  pub chars : NamesChars (word_in found (codes "chars")) style.chars
-  pub elements : NamesElementsOr default (first_value found (codes "elements")) style.elements
+pub record NamesStyle (found : Found) (default style : Style) : Type 0 where
+  pub numbers : NamesNumbersOr default.numbers (first_value found (codes "numbers")) style.numbers
+  pub chars : NamesCharsOr default.chars (first_value found (codes "chars")) style.chars
+  pub elements : NamesElementsOr default.elements (first_value found (codes "elements")) style.elements
 
 -- the terms under which a value is accepted, and what is printed of it, with so many elements by default
-pub record HasTerms (found : Found) (choice : Choice) (default : Option ℕ) (terms : Terms) : Type 0 where
+pub record HasTerms (found : Found) (choice : Choice) (default : Style) (terms : Terms) : Type 0 where
   pub whole : FlagIn (one_text found (codes "whole")) terms.whole
   pub most_output : NumberIfAny (first_value found (codes "max-output")) terms.most_output
   pub part : PartBeside (first_value found (codes "get")) terms.selection terms.part
@@ -169,17 +172,26 @@ NamesFiles found (EndedByZero path) = first_value found (codes "files0-from") �
 abbrev pub ReportsIn : Found → FaultForm → Type 0
 ReportsIn found faults = NamesFaults (word_in found (codes "faults")) faults
 
+-- what is shown beside each part
+pub record ShowsBeside (found : Found) (beside : Beside) : Type 0 where
+  pub sizes : FlagIn (one_text found (codes "sizes")) beside.sizes
+  pub bytes : FlagIn (one_text found (codes "bytes")) beside.bytes
+
 -- how a value is written: printed in a mode, beside the form of refusals and faults, or shown with colors and with so
 -- many levels of parts, 6 by default
 abbrev pub IsInForm : Found → Form → Type 0
 IsInForm found (Printed mode faults) = IsInMode found mode × ReportsIn found faults
-IsInForm found (Shown color depth) = NamesColor (word_in found (codes "color")) color
+IsInForm found (Shown color depth numbers beside) = NamesColor (word_in found (codes "color")) color
     × NamesElementsOr (Some 6) (first_value found (codes "depth")) depth
+    × NamesNumbersIfAny (first_value found (codes "numbers")) numbers × ShowsBeside found beside
 
--- the most elements of an array that are written by default: all, or 16 for the eye
-abbrev pub elements_by_default : Form → Option ℕ
-elements_by_default (Printed mode faults) = None
-elements_by_default (Shown color depth) = Some 16
+-- the style by default: the plain one; for the eye texts, and 16 elements of an array
+abbrev pub for_the_eye : Style
+for_the_eye = record { numbers = Decimal; chars = AsText; elements = Some 16 }
+
+abbrev pub style_by_default : Form → Style
+style_by_default (Printed mode faults) = plain
+style_by_default (Shown color depth numbers beside) = for_the_eye
 
 -- the one file: the last argument, before which the type may be left out, or the pickle too
 abbrev pub file_in : Found → List ℕ
@@ -198,7 +210,7 @@ type_over found (Files names flush) = first_value found (codes "TYPE")
 -- what a request maps that writes in a form
 abbrev pub AsksSubjectIn : (found : Found) → (type : Option (List ℕ)) → Form → Subject → Type 0
 AsksSubjectIn found type (Printed mode faults) subject = AsksSubject found type subject
-AsksSubjectIn found type (Shown color depth) subject = ShowsSubject found type subject
+AsksSubjectIn found type (Shown color depth numbers beside) subject = ShowsSubject found type subject
 
 -- whether how much is done is shown
 abbrev pub ShowsProgress : Found → Bool → Type 0
@@ -206,7 +218,7 @@ ShowsProgress found progress = FlagIn (one_text found (codes "progress")) progre
 
 -- which selections the command offers that writes in a form, over one file or many
 abbrev pub choice_of : Form → Over → Choice
-choice_of (Shown color depth) over = Part
+choice_of (Shown color depth numbers beside) over = Parts
 choice_of (Printed mode faults) (File file) = Parts
 choice_of (Printed mode faults) (Files names flush) = Columns
 
@@ -216,7 +228,7 @@ pub record AsksRequest (found : Found) (request : Request) : Type 0 where
   pub mapping : AsksMapping found request.start request.window request.limit
   pub order : AsksOrder found request.order
   pub spools : Spools found request.spool
-  pub terms : HasTerms found (choice_of request.form request.over) (elements_by_default request.form) request.terms
+  pub terms : HasTerms found (choice_of request.form request.over) (style_by_default request.form) request.terms
   pub form : IsInForm found request.form
   pub progress : ShowsProgress found request.progress
   pub over : IsOver found request.over
@@ -247,14 +259,14 @@ Asks found (Map at order limit mode pickle name file) =
     AsksSubject found (type_in found (codes "FILE")) (Named pickle name)
     × AsksMapping found (Bit at) None limit × NamesOrderOrBig (first_value found (codes "endian")) order
     × IsInMode found mode × ReportsIn found Text × Spools found None × ShowsProgress found false
-    × HasTerms found Parts None no_terms
+    × HasTerms found Parts plain no_terms
     × (string_bytes file ≡ file_in found)
 Asks found (job.Request request) = AsksRequest found request
 Asks found (Bound pickle name bits) =
     AsksBound found (string_bytes pickle) (string_bytes name) bits × FlagIn (one_text found (codes "text")) false
 Asks found (BoundText pickle name bits mode style) = AsksBound found (string_bytes pickle) (string_bytes name) bits
     × FlagIn (one_text found (codes "text")) true × NamesModeIfAny (first_value found (codes "mode")) mode
-    × NamesStyle found None style
+    × NamesStyle found plain style
 Asks found (Check pickle) = string_bytes pickle ≡ word_in found (codes "PICKLE")
 Asks found (Types pickle) =
     (string_bytes pickle ≡ word_in found (codes "PICKLE")) × (first_value found (codes "parts") ≡ None)
@@ -273,9 +285,9 @@ IsOther command name = command ≢ Some name
 -- the command that writes in a form, over one file or many; none shows many files to the eye
 abbrev pub IsRequestOf : Option (List ℕ) → Form → Over → Type 0
 IsRequestOf command (Printed mode faults) (File file) = command ≡ Some (codes "map")
-IsRequestOf command (Shown color depth) (File file) = command ≡ Some (codes "show")
+IsRequestOf command (Shown color depth numbers beside) (File file) = command ≡ Some (codes "show")
 IsRequestOf command (Printed mode faults) (Files names flush) = command ≡ Some (codes "each")
-IsRequestOf command (Shown color depth) (Files names flush) = ⊥
+IsRequestOf command (Shown color depth numbers beside) (Files names flush) = ⊥
 
 -- a job is of the command of a name
 abbrev pub IsJobOf : Option (List ℕ) → Job → Type 0

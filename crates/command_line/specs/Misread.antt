@@ -59,15 +59,13 @@ pub data MisreadColumns (words : List (List ℕ)) : Type 0 where
 
 -- the parts that are requested are none, by what a command offers
 abbrev pub MisreadSelection : Found → Choice → Type 0
-MisreadSelection found choice.Part = ⊥
 MisreadSelection found choice.Parts =
     MisreadParts found (first_value found (codes "rows")) (words_in found (codes "get"))
 MisreadSelection found choice.Columns = MisreadColumns (words_in found (codes "get"))
 
--- an option of a mapping is wrong: a part has to be a path where a command offers nothing else
+-- an option of a mapping is wrong
 pub data MisreadRequest (found : Found) (offered : Choice) : Type 0 where
   selection_wrong : MisreadSelection found offered → MisreadRequest found offered
-  part_wrong : offered ≡ choice.Part → IsNoPathIfAny (first_value found (codes "get")) → MisreadRequest found offered
   most_output_wrong : IsNoNumberIfAny (first_value found (codes "max-output")) → MisreadRequest found offered
   most_slots_wrong : IsNoNumberIfAny (first_value found (codes "slots")) → MisreadRequest found offered
   spool_wrong : IsNoNumberIfAny (first_value found (codes "spool")) → MisreadRequest found offered
@@ -78,7 +76,7 @@ pub data MisreadRequest (found : Found) (offered : Choice) : Type 0 where
 -- the arguments of the command of this name are wrong
 pub data Misread (command : List ℕ) (found : Found) : Type 0 where
   map_wrong : command ≡ codes "map" → MisreadRequest found choice.Parts → Misread command found
-  show_wrong : command ≡ codes "show" → MisreadRequest found choice.Part → Misread command found
+  show_wrong : command ≡ codes "show" → MisreadRequest found choice.Parts → Misread command found
   each_wrong : command ≡ codes "each" → MisreadRequest found choice.Columns → Misread command found
   identify_wrong : command ≡ codes "identify" → IsNoNumberIfAny (first_value found (codes "spool")) →
       Misread command found

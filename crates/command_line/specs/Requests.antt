@@ -7,4 +7,4 @@ use Rattle.command_line.specs.declared.request.Form.TheVariants.{Printed, Shown}
 -- how a refusal or a fault is written; to the eye that is in words
 abbrev pub faults_in : Form → FaultForm
 faults_in (Printed mode faults) = faults
-faults_in (Shown color depth) = Text
+faults_in (Shown color depth numbers beside) = Text

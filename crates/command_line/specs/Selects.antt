@@ -124,7 +124,6 @@ SelectsAny found (Some pattern) absent selection = SelectsRows found pattern abs
 
 -- what a command prints that offers a choice, where this is what an absent part is
 abbrev pub SelectsBy : Found → Choice → Absent → Option Selection → Type 0
-SelectsBy found choice.Part absent selection = selection ≡ None
 SelectsBy found choice.Parts absent selection = SelectsAny found (first_value found (codes "rows")) absent selection
 SelectsBy found choice.Columns absent selection = SelectsColumns (words_in found (codes "get")) absent selection
 

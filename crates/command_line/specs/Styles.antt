@@ -18,10 +18,26 @@ NamesNumbers word Decimal = (word ≢ codes "hex") × (word ≢ codes "digits")
 NamesNumbers word Hexadecimal = word ≡ codes "hex"
 NamesNumbers word Digits = word ≡ codes "digits"
 
+-- the form that an argument names, or the default if it wasn't given
+abbrev pub NamesNumbersOr : Numbers → Option (List ℕ) → Numbers → Type 0
+NamesNumbersOr default None numbers = numbers ≡ default
+NamesNumbersOr default (Some word) numbers = NamesNumbers word numbers
+
+-- the form that an argument names, if it was given
+abbrev pub NamesNumbersIfAny : Option (List ℕ) → Option Numbers → Type 0
+NamesNumbersIfAny None None = Unit {0}
+NamesNumbersIfAny None (Some numbers) = ⊥
+NamesNumbersIfAny (Some word) None = ⊥
+NamesNumbersIfAny (Some word) (Some numbers) = NamesNumbers word numbers
+
 -- `text` is a text, any other text numbers
 abbrev pub NamesChars : List ℕ → Chars → Type 0
 NamesChars word chars.Numbers = word ≢ codes "text"
 NamesChars word chars.Text = word ≡ codes "text"
+
+abbrev pub NamesCharsOr : Chars → Option (List ℕ) → Chars → Type 0
+NamesCharsOr default None chars = chars ≡ default
+NamesCharsOr default (Some word) chars = NamesChars word chars
 
 -- `all` is no limit, a number is the most elements
 abbrev pub NamesElements : List ℕ → Option ℕ → Type 0

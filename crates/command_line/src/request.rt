@@ -10,6 +10,7 @@ use crate::subject::Subject;
 use crate::terms::Terms;
 use bit_space::Order;
 use text_output::mode::Mode;
+use text_output::style::{Beside, Numbers};
 
 /// A type to map, what it is mapped over, and how each value is accepted and written.
 #[derive(Debug, Drop, PartialEq, Eq)]
@@ -54,9 +55,18 @@ impl Request {
 #[derive(Clone, Copy, Debug, Drop, PartialEq, Eq)]
 pub enum Form {
     /// Printed in a mode, for programs, which also read a refusal or a fault.
-    Printed { mode: Mode, faults: FaultForm },
-    /// Shown to the eye, with so many levels of parts below the value at most. `None` shows all levels.
-    Shown { color: Color, depth: Option<u64> },
+    Printed {
+        mode: Mode,
+        faults: FaultForm,
+    },
+    /// Shown to the eye, with so many levels of parts below the value at most. `None` shows all levels. Numbers are in the
+    /// form that is given or, with `None`, in two.
+    Shown {
+        color: Color,
+        depth: Option<u64>,
+        numbers: Option<Numbers>,
+        beside: Beside,
+    },
 }
 
 /// What a type is mapped over.

@@ -53,8 +53,6 @@ pub enum Absent {
 /// Which selections a command offers.
 #[derive(Clone, Copy, Debug, PartialEq, Eq)]
 pub enum Choice {
-    /// None: one part at most is printed.
-    Part,
     /// Parts to which patterns lead, or rows.
     Parts,
     /// One row, the value itself.

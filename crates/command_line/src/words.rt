@@ -39,7 +39,7 @@ use bit_space::Order;
 use bytes::{byte_of, bytes_in, window_of};
 use clap::ArgMatches;
 use clap::error::ErrorKind;
-use commands::{PROGRAM, SHOWN_ELEMENTS, SHOWN_LEVELS, program};
+use commands::{PROGRAM, SHOWN_LEVELS, program};
 use found::{after_type, flag_of, number_if_any, type_word, word, word_if_any, word_of};
 use line::{command_line, without_help_of_help};
 use mapping::{mapping_words, shown_subject, subject_of};
@@ -47,11 +47,15 @@ use parser::Ties;
 use selected::{part_beside, selection_of};
 use shown::shown_words;
 use std::alloc::{AllocError, Global};
-use style::{answer_of, color_of, depth_of, faults_of, style_of};
+use style::{
+    answer_of, beside_of, color_of, depth_of, faults_of, numbers_if_any, style_for_the_eye,
+    style_of,
+};
 use text_output::mode::Mode;
 use text_output::style::{Chars, Numbers, Style};
 use thiserror::Error;
 use ties::{has_words, is_given, keeps_ties, shows_file_alone};
+use usage::without_wrong_tip;
 
 /// The usage error for arguments that are wrong, but whose escaped forms clap accepts.
 const WRONG_WORD: &str = "error: an argument has bytes that aren't printed\n";
@@ -344,7 +348,7 @@ fn usage_of(alloc: Global, words: &[String], ties: Ties) -> Result<String, Alloc
     match program(alloc, arguments(), ties)?.try_get_matches_from(named.as_slice()) {
         Ok(_matches) if has_inside(words) => String::from_str(alloc, NO_HEAD),
         Ok(_matches) => String::from_str(alloc, WRONG_WORD),
-        Err(error) => text_of(alloc, &error),
+        Err(error) => without_wrong_tip(alloc, text_of(alloc, &error)?, words),
     }
 }
 
@@ -394,7 +398,7 @@ fn read_map(alloc: Global, found: &ArgMatches<'_>) -> Result<Job, WordFault>
     ensures misread { IfErr result
         (FailsFor (MisreadRequest (found_of found.now) Choice.Parts) (IsNoExtent (found_of found.now))) }
 {
-    let terms = terms_of(alloc, found, Choice::Parts, None)?;
+    let terms = terms_of(alloc, found, Choice::Parts, Style::plain())?;
     let spool = spool_of(alloc, found)?;
     let file = file_of(alloc, found)?;
     let subject = subject_of(alloc, found, type_word(found, "FILE"))?;
@@ -448,10 +452,10 @@ fn read_show(alloc: Global, found: &ArgMatches<'_>) -> Result<Job, WordFault>
     ensures command { IfOk result (IsJobOf (Some (codes "show"))) }
     ensures offset { IfErr result (λ fault. fault ≡ WordFault.Offset → IsNoExtent (found_of found.now)) }
     ensures misread { IfErr result
-        (FailsFor (MisreadRequest (found_of found.now) Choice.Part) (IsNoExtent (found_of found.now))) }
+        (FailsFor (MisreadRequest (found_of found.now) Choice.Parts) (IsNoExtent (found_of found.now))) }
 {
     let spool = spool_of(alloc, found)?;
-    let terms = terms_of(alloc, found, Choice::Part, Some(SHOWN_ELEMENTS))?;
+    let terms = terms_of(alloc, found, Choice::Parts, style_for_the_eye())?;
     let depth = depth_of(alloc, found, Some(SHOWN_LEVELS))?;
     let file = file_of(alloc, found)?;
     let subject = shown_subject(alloc, found)?;
@@ -466,6 +470,8 @@ fn read_show(alloc: Global, found: &ArgMatches<'_>) -> Result<Job, WordFault>
         form: Form::Shown {
             color: color_of(word(found, "color")),
             depth,
+            numbers: numbers_if_any(found),
+            beside: beside_of(found),
         },
         progress: flag_of(found, "progress"),
         subject,
@@ -481,7 +487,7 @@ fn read_each(alloc: Global, found: &ArgMatches<'_>) -> Result<Job, WordFault>
         (FailsFor (MisreadRequest (found_of found.now) Choice.Columns) (IsNoExtent (found_of found.now))) }
 {
     let spool = spool_of(alloc, found)?;
-    let terms = terms_of(alloc, found, Choice::Columns, None)?;
+    let terms = terms_of(alloc, found, Choice::Columns, Style::plain())?;
     let names = names_in(alloc, found)?;
     let subject = subject_of(alloc, found, found.get_str("TYPE"))?;
     let mapping = mapping_words(alloc, found)?;
@@ -557,14 +563,14 @@ fn copies(alloc: Global, words: &[&str]) -> Result<Vec<String>, AllocError>
     Ok(copies)
 }
 
-// The terms that the options request. Without a request, printed arrays have at most `most_elements`.
+// The terms that the options request. The style is what they don't request of it.
 fn terms_of(
     alloc: Global,
     found: &ArgMatches<'_>,
     choice: Choice,
-    most_elements: Option<u64>,
+    style: Style,
 ) -> Result<Terms, WordFault>
-    ensures terms { IfOk result (HasTerms (found_of found.now) choice most_elements) }
+    ensures terms { IfOk result (HasTerms (found_of found.now) choice style) }
     ensures path { IfErr result (λ fault. fault ≡ WordFault.Offset → ⊥) }
     ensures misread { IfErr result (FailsFor (MisreadRequest (found_of found.now) choice) ⊥) }
 {
@@ -574,7 +580,7 @@ fn terms_of(
         most_output: number_if_any(alloc, found, "max-output", "--max-output <N>")?,
         part: part_beside(alloc, found, &selection)?,
         most_slots: number_if_any(alloc, found, "slots", "--slots <N>")?,
-        style: style_of(alloc, found, most_elements)?,
+        style: style_of(alloc, found, style)?,
         look: None,
         selection,
     })
@@ -636,7 +642,7 @@ fn read_bound(alloc: Global, found: &ArgMatches<'_>, words: &[String]) -> Result
             name,
             bits,
             mode: mode_in(found),
-            style: style_of(alloc, found, None)?,
+            style: style_of(alloc, found, Style::plain())?,
         });
     }
     Ok(Job::Bound { pickle, name, bits })

@@ -143,7 +143,7 @@ const ARGUMENTS: &[Argument] = &[
         of: &["map", "show", "each"],
         name: "inside",
         is_rare: true,
-        help: "Map the type that the head of +NAME says for the format inside other bytes [default: the type of whole files]",
+        help: "Map the type of +NAME for the format inside other bytes [default: that of whole files]",
         ..FLAG
     },
     // The byte order of numbers whose field has neither `big` nor `little` before its type. Without the option it is the
@@ -163,7 +163,7 @@ const ARGUMENTS: &[Argument] = &[
         value: "N",
         accepts: Accepts::Number,
         default: Some("1000000000"),
-        help: "The most steps of the mapping, 0 to 18446744073709551615",
+        help: "The most steps of the mapping",
         ..OPTION
     },
     // Accept only a value that ends where FILE ends, or with `--length` where that ends it. Reject any other with
@@ -182,7 +182,7 @@ const ARGUMENTS: &[Argument] = &[
         value: "N",
         accepts: Accepts::Number,
         is_rare: true,
-        help: "The most bytes of the printed value, 0 to 18446744073709551615 [default: any length]",
+        help: "The most bytes of the printed value [default: any length]",
         ..OPTION
     },
     // Reserve N slots of each kind before the mapping, which then allocates no more memory for values. A slot
@@ -194,25 +194,17 @@ const ARGUMENTS: &[Argument] = &[
         value: "N",
         accepts: Accepts::Number,
         is_rare: true,
-        help: "The most slots of each kind, reserved before the mapping, 0 to 18446744073709551615. A slot stores a part of a value: a node, a link, a pending child or a byte of a string [default: any number]",
+        help: "The most slots of each kind, reserved before the mapping [default: any number]",
         ..OPTION
     },
     // Print the [part](#paths-and-parts) of the value at PATH, or the parts that a pattern leads to. If the option is
     // given [many times](#many-parts-and-tables), each part is printed as it is printed alone.
     Argument {
-        of: &["map"],
+        of: &["map", "show"],
         name: "get",
         kind: Kind::Repeated,
         value: "PATH",
         help: "Print parts of the value: . or steps of .name, .place, [place], [*], [2:5], .* [default: .]",
-        ..OPTION
-    },
-    // Show the [part](#paths-and-parts) of the value at PATH, which is no pattern.
-    Argument {
-        of: &["show"],
-        name: "get",
-        value: "PATH",
-        help: "Print a part of the value: . or steps of .name, .place, [place] [default: .]",
         ..OPTION
     },
     // Print the [part](#paths-and-parts) of the value at PATH. If the option is given
@@ -223,7 +215,7 @@ const ARGUMENTS: &[Argument] = &[
         name: "get",
         kind: Kind::Repeated,
         value: "PATH",
-        help: "Print a part of the value, as a column if there are many: . or steps of .name, .place, [place] [default: .]",
+        help: "Print a part of the value, or many as columns: . or steps of .name, .place, [place] [default: .]",
         ..OPTION
     },
     // Read a FILE that has no length, such as a pipe, [into memory](#a-file-without-a-length) before it is mapped. If it
@@ -234,7 +226,7 @@ const ARGUMENTS: &[Argument] = &[
         value: "BYTES",
         accepts: Accepts::Number,
         is_rare: true,
-        help: "Read a FILE without a length, as a pipe, into memory, up to so many bytes, 0 to 18446744073709551615 [default: it isn't opened]",
+        help: "Read a FILE without a length, as a pipe, up to so many bytes [default: it isn't opened]",
         ..OPTION
     },
     // Show on standard error [how far](#progress) FILE was read, or of `each` and `identify` how many files are done, if
@@ -268,7 +260,7 @@ const ARGUMENTS: &[Argument] = &[
     },
     // What a part that isn't there is: `fault NoSuchPart`, or with `empty` an empty column or line, in JSON `null`.
     Argument {
-        of: &["map", "each"],
+        of: &["map", "show", "each"],
         name: "absent",
         value: "WHAT",
         accepts: Accepts::OneOf(&["fault", "empty"]),
@@ -377,14 +369,14 @@ const ARGUMENTS: &[Argument] = &[
         help: "How the answer is printed",
         ..OPTION
     },
-    // How numbers are printed. `digits` prints decimal digits without the type and the unit.
+    // How numbers are printed. `digits` prints decimal digits without the type and the unit. `show` prints numbers in this
+    // form alone, always without the type.
     Argument {
-        of: &["map", "each"],
+        of: &["map", "show", "each"],
         name: "numbers",
         value: "FORM",
         accepts: Accepts::OneOf(&["decimal", "hex", "digits"]),
-        default: Some("decimal"),
-        help: "How numbers are printed",
+        help: "How numbers are printed [default: decimal, in show with hexadecimal after it]",
         ..OPTION
     },
     // With `--text`: how numbers are printed.
@@ -397,14 +389,14 @@ const ARGUMENTS: &[Argument] = &[
         help: "With --text, for numbers in this form [default: decimal]",
         ..OPTION
     },
-    // How an array of `char` is printed. `text` prints it as a string, without the zero bytes at its end.
+    // How an array of `char` is printed. `text` prints it as a string, without the zero bytes at its end. With `numbers`
+    // `show` prints a dump of its bytes.
     Argument {
-        of: &["map", "each"],
+        of: &["map", "show", "each"],
         name: "chars",
         value: "FORM",
         accepts: Accepts::OneOf(&["numbers", "text"]),
-        default: Some("numbers"),
-        help: "How arrays of char are printed",
+        help: "How arrays of char are printed [default: numbers, in show text]",
         ..OPTION
     },
     // With `--text`: how an array of `char` is printed.
@@ -417,22 +409,12 @@ const ARGUMENTS: &[Argument] = &[
         help: "With --text, for arrays of char in this form [default: numbers]",
         ..OPTION
     },
-    // Print at most N elements of each array, or `all`.
+    // Print at most N elements of each array, or `all`. Of an array of bytes `show` prints at most N lines.
     Argument {
-        of: &["map", "each"],
+        of: &["map", "show", "each"],
         name: "elements",
         value: "N",
-        default: Some("all"),
-        help: "The most elements that are printed of an array, or all",
-        ..OPTION
-    },
-    // Show at most N elements of an array and N lines of its bytes, or `all`.
-    Argument {
-        of: &["show"],
-        name: "elements",
-        value: "N",
-        default: Some("16"),
-        help: "The most elements that are printed of an array, or all",
+        help: "The most elements that are printed of an array, or all [default: all, in show 16]",
         ..OPTION
     },
     // With `--text`: at most N elements of each array are printed, or `all`.
@@ -484,6 +466,21 @@ const ARGUMENTS: &[Argument] = &[
         help: "The most levels of parts below the value that are listed, or all",
         ..OPTION
     },
+    // Show the size of each part after its place, in the same form: `0000000c` is 12 bytes, `00000001.4` is 12 bits.
+    Argument {
+        of: &["show"],
+        name: "sizes",
+        help: "Show the size of each part after its place [default: no]",
+        ..FLAG
+    },
+    // Show the bytes of FILE that each part takes, after its place: the first eight, in hexadecimal, and `..` if there are
+    // more. The bytes of the value are read into memory.
+    Argument {
+        of: &["show"],
+        name: "bytes",
+        help: "Show the first bytes of each part after its place [default: no]",
+        ..FLAG
+    },
     // Whether types are dimmed. With `auto` they are if standard output is a terminal and the environment has no NO_COLOR.
     Argument {
         of: &["show"],
@@ -505,7 +502,7 @@ const ARGUMENTS: &[Argument] = &[
     },
     // Print more lines on standard error: [why](WHY.md#why-a-pickle-is-refused) the pickle or TYPE is refused.
     Argument {
-        of: &["bound"],
+        of: &["bound", "types"],
         name: "why",
         help: "Explain why the pickle or TYPE is refused [default: no]",
         ..FLAG
@@ -516,13 +513,6 @@ const ARGUMENTS: &[Argument] = &[
         of: &["check"],
         name: "why",
         help: "Explain why the pickle is refused, or what an accepted one can't mean [default: no]",
-        ..FLAG
-    },
-    // Print more lines on standard error: [why](WHY.md#why-a-pickle-is-refused) the pickle is refused.
-    Argument {
-        of: &["types"],
-        name: "why",
-        help: "Explain why the pickle is refused [default: no]",
         ..FLAG
     },
     // Print more lines on standard error: why a FILE or the pickles aren't opened.
@@ -546,7 +536,7 @@ const ARGUMENTS: &[Argument] = &[
         name: "files0-from",
         value: "PATH",
         accepts: Accepts::File,
-        help: "Read the names of the files from PATH, or from standard input for -, each ended by a byte 0",
+        help: "Read names of files from PATH, or standard input for -, each ended by a byte 0",
         ..OPTION
     },
     // The first byte to print, as an offset of whole bytes.
@@ -607,14 +597,14 @@ const ARGUMENTS: &[Argument] = &[
         of: &["show"],
         name: "PICKLE",
         kind: Kind::Omissible,
-        help: "The file of the pickle, - for standard input, or +NAME for one that is installed. Left out with TYPE, it is that of the format that FILE has",
+        help: "The file of the pickle, - or +NAME. Left out with TYPE, it is that of the format of FILE",
         ..POSITIONAL
     },
     Argument {
         of: &["map", "show", "each", "bound"],
         name: "TYPE",
         kind: Kind::Omissible,
-        help: "The name of the type to map. Left out or - after +NAME, it is the one that the pickle's head says",
+        help: "The type to map. Left out or - after +NAME, it is that of the pickle's head",
         ..POSITIONAL
     },
     Argument {
@@ -643,7 +633,7 @@ const ARGUMENTS: &[Argument] = &[
         name: "BITS",
         kind: Kind::Omissible,
         accepts: Accepts::Number,
-        help: "The size of a file in bits, 0 to 18446744073709551615",
+        help: "The size of a file in bits",
         ..POSITIONAL
     },
 ];

@@ -12,44 +12,34 @@ Options of map, show and each:
   --at OFFSET      where the value begins in FILE [default: 0#b]
   --byte N         the byte where the value begins, as 446, 0x1be or, from the end of FILE, -512 [default: 0]
   --length BYTES   after how many bytes from there FILE ends, as 446 or 0x1be [default: where it does]
-  --inside         map the type that the head of +NAME says for the format inside other bytes
-                   [default: the type of whole files]
+  --inside         map the type of +NAME for the format inside other bytes [default: that of whole files]
   --endian ORDER   the byte order (big or little) [default: big, without TYPE that of the head]
-  --limit N        the most steps of the mapping, 0 to 18446744073709551615 [default: 1000000000]
+  --limit N        the most steps of the mapping [default: 1000000000]
   --whole          accept only a value that ends where FILE does [default: any end]
-  --max-output N   the most bytes of the printed value, 0 to 18446744073709551615 [default: any length]
-  --slots N        the most slots of each kind, reserved before the mapping, 0 to 18446744073709551615. A slot stores a
-                   part of a value: a node, a link, a pending child or a byte of a string [default: any number]
+  --max-output N   the most bytes of the printed value [default: any length]
+  --slots N        the most slots of each kind, reserved before the mapping [default: any number]
+  --absent WHAT    what a part that isn't there is: a fault, or an empty column or line (fault or empty)
+                   [default: fault]
+  --numbers FORM   how numbers are printed (decimal, hex or digits)
+                   [default: decimal, in show with hexadecimal after it]
+  --chars FORM     how arrays of char are printed (numbers or text) [default: numbers, in show text]
+  --elements N     the most elements that are printed of an array, or all [default: all, in show 16]
 
-Options of map:
+Options of map and show:
   --get PATH       print parts of the value: . or steps of .name, .place, [place], [*], [2:5], .* [default: .]
-  --rows PATTERN   print a line for each part that PATTERN leads to, with a column for each --get
-  --header         with --rows, print the paths of the columns first [default: no]
-  --mode MODE      how the value is printed (flat, tree, json or lines) [default: flat]
-
-Options of show:
-  --get PATH       print a part of the value: . or steps of .name, .place, [place] [default: .]
-  --elements N     the most elements that are printed of an array, or all [default: 16]
-  --depth N        the most levels of parts below the value that are shown, or all [default: 6]
-  --color WHEN     when colors are printed (auto, always or never) [default: auto]
 
 Options of each:
-  --get PATH       print a part of the value, as a column if there are many: . or steps of .name, .place, [place]
-                   [default: .]
+  --get PATH       print a part of the value, or many as columns: . or steps of .name, .place, [place] [default: .]
   --mode MODE      how the value is printed (flat or json) [default: flat]
 
 Options of map, show, each and identify:
-  --spool BYTES    read a FILE without a length, as a pipe, into memory, up to so many bytes, 0 to 18446744073709551615
-                   [default: it isn't opened]
+  --spool BYTES    read a FILE without a length, as a pipe, up to so many bytes [default: it isn't opened]
   --progress       show how much is done, if standard error is a terminal [default: no]
 
-Options of map and each:
-  --absent WHAT    what a part that isn't there is: a fault, or an empty column or line (fault or empty)
-                   [default: fault]
-  --numbers FORM   how numbers are printed (decimal, hex or digits) [default: decimal]
-  --chars FORM     how arrays of char are printed (numbers or text) [default: numbers]
-  --elements N     the most elements that are printed of an array, or all [default: all]
-  --why            explain why the pickle or TYPE is refused, or what stops a mapping [default: no]
+Options of map:
+  --rows PATTERN   print a line for each part that PATTERN leads to, with a column for each --get
+  --header         with --rows, print the paths of the columns first [default: no]
+  --mode MODE      how the value is printed (flat, tree, json or lines) [default: flat]
 
 Options of identify:
   --all            print all formats that fit, those without a signature too [default: the first]
@@ -65,7 +55,6 @@ Options of bound:
   --numbers FORM   with --text, for numbers in this form (decimal, hex or digits) [default: decimal]
   --chars FORM     with --text, for arrays of char in this form (numbers or text) [default: numbers]
   --elements N     with --text, for so many elements of an array, or all [default: all]
-  --why            explain why the pickle or TYPE is refused [default: no]
 
 Options of check, types and formats:
   --mode MODE      how the answer is printed (text or json) [default: text]
@@ -73,17 +62,28 @@ Options of check, types and formats:
 Options of map, each and identify:
   --faults FORM    how a refusal or a fault is printed (text or json) [default: text]
 
+Options of show:
+  --depth N        the most levels of parts below the value that are shown, or all [default: 6]
+  --sizes          show the size of each part after its place [default: no]
+  --bytes          show the first bytes of each part after its place [default: no]
+  --color WHEN     when colors are printed (auto, always or never) [default: auto]
+
 Options of types:
   --parts NAME     list the parts that values of the type NAME can have
   --depth N        the most levels of parts below the value that are listed, or all [default: 6]
-  --why            explain why the pickle is refused [default: no]
+
+Options of map and each:
+  --why            explain why the pickle or TYPE is refused, or what stops a mapping [default: no]
+
+Options of bound and types:
+  --why            explain why the pickle or TYPE is refused [default: no]
 
 Options of check:
   --why            explain why the pickle is refused, or what an accepted one can't mean [default: no]
 
 Options of each and identify:
   --flush          write the line of a file before the next file is read [default: no]
-  --files0-from PATH  read the names of the files from PATH, or from standard input for -, each ended by a byte 0
+  --files0-from PATH  read names of files from PATH, or standard input for -, each ended by a byte 0
 
 Options of dump:
   --from OFFSET    the first byte, in whole bytes [default: 0#B]

@@ -37,7 +37,6 @@ pub fn selection_of(
     let absent = absent_of(word(found, "absent"));
     let words = found.get_strs("get").unwrap_or(&[]);
     match choice {
-        Choice::Part => Ok(None),
         Choice::Parts => match found.get_str("rows") {
             Some(pattern) => Ok(Some(Selection {
                 shape: Shape::Rows(rows_of(alloc, found, pattern, words)?),

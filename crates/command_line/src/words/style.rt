@@ -1,8 +1,8 @@
 //! How a printed value looks, as arguments request it.
 ghost use Rattle.std.specs.Prelude.{◌≡◌, ◌≢◌, ◌⊎◌, IfOk, IfErr, codes};
 ghost use Rattle.clap.specs.Matches.{found_of, first_value};
-ghost use Rattle.command_line.specs.Styles.{NamesNumbers, NamesChars, NamesElements, NamesElementsOr, IsNoElements, IsNoElementsIfAny, NamesAnswer, NamesColor, NamesFaults};
-ghost use Rattle.command_line.specs.Found.{NamesStyle};
+ghost use Rattle.command_line.specs.Styles.{NamesNumbers, NamesNumbersOr, NamesNumbersIfAny, NamesChars, NamesCharsOr, NamesElements, NamesElementsOr, IsNoElements, IsNoElementsIfAny, NamesAnswer, NamesColor, NamesFaults};
+ghost use Rattle.command_line.specs.Found.{NamesStyle, ShowsBeside, for_the_eye};
 ghost use Rattle.command_line.specs.Misread.{FailsFor};
 ghost use Rattle.command_line.specs.declared.words.WordFault.TheVariants.{Offset, Memory};
 
@@ -11,19 +11,27 @@ use crate::color::Color;
 use crate::fault_form::FaultForm;
 use crate::numerals::whole_number;
 use crate::words::WordFault;
-use crate::words::found::word;
+use crate::words::commands::SHOWN_ELEMENTS;
+use crate::words::found::flag_of;
 use crate::words::usage::invalid_value;
 use clap::ArgMatches;
 use std::alloc::Global;
-use text_output::style::{Chars, Numbers, Style};
+use text_output::style::{Beside, Chars, Numbers, Style};
 
-/// The style that the options request. Without a request, arrays have at most `most_elements`.
-pub fn style_of(
-    alloc: Global,
-    found: &ArgMatches<'_>,
-    most_elements: Option<u64>,
-) -> Result<Style, WordFault>
-    ensures style { IfOk result (NamesStyle (found_of found.now) most_elements) }
+/// The style of values that are shown to the eye, if the options request nothing else.
+pub fn style_for_the_eye() -> Style
+    ensures { result ≡ for_the_eye }
+{
+    Style {
+        chars: Chars::Text,
+        elements: Some(SHOWN_ELEMENTS),
+        ..Style::plain()
+    }
+}
+
+/// The style that the options request. What they don't request is as in the default.
+pub fn style_of(alloc: Global, found: &ArgMatches<'_>, default: Style) -> Result<Style, WordFault>
+    ensures style { IfOk result (NamesStyle (found_of found.now) default) }
     ensures usage { IfErr result
         (λ fault. (fault ≡ Memory) ⊎ IsNoElementsIfAny (first_value (found_of found.now) (codes "elements"))) }
     ensures fault { IfErr result (λ fault. fault ≢ Offset) }
@@ -31,11 +39,11 @@ pub fn style_of(
         (FailsFor (IsNoElementsIfAny (first_value (found_of found.now) (codes "elements"))) ⊥) }
 {
     Ok(Style {
-        numbers: numbers_of(word(found, "numbers")),
-        chars: chars_of(word(found, "chars")),
+        numbers: numbers_or(found, default.numbers),
+        chars: chars_or(found, default.chars),
         elements: match found.get_str("elements") {
             Some(word) => most_of(alloc, word, "--elements <N>")?,
-            None => most_elements,
+            None => default.elements,
         },
     })
 }
@@ -84,6 +92,44 @@ pub fn answer_of(word: &str) -> AnswerForm
     match word {
         "json" => AnswerForm::Json,
         _ => AnswerForm::Text,
+    }
+}
+
+fn numbers_or(found: &ArgMatches<'_>, default: Numbers) -> Numbers
+    ensures { NamesNumbersOr default (first_value (found_of found.now) (codes "numbers")) result }
+{
+    match found.get_str("numbers") {
+        Some(word) => numbers_of(word),
+        None => default,
+    }
+}
+
+fn chars_or(found: &ArgMatches<'_>, default: Chars) -> Chars
+    ensures { NamesCharsOr default (first_value (found_of found.now) (codes "chars")) result }
+{
+    match found.get_str("chars") {
+        Some(word) => chars_of(word),
+        None => default,
+    }
+}
+
+/// The form of numbers that the options request, if they request one.
+pub fn numbers_if_any(found: &ArgMatches<'_>) -> Option<Numbers>
+    ensures { NamesNumbersIfAny (first_value (found_of found.now) (codes "numbers")) result }
+{
+    match found.get_str("numbers") {
+        Some(word) => Some(numbers_of(word)),
+        None => None,
+    }
+}
+
+/// What is shown beside each part, as the options request it.
+pub fn beside_of(found: &ArgMatches<'_>) -> Beside
+    ensures { ShowsBeside (found_of found.now) result }
+{
+    Beside {
+        sizes: flag_of(found, "sizes"),
+        bytes: flag_of(found, "bytes"),
     }
 }
 

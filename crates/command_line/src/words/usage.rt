@@ -17,3 +17,42 @@ pub fn invalid_value(
         "error: invalid value '{word}' for '{place}': {why}\n\nFor more information, try '--help'.\n"
     )
 }
+
+/// The options that take a number of bytes without a sign.
+const UNSIGNED: &[&str] = &["-s", "--skip", "-n", "--length"];
+
+/// Where clap tells how to pass a word that begins with `-`, after a blank line and before another one.
+const TIP: &str = "  tip: to pass ";
+
+/// A usage error without that tip, if the word is given to an option that takes no number with a sign: there the tip
+/// leads nowhere.
+pub fn without_wrong_tip(
+    alloc: Global,
+    text: String,
+    words: &[String],
+) -> Result<String, AllocError> {
+    if !is_signed(words) {
+        return Ok(text);
+    }
+    let Some((front, tip)) = text.as_str().split_once(TIP) else {
+        return Ok(text);
+    };
+    let Some((_, back)) = tip.split_once("\n\n") else {
+        return Ok(text);
+    };
+    let mut left = String::from_str(alloc, front)?;
+    left.push_str(back)?;
+    Ok(left)
+}
+
+/// Whether an option that takes a number without a sign is given a word that begins with `-`.
+fn is_signed(words: &[String]) -> bool {
+    let mut takes_number = false;
+    for word in words {
+        if takes_number && word.as_str().starts_with("-") {
+            return true;
+        }
+        takes_number = UNSIGNED.contains(&word.as_str());
+    }
+    false
+}
