@@ -275,5 +275,5 @@ pub stored_object : StoredObjectReadsBack
 stored_object pickle ask terms before after kept name reasons json_mode none all short n r done holds =
     let says = stored_says (MapsUnder pickle ask terms before after) kept done holds in
     under_said pickle ask before Done (Some []) (Some kept.text.items) (Some []) (Some []) refl terms after says.saying
-    says.right says.said
+    none says.right says.said
     (reads_here pickle ask terms before kept name reasons json_mode none all short n r done)

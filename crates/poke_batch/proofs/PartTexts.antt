@@ -13,7 +13,7 @@ use Rattle.value_text.specs.Printed.{printed}
 use Rattle.value_text.proofs.PlainTexts.{prints_plain}
 use Rattle.poke_batch.specs.PathParts.{node_at}
 use Rattle.poke_batch.specs.RunsUnder.{requested, part_text}
-use Rattle.poke_batch.specs.Selected.{text_in, selected_text}
+use Rattle.poke_batch.specs.Selected.{text_in, sighted, selected_text}
 
 -- the node of the type of the requested part
 abbrev pub part_node : Table → TypeId → Terms → (mapped : Value) → Option ℕ
@@ -25,10 +25,10 @@ pub styled_part : (table : Table) (id : TypeId) (ask : Ask) (terms : Terms) (who
     → part_text table id ask terms whole part
     ≡ text_in None terms.style ask.mode (nodes_of table) (char_node_of table) (part_node table id terms whole) part
 styled_part table id ask terms whole part none all =
-    ap (λ selection. selected_text (nodes_of table) (char_node_of table) terms.look terms.style ask.mode selection
-    (requested table id terms whole part)) all
-    ∙ ap (λ look.
-    text_in look terms.style ask.mode (nodes_of table) (char_node_of table) (part_node table id terms whole) part) none
+    ap (λ selection. selected_text (nodes_of table) (char_node_of table) (sighted None terms.look) terms.style ask.mode
+    selection (requested table id terms whole part)) all
+    ∙ ap (λ look. text_in (sighted None look) terms.style ask.mode (nodes_of table) (char_node_of table)
+    (part_node table id terms whole) part) none
 
 -- in the plain style as without a style
 pub plain_part : (table : Table) (id : TypeId) (ask : Ask) (terms : Terms) (whole part : Value) → terms.style ≡ plain →

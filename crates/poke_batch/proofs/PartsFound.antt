@@ -15,7 +15,8 @@ use Rattle.value_text.specs.declared.typed.Typed.{Typed}
 use Rattle.value_text.specs.TypedValue.{nodes_in, char_node_in, types_in, node_in, mapped_in}
 use Rattle.poke_batch.specs.PathNodes.{node_of}
 use Rattle.poke_batch.specs.Selected.{part_in, text_under, typed_text, has_selected}
-use Rattle.poke_batch.specs.RunsUnder.{requested, part_text, part_has}
+use Rattle.poke_batch.specs.RunsUnder.{requested, text_beside, part_has}
+use Rattle.value_text.specs.ShowWords.{FileBytes}
 use Rattle.poke_batch.specs.PathParts.{is_array, is_named, is_nameless_at, place_named, place_if, place_of, member_if, member_there, node_there, node_from, node_at, step_to, part_from, part_of}
 
 named_first : (name : List ℕ) (label : Label) (more place : ℕ) → is_named name (member_name label place) ≡ true
@@ -99,12 +100,13 @@ module _ (table : Table) (id : TypeId) (terms : Terms) (whole part : Typed)
       ∙ ap (λ n. node_at (nodes_in (types_in whole)) terms.part n (mapped_in whole)) of
       ∙ ap (λ ns. node_at ns terms.part (Some id.node) (mapped_in whole)) nodes)
 
-  pub part_printed : (ask : Ask) → char_node_in (types_in whole) ≡ char_node_of table →
-      typed_text terms ask.mode part ≡ part_text table id ask terms (mapped_in whole) (mapped_in part)
-  part_printed ask chars =
-      ap (λ ns. text_under ns (char_node_in (types_in part)) terms ask.mode (part_in part)) part_nodes
-      ∙ ap (λ letters. text_under (nodes_of table) letters terms ask.mode (part_in part)) (ap char_node_in same ∙ chars)
-      ∙ ap (text_under (nodes_of table) (char_node_of table) terms ask.mode) part_requested
+  pub part_printed : (ask : Ask) (file : Option FileBytes) → char_node_in (types_in whole) ≡ char_node_of table →
+      typed_text terms file ask.mode part ≡ text_beside table id ask terms file (mapped_in whole) (mapped_in part)
+  part_printed ask file chars =
+      ap (λ ns. text_under ns (char_node_in (types_in part)) terms file ask.mode (part_in part)) part_nodes
+      ∙ ap (λ letters. text_under (nodes_of table) letters terms file ask.mode (part_in part))
+      (ap char_node_in same ∙ chars)
+      ∙ ap (text_under (nodes_of table) (char_node_of table) terms file ask.mode) part_requested
 
   pub part_has_selected : has_selected (nodes_in (types_in part)) terms.selection (part_in part)
       ≡ part_has table id terms (mapped_in whole) (mapped_in part)

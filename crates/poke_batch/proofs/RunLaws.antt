@@ -26,7 +26,7 @@ use Rattle.poke_batch.specs.PathParts.{part_at}
 use Rattle.value_text.specs.Printed.{printed}
 use Rattle.poke_batch.specs.RunLaws.{MappedPartsAreSmall, part_json, WritesJson, WritesStyledJson, MappedJsonReadsBack, PartJsonReadsBack, StyledPartJsonReadsBack}
 use Rattle.poke_batch.specs.Runs.{IsAsked, HasAnswer, MapsAs, no_type, refused_pickle, value, stops, device, unknown, refused_map, no_memory}
-use Rattle.poke_batch.specs.RunsUnder.{text_saying, is_left, part_saying, part_text, part_has, kept_saying, value_saying, MapsUnder, mapped_under, ended_under, slots_under, HasNoRun, MapsRequested, is_run, lacks_part, lacks_type, no_part, not_run, undecided}
+use Rattle.poke_batch.specs.RunsUnder.{text_saying, is_left, part_saying, part_text, part_has, kept_saying, value_saying, shows_bytes, MapsUnder, mapped_under, shown_under, ended_under, slots_under, HasNoRun, MapsRequested, is_run, lacks_part, lacks_type, no_part, not_run, undecided}
 use Rattle.value_text.specs.SmallParts.{HasSmallParts, HasFewMembers}
 use Rattle.run_parts.specs.Told.{Saying, Text, Line, IsSaid, IsTold, IsWritten}
 use Rattle.value_text.proofs.StyledJsonValues.{json_reads_back, if_cut}
@@ -147,19 +147,21 @@ module _ (pickle : List ℕ) (ask : Ask) (before : SpaceView) (status : Status) 
   line_is after _ no_memory line_status line is e = cc
 
   -- what follows from each text of a part that is written under terms follows from what is said
-  pub under_said : {A : Type 0} (terms : Terms) (after : SpaceView) (saying : Saying)
+  pub under_said : {A : Type 0} (terms : Terms) (after : SpaceView) (saying : Saying) → terms.look ≡ None
       → MapsUnder pickle ask terms before after saying → IsSaidHere saying
       → ((table : Table) (id : TypeId) (type : PokeType) (mapped : Value) → type_named table id ≡ type
       → IsAsked pickle ask.name.now type → IsMeant type mapped → Fits (8 * before.len) type no_values ask.start mapped
       → (part : Value) → part_at terms.part mapped ≡ Some part
       → Appends out out' (part_text table id ask terms mapped part) → A)
       → A
-  under_said terms after saying
-      (mapped_under {type = type} {mapped = mapped} table id named asked means fits) h follows =
+  under_said terms after saying none
+      (mapped_under {type = type} {mapped = mapped} table id named unshown asked means fits) h follows =
       value_said table id terms mapped (follows table id type mapped named asked means fits) h
-  under_said terms after saying (ended_under {status = line_status} {line = line} right) h follows =
+  under_said terms after saying none (shown_under table id file named shown beside asked means fits) h follows =
+      let never : false ≡ true = sym (ap shows_bytes none) ∙ shown in absurd cc
+  under_said terms after saying none (ended_under {status = line_status} {line = line} right) h follows =
       no_line line_status line (line_is after (Line line_status line) right line_status line refl) h
-  under_said terms after saying (slots_under asked most less few) h follows = no_line Fault _ (λ e. cc) h
+  under_said terms after saying none (slots_under asked most less few) h follows = no_line Fault _ (λ e. cc) h
 
   -- a run that maps nothing isn't done
   not_done : (name : List ℕ) (terms : Terms) (ended : Outcome) → HasNoRun pickle name terms ended →
@@ -170,17 +172,18 @@ module _ (pickle : List ℕ) (ask : Ask) (before : SpaceView) (status : Status) 
   not_done name terms _ (lacks_part asked undecided) e = cc
 
   -- the same of a requested mapping
-  pub requested_said : {A : Type 0} (terms : Terms) (after : SpaceView) (saying : Saying)
+  pub requested_said : {A : Type 0} (terms : Terms) (after : SpaceView) (saying : Saying) → terms.look ≡ None
       → MapsRequested pickle ask terms before after saying → IsSaidHere saying
       → ((table : Table) (id : TypeId) (type : PokeType) (mapped : Value) → type_named table id ≡ type
       → IsAsked pickle ask.name.now type → IsMeant type mapped → Fits (8 * before.len) type no_values ask.start mapped
       → (part : Value) → part_at terms.part mapped ≡ Some part
       → Appends out out' (part_text table id ask terms mapped part) → A)
       → A
-  requested_said terms after _ (not_run {ended = ended} none) h follows =
+  requested_said terms after _ look (not_run {ended = ended} none) h follows =
       no_line (outcome_status ended) (outcome_line ended) (not_done ask.name.now terms ended none)
       (subst IsSaidHere (outcome_lines ended) h)
-  requested_said terms after saying (is_run asked can under) h follows = under_said terms after saying under h follows
+  requested_said terms after saying look (is_run asked can under) h follows =
+      under_said terms after saying look under h follows
 
   module _ (mode : ask.mode ≡ Json) where
     json_reads : (path : Option Path) (type : PokeType) (mapped : Value) → IsAsked pickle ask.name.now type
@@ -265,10 +268,10 @@ mapped_json pickle ask before after status out out' err err' mode done h =
 
 pub part_json_back : PartJsonReadsBack
 part_json_back pickle ask terms before after status out out' err err' mode is none all done h =
-    requested_said pickle ask before status out out' err err' done terms after h.saying h.right h.said
+    requested_said pickle ask before status out out' err err' done terms after h.saying none h.right h.said
     (plain_written pickle ask before status out out' err err' done mode terms is none all)
 
 pub styled_part_json : StyledPartJsonReadsBack
 styled_part_json pickle ask terms before after status out out' err err' mode none all short done h =
-    requested_said pickle ask before status out out' err err' done terms after h.saying h.right h.said
+    requested_said pickle ask before status out out' err err' done terms after h.saying none h.right h.said
     (styled_written pickle ask before status out out' err err' done mode terms none all short)

@@ -5,7 +5,7 @@ use Rattle.pickle_types.specs.declared.node.Node.{Node}
 use Rattle.pickle_meaning.specs.Values.{members_of, member_at}
 use Rattle.text_output.specs.declared.mode.Mode.{Mode}
 use Rattle.text_output.specs.declared.style.Style.{Style}
-use Rattle.text_output.specs.declared.style.Look.{Look}
+use Rattle.value_text.specs.ShowParts.{SightOf}
 use Rattle.command_line.specs.declared.pattern.PatternStep.{PatternStep}
 use Rattle.command_line.specs.declared.selection.Column.{Column}
 use Rattle.value_text.specs.declared.typed.Typed.{Typed}
@@ -43,14 +43,14 @@ module _ (nodes : List Node) {A : Type 0} (follow : Part → List A) (part : Par
 
 -- ---- texts
 
-module _ (look : Option Look) (style : Style) (mode : Mode) (line : LineOf) (steps : List PatternStep) where
+module _ (sight : Option SightOf) (style : Style) (mode : Mode) (line : LineOf) (steps : List PatternStep) where
   -- a part by another's types
   same_pattern : (part other : Typed) (of : Option ℕ) → types_in other ≡ types_in part → node_in other ≡ of
-      → typed_pattern look style mode line other steps ≡ pattern_lines (nodes_in (types_in part))
-      (char_node_in (types_in part)) look style mode line (record { node = of; value = mapped_in other }) steps
+      → typed_pattern sight style mode line other steps ≡ pattern_lines (nodes_in (types_in part))
+      (char_node_in (types_in part)) sight style mode line (record { node = of; value = mapped_in other }) steps
   same_pattern part other of same is =
-      ap (λ types. pattern_lines (nodes_in types) (char_node_in types) look style mode line (part_in other) steps) same
-      ∙ ap (λ n. pattern_lines (nodes_in (types_in part)) (char_node_in (types_in part)) look style mode line
+      ap (λ types. pattern_lines (nodes_in types) (char_node_in types) sight style mode line (part_in other) steps) same
+      ∙ ap (λ n. pattern_lines (nodes_in (types_in part)) (char_node_in (types_in part)) sight style mode line
       (record { node = n; value = mapped_in other }) steps) is
 
   module _ (part : Typed) where
@@ -58,11 +58,12 @@ module _ (look : Option Look) (style : Style) (mode : Mode) (line : LineOf) (ste
     pub member_more : (end place : ℕ) (member : Typed) → place < end
         → Some (mapped_in member) ≡ member_at (members_of (mapped_in part)) place
         → types_in member ≡ types_in part → node_in member ≡ part_node_in part place
-        → typed_members look style mode line part steps (end - place) place ≡ typed_pattern look style mode line member
-        steps ++ typed_members look style mode line part steps (end - (place + 1)) (place + 1)
+        → typed_members sight style mode line part steps (end - place) place
+        ≡ typed_pattern sight style mode line member
+        steps ++ typed_members sight style mode line part steps (end - (place + 1)) (place + 1)
     member_more end place member lt is same node =
         let nodes = nodes_in (types_in part) in
-        let text = lines_of nodes (char_node_in (types_in part)) look style mode line in
+        let text = lines_of nodes (char_node_in (types_in part)) sight style mode line in
         let rest = at_places nodes (parts_through nodes steps) (part_in part) (end - (place + 1)) (place + 1) in
         ap (each_text text) (places_more nodes (parts_through nodes steps) (part_in part) end place lt)
         ∙ each_append text (at_member nodes (parts_through nodes steps) (part_in part) place
@@ -73,27 +74,27 @@ module _ (look : Option Look) (style : Style) (mode : Mode) (line : LineOf) (ste
 
     -- an absent member
     pub member_none : (end place : ℕ) → place < end → None ≡ member_at (members_of (mapped_in part)) place
-        → typed_members look style mode line part steps (end - place) place
-        ≡ typed_members look style mode line part steps (end - (place + 1)) (place + 1)
+        → typed_members sight style mode line part steps (end - place) place
+        ≡ typed_members sight style mode line part steps (end - (place + 1)) (place + 1)
     member_none end place lt is =
         let nodes = nodes_in (types_in part) in
-        let text = lines_of nodes (char_node_in (types_in part)) look style mode line in
+        let text = lines_of nodes (char_node_in (types_in part)) sight style mode line in
         let rest = at_places nodes (parts_through nodes steps) (part_in part) (end - (place + 1)) (place + 1) in
         ap (each_text text) (places_more nodes (parts_through nodes steps) (part_in part) end place lt)
         ∙ ap (λ o. each_text text (at_member nodes (parts_through nodes steps) (part_in part) place o ++ rest)) (sym is)
 
     pub members_end : (end place : ℕ) → end ≤ place →
-        typed_members look style mode line part steps (end - place) place ≡ []
+        typed_members sight style mode line part steps (end - place) place ≡ []
     members_end end place le =
-        ap (each_text (lines_of (nodes_in (types_in part)) (char_node_in (types_in part)) look style mode line))
+        ap (each_text (lines_of (nodes_in (types_in part)) (char_node_in (types_in part)) sight style mode line))
         (places_end (nodes_in (types_in part)) (parts_through (nodes_in (types_in part)) steps)
         (part_in part) end place le)
 
 -- the columns of a row are its lines
-pub row_lines : (look : Option Look) (style : Style) (mode : Mode) (columns : List Column) (row : Option Typed) →
-    row_text mode (typed_row_cell style mode row) columns ≡ typed_lines look style mode (OfRow columns) row
-row_lines look style mode columns None = refl
-row_lines look style mode columns (Some row) = refl
+pub row_lines : (sight : Option SightOf) (style : Style) (mode : Mode) (columns : List Column) (row : Option Typed) →
+    row_text mode (typed_row_cell style mode row) columns ≡ typed_lines sight style mode (OfRow columns) row
+row_lines sight style mode columns None = refl
+row_lines sight style mode columns (Some row) = refl
 
 -- ---- presence
 

@@ -1,7 +1,7 @@
 -- Laws of what a mapping says under terms.
 use Rattle.std.proofs.Common.{◌≡◌, ◌≢◌, ◌⊎◌, ◌∙◌, ◌+◌, ◌*◌, ◌<◌, ◌≤◌, max, length, ℕ, Bool, true, false, List, Option, Some, None, refl, sym, ap, subst, inl, inr, arith}
-use Rattle.std.specs.Prelude.{if◌then◌else◌, codes}
-use Rattle.std.proofs.lemmas.Bool.{le-leb, lt-leb}
+use Rattle.std.specs.Prelude.{if◌then◌else◌, codes, slice_range, Ok, ◌^◌, ◌-◌}
+use Rattle.std.proofs.lemmas.Bool.{le-leb, lt-leb, cases_lt}
 use Rattle.pickle_types.specs.Types.{PokeType, IntegerOf, OffsetOf, StringOf, ArrayOf, StructOf, IntegralOf, UnionOf, Fields, NoFields, FieldThen, Parts, NoParts, PartThen}
 use Rattle.pickle_meaning.specs.Fits.{ElementsFit, no_more_fit, one_more_fits, Fits, FitsNumber, FieldsFit, AlternativeFits}
 use Rattle.pickle_meaning.specs.Means.{Taken}
@@ -17,7 +17,7 @@ use Rattle.pickle_types.specs.Bounds.{room}
 use Rattle.std.proofs.lemmas.Option.{same_Some}
 use Rattle.poke_batch.specs.Runs.{IsAsked}
 use Rattle.pickle_meaning.specs.Values.{Value, Levels, no_values, start_of, end_of, pushed, opened}
-use Rattle.bit_space.specs.SpaceView.{SpaceView}
+use Rattle.bit_space.specs.SpaceView.{SpaceView, HasRisen}
 use Rattle.pickle_meaning.specs.declared.faults.MapFaultKind.{MapFaultKind}
 use Rattle.pickle_meaning.specs.declared.faults.MapFaultKind.TheVariants as fault
 use Rattle.run_parts.specs.declared.accept.Refusal.{Refusal}
@@ -33,8 +33,12 @@ use Rattle.command_line.specs.declared.terms.Terms.{Terms}
 use Rattle.run_parts.specs.Lines.{fault_line, fault_at_line}
 use Rattle.run_parts.specs.Accepted.{Refuses, refusal_saying}
 use Rattle.run_parts.specs.FaultLines.{fault_saying}
-use Rattle.poke_batch.specs.Runs.{MapsAs, value, refused_map, no_memory}
-use Rattle.poke_batch.specs.RunsUnder.{MapsUnder, mapped_under, ended_under, slots_under, AreTooFew, IsStoreOf, end_saying, fixed_saying, SaysIt, said_so, no_memory_for_it, is_left, text_saying, part_saying, kept_saying, value_saying}
+use Rattle.poke_batch.specs.Runs.{MapsAs, HasAnswer, value, device, refused_map, no_memory}
+use Rattle.poke_batch.specs.RunsUnder.{MapsUnder, AreTaken, bytes_taken, mapped_under, shown_under, ended_under, slots_under, AreTooFew, IsStoreOf, end_saying, fixed_saying, SaysIt, said_so, no_memory_for_it, is_left, text_saying, part_saying, kept_beside, saying_beside}
+use Rattle.poke_batch.specs.TypeRuns.{TellsValue, tells_plain, tells_beside, tells_unread, run_saying, run_type}
+use Rattle.poke_batch.specs.declared.type_run.TypeRun.{TypeRun}
+use Rattle.run_parts.specs.declared.outcome.Failure.TheVariants as failure
+use Rattle.value_text.specs.ShowWords.{FileBytes}
 use Rattle.run_parts.specs.Told.{Saying, Text, Line, Says}
 use Rattle.pickle_types.specs.declared.table.Table.{Table}
 use Rattle.pickle_types.specs.declared.table.TypeId.{TypeId}
@@ -150,32 +154,77 @@ selected_saying ask most has text found part is whole =
     ∙ ap (λ b. if b then text_saying most ask.start (text part) else Line Fault (fault_line (codes "NoSuchPart"))) whole
 
 -- a value that ends before its file
-pub left_saying : (table : Table) (id : TypeId) (ask : Ask) (terms : Terms) (bits : ℕ) (mapped : Value) (end : ℕ)
+pub left_saying : (table : Table) (id : TypeId) (ask : Ask) (terms : Terms) (file : Option FileBytes) (bits : ℕ)
+    (mapped : Value) (end : ℕ)
     → end ≡ end_of mapped → is_left terms.whole end bits ≡ true
-    → SaysIt (value_saying table id ask terms bits mapped) (Line Fault (fault_at_line (codes "Left") end))
-left_saying table id ask terms bits mapped end same left =
+    → SaysIt (saying_beside table id ask terms file bits mapped) (Line Fault (fault_at_line (codes "Left") end))
+left_saying table id ask terms file bits mapped end same left =
     let t : is_left terms.whole (end_of mapped) bits ≡ true =
     subst (λ e. is_left terms.whole e bits ≡ true) same left in
-    subst (λ e. SaysIt (value_saying table id ask terms bits mapped) (Line Fault (fault_at_line (codes "Left") e)))
+    subst
+    (λ e. SaysIt (saying_beside table id ask terms file bits mapped) (Line Fault (fault_at_line (codes "Left") e)))
     (sym same)
-    (subst (λ b. SaysIt (if b then Line Fault (fault_at_line (codes "Left") (end_of mapped)) else kept_saying table id
-    ask terms mapped) (Line Fault (fault_at_line (codes "Left") (end_of mapped)))) (sym t) said_so)
+    (subst (λ b. SaysIt (if b then Line Fault (fault_at_line (codes "Left") (end_of mapped)) else kept_beside table id
+    ask terms file mapped) (Line Fault (fault_at_line (codes "Left") (end_of mapped)))) (sym t) said_so)
 
 -- what is printed of a value is what a mapping under terms prints
-pub said_under : (table : Table) (id : TypeId) (pickle : List ℕ) (ask : Ask) (terms : Terms)
-    (before after : SpaceView) (mapped : Value)
-    → MapsUnder pickle ask terms before after (value_saying table id ask terms (8 * before.len) mapped)
-    → (saying : Saying) → SaysIt (value_saying table id ask terms (8 * before.len) mapped) saying
-    → MapsUnder pickle ask terms before after saying
-said_under table id pickle ask terms before after mapped right saying said_so = right
-said_under table id pickle ask terms before after mapped right saying no_memory_for_it = ended_under no_memory
+said_under : (pickle : List ℕ) (ask : Ask) (terms : Terms) (before after : SpaceView) {due : Saying}
+    → MapsUnder pickle ask terms before after due
+    → (saying : Saying) → SaysIt due saying → MapsUnder pickle ask terms before after saying
+said_under pickle ask terms before after right saying said_so = right
+said_under pickle ask terms before after right saying no_memory_for_it = ended_under no_memory
+
+-- bytes of a space are those of one with the same bytes
+taken_before : (before mid : SpaceView) (part : Value) (file : FileBytes) → mid.len ≡ before.len
+    → mid.bytes ≡ before.bytes → AreTaken mid part file → AreTaken before part file
+taken_before before mid part file len bytes taken = record {
+  from = taken.from;
+  bytes = λ known is. subst (λ l. file.bytes ≡ slice_range known file.from (file.from + bytes_taken l part)) len
+      (taken.bytes known (bytes ∙ is));
+}
+
+-- a count that rises later has risen
+risen_before : (before mid after : ℕ) → before ≤ mid → mid ≤ after → HasRisen mid after → HasRisen before after
+risen_before before mid after up more risen less = elim (cases_lt mid (2 ^ 64 - 1)) [
+  | inl few ↦ let rose = risen few in omega (arith, up, rose)
+  | inr full ↦ omega (arith, less, full, more)
+]
+
+-- what a run tells of a value that it mapped is what a mapping under terms prints
+module _ (run : TypeRun) (pickle : List ℕ) (before mid after : SpaceView) (mapped : Value)
+    (len : mid.len ≡ before.len) (same : mid.bytes ≡ before.bytes) (up : before.failures ≤ mid.failures)
+    (more : mid.failures ≤ after.failures) (asked : IsAsked pickle run.ask.now.name.now (run_type run))
+    (means : (bytes : List ℕ) → before.bytes ≡ Some bytes →
+    HasAnswer bytes (run_type run) run.ask.now.order run.ask.now.start run.ask.now.limit (Ok mapped))
+    (fits : Fits (8 * before.len) (run_type run) no_values run.ask.now.start mapped) where
+  pub told_under : (saying : Saying) → TellsValue run mid after mapped saying →
+      MapsUnder pickle run.ask.now run.terms.now before after saying
+  told_under saying (tells_plain unshown said) =
+      said_under pickle run.ask.now run.terms.now before after
+      (mapped_under run.table.now run.id refl unshown asked means fits) saying
+      (subst (λ l. SaysIt (run_saying run None (8 * l) mapped) saying) len said)
+  told_under saying (tells_beside file shown beside said) =
+      said_under pickle run.ask.now run.terms.now before after
+      (shown_under run.table.now run.id file refl shown
+      (λ part is. taken_before before mid part file len same (beside part is)) asked means fits) saying
+      (subst (λ l. SaysIt (run_saying run (Some file) (8 * l) mapped) saying) len said)
+  told_under _ (tells_unread failure.Memory unread) = ended_under no_memory
+  told_under _ (tells_unread failure.Device unread) =
+      ended_under (device asked (risen_before before.failures mid.failures after.failures up more unread))
+  told_under _ (tells_unread failure.Write unread) = absurd unread
+  told_under _ (tells_unread failure.Read unread) = absurd unread
+  told_under _ (tells_unread failure.Open unread) = absurd unread
+  told_under _ (tells_unread failure.TooLong unread) = absurd unread
 
 -- without terms a mapping prints what it prints under none
 pub without_terms : (pickle : List ℕ) (ask : Ask) (before after : SpaceView) (saying : Saying)
     → MapsUnder pickle ask no_terms before after saying → MapsAs pickle ask before after saying
-without_terms pickle ask before after saying (mapped_under {mapped = mapped} table id named asked answer fits) =
+without_terms pickle ask before after saying
+    (mapped_under {mapped = mapped} table id named unshown asked answer fits) =
     subst (λ text. MapsAs pickle ask before after (Text text))
     (sym (prints_plain (nodes_of table) (char_node_of table) (Some id.node) ask.mode mapped)) (value asked answer fits)
+without_terms pickle ask before after saying (shown_under table id file named shown beside asked answer fits) =
+    absurd cc
 without_terms pickle ask before after saying (ended_under ends) = ends
 without_terms pickle ask before after saying (slots_under asked e less few) = absurd cc
 

@@ -1,6 +1,6 @@
 -- What a run must print for a pickle under terms.
-use Rattle.std.specs.Prelude.{◌*◌, ◌<◌, ◌≡◌, ℕ, Bool, true, false, ◌&&◌, List, Option, Some, None, Ok, length, nat_le, nat_lt, if◌then◌else◌, codes}
-use Rattle.bit_space.specs.SpaceView.{SpaceView}
+use Rattle.std.specs.Prelude.{◌*◌, ◌-◌, ◌/◌, min, ◌<◌, ◌≡◌, ℕ, Bool, true, false, ◌&&◌, List, Option, Some, None, Ok, length, nat_le, nat_lt, if◌then◌else◌, codes}
+use Rattle.bit_space.specs.SpaceView.{SpaceView, GivesRange}
 use Rattle.pickle_types.specs.declared.table.Table.{Table}
 use Rattle.pickle_types.specs.declared.table.TypeId.{TypeId}
 use Rattle.pickle_types.specs.NodeParts.{char_node_of}
@@ -17,7 +17,9 @@ use Rattle.pickle_meaning.specs.declared.faults.MapFaultKind.{MapFaultKind}
 use Rattle.pickle_meaning.specs.declared.faults.MapFaultKind.TheVariants as fault
 use Rattle.value_store.specs.declared.store.room.Growth.TheVariants.{Free}
 use Rattle.run_parts.specs.FaultLines.{fault_saying}
-use Rattle.pickle_meaning.specs.Values.{Value, end_of, no_values}
+use Rattle.pickle_meaning.specs.Values.{Value, start_of, end_of, no_values}
+use Rattle.text_output.specs.declared.style.Look.{Look}
+use Rattle.value_text.specs.ShowWords.{FileBytes, byte_after}
 use Rattle.command_line.specs.declared.ask.Ask.{Ask}
 use Rattle.run_parts.specs.declared.status.Status.{Status}
 use Rattle.run_parts.specs.declared.status.Status.TheVariants.{Fault, Outside}
@@ -56,25 +58,53 @@ abbrev pub requested : Table → TypeId → Terms → (value part : Value) → P
 requested table id terms value part =
     record { node = node_at (nodes_of table) terms.part (Some id.node) value; value = part }
 
--- its text, and whether it has the parts that are selected
+-- its text beside bytes of its file, if they are known, and without them; whether it has the parts that are selected
+abbrev pub text_beside : Table → TypeId → Ask → Terms → Option FileBytes → (value part : Value) → List ℕ
+text_beside table id ask terms file value part =
+    text_under (nodes_of table) (char_node_of table) terms file ask.mode (requested table id terms value part)
+
 abbrev pub part_text : Table → TypeId → Ask → Terms → (value part : Value) → List ℕ
-part_text table id ask terms value part =
-    text_under (nodes_of table) (char_node_of table) terms ask.mode (requested table id terms value part)
+part_text table id ask terms value part = text_beside table id ask terms None value part
 
 abbrev pub part_has : Table → TypeId → Terms → (value part : Value) → Bool
 part_has table id terms value part = has_selected (nodes_of table) terms.selection (requested table id terms value part)
 
--- what is printed of a value that ends where it must
-abbrev pub kept_saying : Table → TypeId → Ask → Terms → Value → Saying
-kept_saying table id ask terms value =
-    part_saying ask terms.most_output (part_has table id terms value) (part_text table id ask terms value)
+-- what is printed of a value that ends where it must, with bytes of its file beside it, and without them
+abbrev pub kept_beside : Table → TypeId → Ask → Terms → Option FileBytes → Value → Saying
+kept_beside table id ask terms file value =
+    part_saying ask terms.most_output (part_has table id terms value) (text_beside table id ask terms file value)
     (part_at terms.part value)
 
+abbrev pub kept_saying : Table → TypeId → Ask → Terms → Value → Saying
+kept_saying table id ask terms value = kept_beside table id ask terms None value
+
 -- what is printed of a value mapped from a file of so many bits: the first term that it fails to meet, or its text
-abbrev pub value_saying : Table → TypeId → Ask → Terms → (bits : ℕ) → Value → Saying
-value_saying table id ask terms bits value =
+abbrev pub saying_beside : Table → TypeId → Ask → Terms → Option FileBytes → (bits : ℕ) → Value → Saying
+saying_beside table id ask terms file bits value =
     if is_left terms.whole (end_of value) bits then Line Fault (fault_at_line (codes "Left") (end_of value))
-    else kept_saying table id ask terms value
+    else kept_beside table id ask terms file value
+
+abbrev pub value_saying : Table → TypeId → Ask → Terms → (bits : ℕ) → Value → Saying
+value_saying table id ask terms bits value = saying_beside table id ask terms None bits value
+
+-- whether a look shows the bytes of parts
+abbrev pub shows_bytes : Option Look → Bool
+shows_bytes None = false
+shows_bytes (Some look) = look.beside.bytes
+
+-- how many bytes a part takes of a file of such a length
+abbrev pub bytes_taken : (len : ℕ) → Value → ℕ
+bytes_taken len part = min (byte_after (start_of part) (end_of part - start_of part)) len - start_of part / 8
+
+-- bytes are those that a part takes of a file
+pub record AreTaken (before : SpaceView) (part : Value) (file : FileBytes) : Type 0 where
+  pub from : file.from ≡ start_of part / 8
+  pub bytes : GivesRange before file.from (bytes_taken before.len part) file.bytes
+
+-- the same of the requested part of a value, if it is there
+abbrev pub AreBeside : SpaceView → Terms → (mapped : Value) → FileBytes → Type 0
+AreBeside before terms mapped file =
+    (part : Value) → part_at terms.part mapped ≡ Some part → AreTaken before part file
 
 -- that is printed, or that memory didn't suffice to print it
 pub data SaysIt (saying : Saying) : Saying → Type 0 where
@@ -92,10 +122,17 @@ pub data MapsUnder (pickle : List ℕ) (ask : Ask) (terms : Terms) (before after
   -- what the terms make of the value that the type means on the file's bits, if these are known; over any space, of one
   -- that fits; it is printed by a table that has the type
   mapped_under : {type : PokeType} {mapped : Value} (table : Table) (id : TypeId) → type_named table id ≡ type
-      → IsAsked pickle ask.name.now type
+      → shows_bytes terms.look ≡ false → IsAsked pickle ask.name.now type
       → ((bytes : List ℕ) → before.bytes ≡ Some bytes → HasAnswer bytes type ask.order ask.start ask.limit (Ok mapped))
       → Fits (8 * before.len) type no_values ask.start mapped
       → MapsUnder pickle ask terms before after (value_saying table id ask terms (8 * before.len) mapped)
+  -- the same where a look shows the bytes of parts: beside those that the requested part takes of the file
+  shown_under : {type : PokeType} {mapped : Value} (table : Table) (id : TypeId) (file : FileBytes)
+      → type_named table id ≡ type
+      → shows_bytes terms.look ≡ true → AreBeside before terms mapped file → IsAsked pickle ask.name.now type
+      → ((bytes : List ℕ) → before.bytes ≡ Some bytes → HasAnswer bytes type ask.order ask.start ask.limit (Ok mapped))
+      → Fits (8 * before.len) type no_values ask.start mapped
+      → MapsUnder pickle ask terms before after (saying_beside table id ask terms (Some file) (8 * before.len) mapped)
   -- without a value: what a mapping without terms prints
   ended_under : {status : Status} {line : List ℕ} → MapsAs pickle ask before after (Line status line)
       → MapsUnder pickle ask terms before after (Line status line)

@@ -12,7 +12,8 @@ use Rattle.value_text.specs.TypedValue.{nodes_in, char_node_in, types_in, node_i
 use Rattle.value_text.specs.JsonText.{json_string}
 use Rattle.value_text.specs.Styled.{with_chars, styled_printed}
 use Rattle.value_text.specs.Cells.{cell}
-use Rattle.value_text.specs.ShowParts.{shown_in}
+use Rattle.value_text.specs.ShowParts.{SightOf, shown_in}
+use Rattle.value_text.specs.ShowWords.{FileBytes}
 use Rattle.command_line.specs.declared.path.Path.{Path}
 use Rattle.command_line.specs.declared.path.Step.{Step}
 use Rattle.command_line.specs.declared.pattern.PatternStep.{PatternStep}
@@ -136,9 +137,13 @@ each_text text [] = []
 each_text text (one ∷ more) = text one ++ each_text text more
 
 -- a value, printed by the types of a table: shown to the eye if a look is given, else in a mode and a style
-abbrev pub text_in : Option Look → Style → Mode → List Node → (chars node : Option ℕ) → Value → List ℕ
+abbrev pub text_in : Option SightOf → Style → Mode → List Node → (chars node : Option ℕ) → Value → List ℕ
 text_in None style mode nodes chars node value = styled_printed nodes chars node style mode value
-text_in (Some look) style mode nodes chars node value = shown_in look nodes chars node value
+text_in (Some sight) style mode nodes chars node value = shown_in sight nodes chars node value
+
+-- a look, if one is given, beside bytes of the file, if they are
+abbrev pub sighted : Option FileBytes → Option Look → Option SightOf
+sighted file look = option_map (λ look. record { look = look; file = file }) look
 
 -- what is between columns, and around a row: an object in JSON, in any other mode tabs
 abbrev pub between : Mode → (first : Bool) → List ℕ
@@ -197,10 +202,10 @@ abbrev pub cell_of : List Node → (chars : Option ℕ) → Style → Mode → O
 cell_of nodes chars style mode None = no_cell mode
 cell_of nodes chars style mode (Some part) = cell style mode (with_chars style.chars nodes chars part.node part.value)
 
-module _ (nodes : List Node) (chars : Option ℕ) (look : Option Look) (style : Style) (mode : Mode) where
+module _ (nodes : List Node) (chars : Option ℕ) (sight : Option SightOf) (style : Style) (mode : Mode) where
   -- the lines of a part that is there: as it is printed alone, or the cells of a row
   abbrev pub there_lines : LineOf → Part → List ℕ
-  there_lines OfPart part = text_in look style mode nodes chars part.node part.value
+  there_lines OfPart part = text_in sight style mode nodes chars part.node part.value
   there_lines (OfRow columns) part =
       row_text mode (λ column. cell_of nodes chars style mode (path_part nodes column.path part)) columns
 
@@ -220,21 +225,23 @@ module _ (nodes : List Node) (chars : Option ℕ) (look : Option Look) (style : 
       ++ pattern_lines (OfRow rows.columns.items) part rows.pattern.steps.items
 
   abbrev pub selected_text : Option Selection → Part → List ℕ
-  selected_text None part = text_in look style mode nodes chars part.node part.value
+  selected_text None part = text_in sight style mode nodes chars part.node part.value
   selected_text (Some selection) part = shape_text selection.shape part
 
--- what is printed of a part under terms
-abbrev pub text_under : List Node → (chars : Option ℕ) → Terms → Mode → Part → List ℕ
-text_under nodes chars terms mode part = selected_text nodes chars terms.look terms.style mode terms.selection part
+-- what is printed of a part under terms, beside bytes of its file, if they are known
+abbrev pub text_under : List Node → (chars : Option ℕ) → Terms → Option FileBytes → Mode → Part → List ℕ
+text_under nodes chars terms file mode part =
+    selected_text nodes chars (sighted file terms.look) terms.style mode terms.selection part
 
 -- the same of a part beside its type, and its text without a selection
-abbrev pub typed_whole : Option Look → Style → Mode → Typed → List ℕ
-typed_whole look style mode typed = text_in look style mode (nodes_in (types_in typed)) (char_node_in (types_in typed))
+abbrev pub typed_whole : Option SightOf → Style → Mode → Typed → List ℕ
+typed_whole sight style mode typed =
+    text_in sight style mode (nodes_in (types_in typed)) (char_node_in (types_in typed))
     (node_in typed) (mapped_in typed)
 
-abbrev pub typed_text : Terms → Mode → Typed → List ℕ
-typed_text terms mode typed =
-    text_under (nodes_in (types_in typed)) (char_node_in (types_in typed)) terms mode (part_in typed)
+abbrev pub typed_text : Terms → Option FileBytes → Mode → Typed → List ℕ
+typed_text terms file mode typed =
+    text_under (nodes_in (types_in typed)) (char_node_in (types_in typed)) terms file mode (part_in typed)
 
 -- ---- parts that are there
 

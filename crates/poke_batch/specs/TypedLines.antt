@@ -1,11 +1,12 @@
 -- The lines of parts beside their types.
-use Rattle.std.specs.Prelude.{ℕ, ◌-◌, ◌++◌, Bool, true, false, List, Option, Some, None}
+use Rattle.std.specs.Prelude.{ℕ, ◌-◌, ◌++◌, Bool, true, false, List, Option, Some, None, option_map}
 use Rattle.text_output.specs.declared.mode.Mode.{Mode}
 use Rattle.text_output.specs.declared.style.Style.{Style}
-use Rattle.text_output.specs.declared.style.Look.{Look}
 use Rattle.value_text.specs.declared.typed.Typed.{Typed}
 use Rattle.value_text.specs.TypedValue.{nodes_in, char_node_in, types_in}
+use Rattle.value_text.specs.declared.print.show.Sight.{Sight}
 use Rattle.value_text.specs.Cells.{typed_cell}
+use Rattle.value_text.specs.ShowParts.{SightOf, sight_of}
 use Rattle.command_line.specs.declared.path.Path.{Path}
 use Rattle.command_line.specs.declared.pattern.Pattern.{Pattern}
 use Rattle.command_line.specs.declared.pattern.PatternStep.{PatternStep}
@@ -32,21 +33,21 @@ abbrev pub typed_row_cell : Style → Mode → Option Typed → Column → List 
 typed_row_cell style mode row column = typed_path_cell style mode row column.path
 
 -- the lines of a part, if it is there
-abbrev pub typed_lines : Option Look → Style → Mode → LineOf → Option Typed → List ℕ
-typed_lines look style mode line None = absent_lines mode line
-typed_lines look style mode line (Some part) =
-    there_lines (nodes_in (types_in part)) (char_node_in (types_in part)) look style mode line (part_in part)
+abbrev pub typed_lines : Option SightOf → Style → Mode → LineOf → Option Typed → List ℕ
+typed_lines sight style mode line None = absent_lines mode line
+typed_lines sight style mode line (Some part) =
+    there_lines (nodes_in (types_in part)) (char_node_in (types_in part)) sight style mode line (part_in part)
 
 -- the lines of the parts to which a pattern leads, of those to which it leads from so many members on, and of those to
 -- which many patterns lead
-module _ (look : Option Look) (style : Style) (mode : Mode) where
+module _ (sight : Option SightOf) (style : Style) (mode : Mode) where
   abbrev pub typed_pattern : LineOf → Typed → List PatternStep → List ℕ
   typed_pattern line part steps =
-      pattern_lines (nodes_in (types_in part)) (char_node_in (types_in part)) look style mode line (part_in part) steps
+      pattern_lines (nodes_in (types_in part)) (char_node_in (types_in part)) sight style mode line (part_in part) steps
 
   abbrev pub typed_members : LineOf → Typed → List PatternStep → (count place : ℕ) → List ℕ
   typed_members line part steps count place =
-      each_text (lines_of (nodes_in (types_in part)) (char_node_in (types_in part)) look style mode line)
+      each_text (lines_of (nodes_in (types_in part)) (char_node_in (types_in part)) sight style mode line)
       (at_places (nodes_in (types_in part)) (parts_through (nodes_in (types_in part)) steps) (part_in part) count place)
 
   -- the same where the part, or the places, may be absent
@@ -64,7 +65,7 @@ module _ (look : Option Look) (style : Style) (mode : Mode) where
   -- what is printed of the parts of a part
   abbrev pub typed_shape : Shape → Typed → List ℕ
   typed_shape shape part =
-      shape_text (nodes_in (types_in part)) (char_node_in (types_in part)) look style mode shape (part_in part)
+      shape_text (nodes_in (types_in part)) (char_node_in (types_in part)) sight style mode shape (part_in part)
 
 -- whether a part has all parts to which a pattern leads, from members on, and where the part, or the places, may be
 -- absent
@@ -91,35 +92,42 @@ has_typed_places line part steps None = false
 has_typed_places line part steps (Some places) =
     has_typed_members line part steps (places.end - places.from) places.from
 
+abbrev pub lent_sight : Option Sight → Option SightOf
+lent_sight sight = option_map sight_of sight
+
 -- ---- the same in a format
 
 module _ (format : Format) where
   abbrev pub lines_in : Option Typed → List ℕ
-  lines_in part = typed_lines format.look format.style format.mode (line_of format.line) part
+  lines_in part = typed_lines (lent_sight format.sight) format.style format.mode (line_of format.line) part
 
   abbrev pub pattern_in : Typed → List PatternStep → List ℕ
-  pattern_in part steps = typed_pattern format.look format.style format.mode (line_of format.line) part steps
+  pattern_in part steps =
+      typed_pattern (lent_sight format.sight) format.style format.mode (line_of format.line) part steps
 
   abbrev pub next_in : Option Typed → List PatternStep → List ℕ
-  next_in part steps = typed_next format.look format.style format.mode (line_of format.line) part steps
+  next_in part steps = typed_next (lent_sight format.sight) format.style format.mode (line_of format.line) part steps
 
   abbrev pub places_in : Typed → List PatternStep → Option Places → List ℕ
   places_in part steps places =
-      typed_places format.look format.style format.mode (line_of format.line) part steps places
+      typed_places (lent_sight format.sight) format.style format.mode (line_of format.line) part steps places
 
   abbrev pub members_in : Typed → List PatternStep → Places → List ℕ
-  members_in part steps places = typed_members format.look format.style format.mode (line_of format.line) part steps
+  members_in part steps places =
+      typed_members (lent_sight format.sight) format.style format.mode (line_of format.line) part steps
       (places.end - places.from) places.from
 
   abbrev pub patterns_in : Typed → List Pattern → List ℕ
-  patterns_in part patterns = typed_patterns format.look format.style format.mode (line_of format.line) part patterns
+  patterns_in part patterns =
+      typed_patterns (lent_sight format.sight) format.style format.mode (line_of format.line) part patterns
 
   abbrev pub shape_in : Shape → Typed → List ℕ
-  shape_in shape part = typed_shape format.look format.style format.mode shape part
+  shape_in shape part = typed_shape (lent_sight format.sight) format.style format.mode shape part
 
   abbrev pub rows_in : Rows → Typed → List ℕ
   rows_in rows part = header_text rows.header rows.columns.items
-      ++ typed_pattern format.look format.style format.mode (OfRow rows.columns.items) part rows.pattern.steps.items
+      ++ typed_pattern (lent_sight format.sight) format.style format.mode (OfRow rows.columns.items) part
+      rows.pattern.steps.items
 
   -- the cells of a row, and its parts
   abbrev pub row_cell_in : Option Typed → Column → List ℕ
@@ -139,4 +147,4 @@ module _ (format : Format) where
 
   -- a part as it is printed alone
   abbrev pub part_lines_in : Option Typed → List ℕ
-  part_lines_in part = typed_lines format.look format.style format.mode OfPart part
+  part_lines_in part = typed_lines (lent_sight format.sight) format.style format.mode OfPart part

@@ -2,7 +2,9 @@
 
 ghost use Rattle.std.specs.Prelude.{◌≡◌, ◌<◌, ◌≤◌, Some, length, codes, IsOk, IfOk, IfErr, OnOk, OnErr};
 ghost use Rattle.std.specs.Io.KnownBytes.{Appends};
-ghost use Rattle.poke_batch.specs.Selected.{typed_text, typed_whole};
+ghost use Rattle.poke_batch.specs.Selected.{sighted, typed_text, typed_whole};
+ghost use Rattle.poke_batch.specs.TypedLines.{lent_sight};
+ghost use Rattle.poke_batch.specs.TypeRuns.{lent_bytes};
 ghost use Rattle.text_output.specs.Written.{AppendsPart};
 
 use crate::selected::print_shape;
@@ -14,6 +16,7 @@ use text_output::mode::Mode;
 use text_output::style::{Look, Style};
 use text_output::write::WriteFault;
 use thiserror::Error;
+use value_text::print::show::{FileBytes, Sight};
 use value_text::print::{print_shown, print_styled};
 use value_text::typed::Typed;
 
@@ -70,37 +73,51 @@ pub fn gather(
     value: Typed<'_>,
     mode: Mode,
     terms: &Terms,
+    file: Option<FileBytes<'_>>,
     most: u64,
 ) -> Result<Vec<u8>, DraftFault>
-    ensures text { IfOk result (λ text. text.items ≡ typed_text terms.now mode value.entry) }
+    ensures text { IfOk result (λ text. text.items ≡ typed_text terms.now (lent_bytes file.entry) mode value.entry) }
     ensures fits { IfOk result (λ text. length text.items ≤ most) }
     ensures err { IfErr result (λ fault. fault ≡ DraftFault.TooLong
-        → most < length (typed_text terms.now mode value.entry)) }
+        → most < length (typed_text terms.now (lent_bytes file.entry) mode value.entry)) }
 {
     let mut draft = Draft {
         bytes: Vec::new(alloc),
         most,
     };
-    let printed = print_under(value, mode, terms, &mut draft);
+    let printed = print_under(value, mode, terms, file, &mut draft);
     judge(printed, draft.bytes, most)
 }
 
 /// Prints a value, or the parts of it that the terms select, in a mode and the style of the terms or, if they have a
-/// look, shows it to the eye. If the writer fails, what it accepted is the first bytes of the text, but not all of
-/// them.
+/// look, shows it to the eye, beside bytes of its file, if they are known. If the writer fails, what it accepted is the
+/// first bytes of the text, but not all of them.
 pub fn print_under<W: Write>(
     value: Typed<'_>,
     mode: Mode,
     terms: &Terms,
+    file: Option<FileBytes<'_>>,
     w: &mut W,
 ) -> Result<(), WriteFault>
-    ensures ok { OnOk result (Appends (W.contents w.old) (W.contents w.new) (typed_text terms.now mode value.entry)) }
+    ensures ok { OnOk result (Appends (W.contents w.old) (W.contents w.new)
+        (typed_text terms.now (lent_bytes file.entry) mode value.entry)) }
     ensures err { OnErr result (AppendsPart (W.contents w.old) (W.contents w.new)
-        (typed_text terms.now mode value.entry)) }
+        (typed_text terms.now (lent_bytes file.entry) mode value.entry)) }
 {
+    let sight = sighted(file, terms.look);
     match &terms.selection {
-        None => print_whole(value, mode, terms.style, terms.look, w),
-        Some(selection) => print_shape(value, &selection.shape, mode, terms.style, terms.look, w),
+        None => print_whole(value, mode, terms.style, sight, w),
+        Some(selection) => print_shape(value, &selection.shape, mode, terms.style, sight, w),
+    }
+}
+
+// A look, if one is given, beside bytes of the file, if they are.
+fn sighted<'a>(file: Option<FileBytes<'a>>, look: Option<Look>) -> Option<Sight<'a>>
+    ensures { lent_sight result ≡ sighted (lent_bytes file.entry) look }
+{
+    match look {
+        Some(look) => Some(Sight { look, file }),
+        None => None,
     }
 }
 
@@ -109,16 +126,17 @@ fn print_whole<W: Write>(
     value: Typed<'_>,
     mode: Mode,
     style: Style,
-    look: Option<Look>,
+    sight: Option<Sight<'_>>,
     w: &mut W,
 ) -> Result<(), WriteFault>
-    ensures ok { OnOk result (Appends (W.contents w.old) (W.contents w.new) (typed_whole look style mode value.entry)) }
+    ensures ok { OnOk result (Appends (W.contents w.old) (W.contents w.new)
+        (typed_whole (lent_sight sight.entry) style mode value.entry)) }
     ensures err { OnErr result (AppendsPart (W.contents w.old) (W.contents w.new)
-        (typed_whole look style mode value.entry)) }
+        (typed_whole (lent_sight sight.entry) style mode value.entry)) }
 {
-    match look {
+    match sight {
         None => print_styled(value, mode, style, w),
-        Some(look) => print_shown(value, look, w),
+        Some(sight) => print_shown(value, sight, w),
     }
 }
 

@@ -12,8 +12,9 @@ use command_line::path::Path;
 use command_line::selection::Column;
 use std::io::Write;
 use text_output::mode::Mode;
-use text_output::style::{Look, Style};
+use text_output::style::Style;
 use value_text::print::printer::Printer;
+use value_text::print::show::Sight;
 use value_text::typed::Typed;
 
 /// What is printed of a part.
@@ -31,7 +32,7 @@ pub struct Format<'a> {
     pub mode: Mode,
     pub style: Style,
     /// If it is given, a part is shown to the eye.
-    pub look: Option<Look>,
+    pub sight: Option<Sight<'a>>,
     pub line: Line<'a>,
 }
 
@@ -62,9 +63,9 @@ fn put_part<W: Write>(printer: &mut Printer<'_, W>, format: Format<'_>, part: Op
 fn put_there<W: Write>(printer: &mut Printer<'_, W>, format: Format<'_>, part: Typed<'_>)
     ensures { Puts W.contents printer.old printer.new (part_lines_in format.entry (Some part.entry)) }
 {
-    match format.look {
+    match format.sight {
         None => printer.put_typed(format.mode, format.style, part),
-        Some(look) => printer.put_show(look, part),
+        Some(sight) => printer.put_show(sight, part),
     }
 }
 

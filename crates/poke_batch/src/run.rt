@@ -9,8 +9,8 @@ ghost use Rattle.pickle_meaning.specs.Values.{Value, value_at, start_of, end_of}
 ghost use Rattle.run_parts.specs.Outcomes.{EndsAs, outcome_saying};
 ghost use Rattle.run_parts.specs.Told.{Says};
 ghost use Rattle.poke_batch.specs.Runs.{ChecksAs, BoundsAs, MapsAs, types_text};
-ghost use Rattle.poke_batch.specs.RunsUnder.{MapsRequested, IsStoreOf, end_saying, fixed_saying, SaysIt};
-ghost use Rattle.poke_batch.specs.TypeRuns.{EndsRun, run_saying};
+ghost use Rattle.poke_batch.specs.RunsUnder.{MapsRequested, IsStoreOf, end_saying, fixed_saying};
+ghost use Rattle.poke_batch.specs.TypeRuns.{EndsRun, TellsValue};
 ghost use Rattle.text_output.specs.Written.{AppendsPart};
 ghost use Rattle.value_store.specs.Slots.{levels};
 
@@ -188,19 +188,18 @@ impl TypeRun<'_> {
         }
     }
 
-    /// Writes the value that a store holds, mapped from a file of so many bytes.
-    fn tell_root<O: Write>(&self, store: &Store, bytes: u64, out: &mut O) -> Outcome
+    /// Writes the value that a store holds, mapped from a space.
+    fn tell_root<S: Space, O: Write>(&self, store: &Store, space: &mut S, out: &mut O) -> Outcome
         requires held { IsSome (value_at (levels (nodes_of self.now.table.now) store.now) 0 0) }
         requires forward { (value : Value) → value_at (levels (nodes_of self.now.table.now) store.now) 0 0 ≡ Some value
             → start_of value ≤ end_of value }
-        ensures { (value : Value) → value_at (levels (nodes_of self.now.table.now) store.now) 0 0 ≡ Some value
-            → EndsAs (SaysIt (run_saying self.now (8 * bytes) value)) result (O.contents out.old) (O.contents out.new) }
+        ensures tells { (value : Value) → value_at (levels (nodes_of self.now.table.now) store.now) 0 0 ≡ Some value
+            → EndsAs (TellsValue self.now (S.view space.old) (S.view space.new) value) result
+            (O.contents out.old) (O.contents out.new) }
+        ensures keeps { Keeps (S.view space.old) (S.view space.new) }
     {
         match store.root(self.table) {
-            Some(value) => {
-                let bits = 8 * u128::from(bytes);
-                self.tell_value(value, bits, out)
-            }
+            Some(value) => self.tell_value(value, space, out),
             None => unreachable!(),
         }
     }
@@ -242,13 +241,12 @@ pub fn map_stored<S: Space, O: Write>(
         ..
     } = *run;
     store.clear();
-    let bytes = space.len();
     let mut meter = Meter::new(ask.limit);
     let watch = &mut Unwatched;
     match map_with(
         table, id, ask.order, ask.start, space, &mut meter, store, watch, findings,
     ) {
-        Ok(()) => run.tell_root(store, bytes, out),
+        Ok(()) => run.tell_root(store, space, out),
         Err(fault) => end_outcome(fault, terms.most_slots, ask.start),
     }
 }

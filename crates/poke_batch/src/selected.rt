@@ -4,7 +4,7 @@ ghost use Rattle.std.specs.Prelude.{OnOk, OnErr};
 ghost use Rattle.std.specs.Io.KnownBytes.{Appends};
 ghost use Rattle.text_output.specs.Written.{AppendsPart};
 ghost use Rattle.value_text.specs.Puts.{Puts};
-ghost use Rattle.poke_batch.specs.TypedLines.{typed_shape, shape_in, rows_in, patterns_in, pattern_in, next_in, places_in, members_in};
+ghost use Rattle.poke_batch.specs.TypedLines.{lent_sight, typed_shape, shape_in, rows_in, patterns_in, pattern_in, next_in, places_in, members_in};
 
 use crate::line::{Format, Line, put_header, put_lines};
 use crate::part::step_beside;
@@ -13,26 +13,27 @@ use command_line::pattern::{Pattern, PatternStep};
 use command_line::selection::{Rows, Shape};
 use std::io::Write;
 use text_output::mode::Mode;
-use text_output::style::{Look, Style};
+use text_output::style::Style;
 use text_output::write::WriteFault;
 use value_text::print::line::Line as Buffer;
 use value_text::print::printer::Printer;
+use value_text::print::show::Sight;
 use value_text::typed::Typed;
 
-/// Prints the parts of a value in a shape, each in a mode and a style or, with a look, for the eye. If the writer
+/// Prints the parts of a value in a shape, each in a mode and a style or, if it is given how, for the eye. If the writer
 /// fails, what it accepted is the first bytes of the text, but not all of them.
 pub fn print_shape<W: Write>(
     value: Typed<'_>,
     shape: &Shape,
     mode: Mode,
     style: Style,
-    look: Option<Look>,
+    sight: Option<Sight<'_>>,
     w: &mut W,
 ) -> Result<(), WriteFault>
     ensures ok { OnOk result (Appends (W.contents w.old) (W.contents w.new)
-        (typed_shape look style mode shape.now value.entry)) }
+        (typed_shape (lent_sight sight.entry) style mode shape.now value.entry)) }
     ensures err { OnErr result (AppendsPart (W.contents w.old) (W.contents w.new)
-        (typed_shape look style mode shape.now value.entry)) }
+        (typed_shape (lent_sight sight.entry) style mode shape.now value.entry)) }
 {
     let mut printer = Printer {
         writer: w,
@@ -42,7 +43,7 @@ pub fn print_shape<W: Write>(
     let format = Format {
         mode,
         style,
-        look,
+        sight,
         line: Line::Part,
     };
     put_shape(&mut printer, format, shape, value);

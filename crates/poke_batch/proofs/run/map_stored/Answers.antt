@@ -2,12 +2,12 @@ use Rattle.std.proofs.Common.{◌≤◌, ◌-◌, ◌∙◌, refl, subst, sym, a
 use Rattle.std.proofs.lemmas.Option.{same_Some}
 use Rattle.pickle_types.specs.TypeTable.{nodes_of}
 use Rattle.pickle_meaning.specs.Values.{start_of, end_of, no_values}
-use Rattle.poke_batch.specs.RunsUnder.{MapsUnder, mapped_under}
+use Rattle.poke_batch.specs.RunsUnder.{MapsUnder}
 use Rattle.pickle_map.specs.Mapped.{prepared}
 use Rattle.poke_batch.specs.TypeRuns.{run_type}
 use Rattle.poke_batch.proofs.Mappings.{fault_says, run_to_fault, value_answers, root_given}
 use Rattle.run_parts.proofs.Sayings.{ends_more, line_ends}
-use Rattle.poke_batch.proofs.UnderTerms.{starts_before_end, said_under, fault_under, end_under, least_of, few_of, store_stays}
+use Rattle.poke_batch.proofs.UnderTerms.{starts_before_end, told_under, fault_under, end_under, least_of, few_of, store_stays}
 use Rattle.poke_batch.proofs.run.map_stored.Goals as goal
 
 pub tell_root-requires-clause-forward : goal.tell_root-requires-clause-forward
@@ -23,14 +23,14 @@ returns-in-Ok-clause-ends g c =
     let run = c.args.run.now in
     let ask = run.ask.now in
     let given = c.in-Ok.ensures.is.fits in
-    let told = rw c.len-bytes.ensures at c.tell_root.ensures given.value (root_given given) in
+    let told = c.tell_root.ensures.tells given.value (root_given given) in
     λ pickle asked.
-    ends_more (said_under run.table.now run.id pickle ask run.terms.now _ _ given.value
-    (mapped_under run.table.now run.id refl asked
+    ends_more (told_under run pickle _ _ _ given.value c.in-Ok.ensures.is.len c.in-Ok.ensures.is.bytes
+    c.in-Ok.ensures.is.failures c.tell_root.ensures.keeps.failures asked
     (value_answers (run_type run) ask.order ask.start ask.limit c.new-meter.result.limit c.new-meter.result.steps _ _ _
     (nodes_of run.table.now) c.map_with.new.store given.value c.new-meter.ensures.limit c.new-meter.ensures.steps
     c.in-Ok.ensures.is.value (root_given given))
-    given.holds))
+    given.holds)
     told
 
 pub returns-in-Err-clause-store : goal.returns-in-Err-clause-store

@@ -1,5 +1,6 @@
 use Rattle.value_text.proofs.Puts.{told_none, told_next, told_same, told_failed}
 use Rattle.poke_batch.specs.Selected.{line_of}
+use Rattle.poke_batch.specs.TypedLines.{lent_sight}
 use Rattle.poke_batch.proofs.SelectedTexts.{member_more, member_none}
 use Rattle.poke_batch.proofs.selected.+walk.Goals.{put_members-in-Some, put_members-in_default}
 use Rattle.poke_batch.proofs.selected.+walk.Goals as goal
@@ -20,10 +21,12 @@ put_members-loop-place-preserved g t c =
     elim c.match-child.branch [
       | put_members-in-Some w ↦
           (let found = w.in-Some.ensures in
-          rw w.printer-is (told_next (member_more format.look format.style format.mode line steps c.args.part end place
+          rw w.printer-is
+          (told_next (member_more (lent_sight format.sight) format.style format.mode line steps c.args.part end place
           w.in-Some.member c.loop-place-test.true found.value found.types found.node)
           c.loop-place.invariant w.put_each.ensures))
       | put_members-in_default w ↦
-          rw w.printer-is (told_same (member_none format.look format.style format.mode line steps c.args.part end place
+          rw w.printer-is
+          (told_same (member_none (lent_sight format.sight) format.style format.mode line steps c.args.part end place
           c.loop-place-test.true w.in_default.ensures.value) c.loop-place.invariant)
     ]

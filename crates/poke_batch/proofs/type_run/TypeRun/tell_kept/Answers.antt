@@ -3,8 +3,9 @@ use Rattle.value_store.specs.Refs.{value_shown}
 use Rattle.value_text.specs.TypedValue.{nodes_in, mapped_in}
 use Rattle.run_parts.specs.declared.outcome.Outcome.TheVariants.{NoSuchPart}
 use Rattle.poke_batch.specs.PathParts.{part_at}
-use Rattle.poke_batch.specs.RunsUnder.{part_text, part_has}
+use Rattle.poke_batch.specs.RunsUnder.{text_beside, part_has}
 use Rattle.run_parts.proofs.Sayings.{line_ends}
+use Rattle.poke_batch.specs.TypeRuns.{lent_bytes}
 use Rattle.poke_batch.proofs.PartsFound.{part_has_selected}
 use Rattle.poke_batch.proofs.UnderTerms.{no_part_saying, none_selected_saying}
 use Rattle.poke_batch.proofs.type_run.TypeRun.tell_kept.Goals as goal
@@ -17,7 +18,7 @@ returns-in_default g c =
     let value = value_shown c.args.value in
     line_ends _ NoSuchPart _
     (no_part_saying run.ask.now terms.most_output (part_has table run.id terms value)
-    (part_text table run.id run.ask.now terms value) (part_at terms.part value)
+    (text_beside table run.id run.ask.now terms (lent_bytes c.args.file) value) (part_at terms.part value)
     (sym (c.in_default.ensures.value ∙ ap (λ v. part_at terms.part (value_shown v)) c.new-whole.ensures.value)))
 
 pub returns-else-has_selected : goal.returns-else-has_selected
@@ -38,4 +39,5 @@ returns-else-has_selected g c =
     ∙ sym c.has_selected.ensures ∙ c.if-has_selected.false in
     line_ends _ NoSuchPart _
     (none_selected_saying run.ask.now terms.most_output (part_has table run.id terms value)
-    (part_text table run.id run.ask.now terms value) (part_at terms.part value) (mapped_in part) found lacks)
+    (text_beside table run.id run.ask.now terms (lent_bytes c.args.file) value) (part_at terms.part value)
+    (mapped_in part) found lacks)
