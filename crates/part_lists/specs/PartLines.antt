@@ -1,4 +1,4 @@
--- What is written of the parts behind a route.
+-- What is written of the parts to which a route leads.
 use Rattle.std.specs.Prelude.{ℕ, List}
 use Rattle.value_text.specs.ShowParts.{known_of}
 use Rattle.value_text.specs.TypedValue.{nodes_in}

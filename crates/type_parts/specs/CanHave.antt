@@ -24,7 +24,7 @@ use Rattle.type_parts.specs.declared.member.Standing.TheVariants.{Apart, Togethe
 
 -- ---- where one step leads
 
--- whether it leads to the field or alternative that has this name and stands at this place, and to elements of an array
+-- whether it leads to the field or alternative that has this name and is at this place, and to elements of an array
 pub record Leading : Type 0 where
   pub field : (its : Naming) → (place : ℕ) → Bool
   pub element : Bool

@@ -43,7 +43,7 @@ impl<'a> Hop<'a> {
         }
     }
 
-    /// Whether it leads to the field or alternative that has this name, if it has one, and stands at this place.
+    /// Whether it leads to the field or alternative that has this name, if it has one, and is at this place.
     pub fn leads_to_field(self, its: &Option<Name>, place: usize) -> bool
         ensures { result ≡ (of_hop self.entry).field (name_of its.now) place }
     {
@@ -104,7 +104,7 @@ impl<'a> Hop<'a> {
         false
     }
 
-    /// Whether it leads to a member that stands at this place, and whose type is a known one.
+    /// Whether it leads to a member at this place, and whose type is a known one.
     pub fn finds<M: Member>(self, member: &M, place: usize, known: &[bool]) -> bool
         requires { (M.member member.now).type < length known.now }
         ensures { result ≡ ((of_hop self.entry).field (M.member member.now).name place

@@ -43,7 +43,7 @@ impl Member for Part {
     }
 }
 
-/// Where the members of a type stand in its values.
+/// Where the members of a type are in its values.
 #[derive(Clone, Copy)]
 pub enum Standing {
     /// Each at its own place, as fields do.
