@@ -14,7 +14,7 @@ ghost use Rattle.poke_batch.specs.TypeRuns.{run_type};
 use crate::cause::Fault;
 use crate::endings::EarlyEndings;
 use crate::part::part_with;
-use crate::watcher::Told;
+use crate::watcher::PartWatcher;
 use bit_space::{Meter, Space};
 use pickle_map::mapper::map_watched;
 use pickle_map::{MapFault, Store};
@@ -62,7 +62,7 @@ pub fn map_again<S: Space>(
         ..
     } = *run;
     store.clear();
-    let mut told = Told::new(alloc, table.nodes());
+    let mut told = PartWatcher::new(alloc, table.nodes());
     let mut meter = Meter::new(ask.limit);
     let end = map_watched(
         table, id, ask.order, ask.start, space, &mut meter, store, &mut told,

@@ -7,7 +7,7 @@ use crate::again::Kept;
 use crate::blame::lead;
 use crate::cause::{Cause, Lead};
 use crate::seen::Seen;
-use crate::watcher::Told;
+use crate::watcher::PartWatcher;
 use crate::way::WayStep;
 use pickle_map::extent::Extent;
 use pickle_map::mapper::stop::Stop;
@@ -32,7 +32,7 @@ pub struct Approach<'t> {
     is_watched: bool,
     /// How many arrays, structs and unions of the part itself the walk is in.
     inside: usize,
-    told: Told<'t>,
+    told: PartWatcher<'t>,
     leads: Vec<Lead>,
     /// Whether an allocation failed for any of these.
     starved: bool,
@@ -61,7 +61,7 @@ impl<'t> Approach<'t> {
             gone: 0,
             is_watched,
             inside: 0,
-            told: Told::near(alloc, nodes),
+            told: PartWatcher::near(alloc, nodes),
             leads: Vec::new(alloc),
             starved: false,
         }
@@ -88,6 +88,11 @@ impl<'t> Approach<'t> {
             None => None,
         };
         Ok(Approached { leads, cause })
+    }
+
+    /// Whether the walk has gone into each value that the part is in.
+    pub fn has_arrived(&self) -> bool {
+        self.gone == self.steps.len()
     }
 
     /// Whether the walk is in the part itself, and that is watched.

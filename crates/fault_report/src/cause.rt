@@ -104,6 +104,22 @@ impl Around {
 }
 
 impl Around {
+    /// The same, with the lines on what the mapping had met.
+    pub fn with_met(self, met: Vec<u8>) -> Around {
+        let Around {
+            leads,
+            front,
+            fits,
+            met: _,
+        } = self;
+        Around {
+            leads,
+            front,
+            fits,
+            met,
+        }
+    }
+
     fn into_met(self) -> Vec<u8> {
         let Around {
             leads: _,

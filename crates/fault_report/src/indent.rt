@@ -1,6 +1,7 @@
 //! Lines of a shown value, indented below the value that it is a part of.
 
 use std::alloc::{AllocError, Global};
+use text_output::style::Beside;
 
 /// Which column of a shown line comes next.
 #[derive(Clone, Copy, PartialEq, Eq)]
@@ -9,10 +10,23 @@ enum Column {
     Place,
     /// The second of the two columns for the bit.
     Bit,
+    /// The blank before the size.
+    BeforeSize,
+    /// A digit of the size, or what comes after the last. The first may be a blank: then there is no size.
+    Size { is_first: bool },
+    /// One of so many blanks instead of a size.
+    NoSize(u8),
+    /// The second of the two columns for the bits of the size.
+    SizeBit,
+    /// One of so many columns of bytes.
+    Bytes(u8),
     /// The blank before the name.
     Blank,
     Rest,
 }
+
+/// How many columns the bytes of a part have.
+const BYTE_COLUMNS: u8 = 19;
 
 /// Lines that are given a depth and, on the first of them, a name.
 #[derive(Drop)]
@@ -21,16 +35,19 @@ pub struct Indented<'a> {
     depth: usize,
     /// The name on the first line, with a blank before it. Empty after that line.
     name: &'a [u8],
+    /// What the lines have between place and name.
+    beside: Beside,
     column: Column,
 }
 
 impl<'a> Indented<'a> {
     /// No lines yet.
-    pub fn new(alloc: Global, depth: usize, name: &'a [u8]) -> Indented<'a> {
+    pub fn new(alloc: Global, depth: usize, name: &'a [u8], beside: Beside) -> Indented<'a> {
         Indented {
             lines: Vec::new(alloc),
             depth,
             name,
+            beside,
             column: Column::Place,
         }
     }
@@ -49,12 +66,15 @@ impl<'a> Indented<'a> {
         match self.column {
             Column::Place if byte == b' ' || byte == b'.' => self.column = Column::Bit,
             Column::Place => {}
-            Column::Bit => {
-                for _ in 0..self.depth {
-                    self.lines.extend_from_slice(b"  ")?;
-                }
-                self.column = Column::Blank;
-            }
+            Column::Bit => self.end_place()?,
+            Column::BeforeSize => self.column = Column::Size { is_first: true },
+            Column::Size { is_first: true } if byte == b' ' => self.column = Column::NoSize(9),
+            Column::Size { .. } if byte == b' ' || byte == b'.' => self.column = Column::SizeBit,
+            Column::Size { .. } => self.column = Column::Size { is_first: false },
+            Column::NoSize(left) if 1 < left => self.column = Column::NoSize(left - 1),
+            Column::NoSize(_) | Column::SizeBit => self.end_size()?,
+            Column::Bytes(left) if 1 < left => self.column = Column::Bytes(left - 1),
+            Column::Bytes(_) => self.end_bytes()?,
             Column::Blank => {
                 self.lines.extend_from_slice(self.name)?;
                 self.name = b"";
@@ -63,6 +83,33 @@ impl<'a> Indented<'a> {
             Column::Rest if byte == b'\n' => self.column = Column::Place,
             Column::Rest => {}
         }
+        Ok(())
+    }
+
+    /// Goes on after the place.
+    fn end_place(&mut self) -> Result<(), AllocError> {
+        if self.beside.sizes {
+            self.column = Column::BeforeSize;
+            return Ok(());
+        }
+        self.end_size()
+    }
+
+    /// Goes on after the size, or where it would be.
+    fn end_size(&mut self) -> Result<(), AllocError> {
+        if self.beside.bytes {
+            self.column = Column::Bytes(BYTE_COLUMNS);
+            return Ok(());
+        }
+        self.end_bytes()
+    }
+
+    /// Goes on after the bytes, or where they would be.
+    fn end_bytes(&mut self) -> Result<(), AllocError> {
+        for _ in 0..self.depth {
+            self.lines.extend_from_slice(b"  ")?;
+        }
+        self.column = Column::Blank;
         Ok(())
     }
 }

@@ -14,7 +14,7 @@ ghost use Rattle.pickle_meaning.specs.declared.faults.MapFaultKind.TheVariants a
 ghost use Rattle.pickle_meaning.specs.Values.{value_at};
 ghost use Rattle.value_store.specs.Slots.{levels};
 ghost use Rattle.fault_report.specs.Found.{scene_type};
-ghost use Rattle.fault_report.specs.Why.{run_of, IsOutcomeOf, TellsOfFault, TellsOfPart, TellsOfValue, TellsWhy};
+ghost use Rattle.fault_report.specs.Why.{run_of, TellsArrays, IsOutcomeOf, TellsOfFault, TellsOfPart, TellsOfValue, TellsWhy};
 
 mod absent;
 mod again;
@@ -42,13 +42,14 @@ mod scene;
 mod seen;
 mod term;
 mod trail;
+mod turned;
 mod value;
 mod watcher;
 mod way;
 
 use crate::again::{Again, Kept, map_again};
 use crate::cause::Fault;
-use crate::lines::{arrays_text, fault_text};
+use crate::lines::{arrays_text, fault_text, last_arrays_text};
 use crate::pickle::Pickle;
 use crate::scene::Scene;
 use crate::term::term_text;
@@ -183,8 +184,34 @@ fn value_reasons(
     let Some(term) = term_text(scene.alloc, value, terms, mode, scene.bits, outcome)? else {
         return Ok(Vec::new(scene.alloc));
     };
-    let text = join(term, arrays_text(scene, kept, outcome != Outcome::Done)?)?;
+    let text = join(term, ended_text(scene, value, terms, kept, outcome)?)?;
     Ok(text)
+}
+
+/// The lines on the arrays that ended early before or at the end of a value. Of a value that is shown to the eye they are
+/// on those at its end.
+fn ended_text(
+    scene: &Scene<'_, '_>,
+    value: Typed<'_>,
+    terms: &Terms,
+    kept: &Kept,
+    outcome: Outcome,
+) -> Result<Text, AllocError>
+    requires table { IsTable scene.now.nodes.now }
+    requires root { scene.now.root < length scene.now.nodes.now }
+    ensures arrays { IfOk result (λ text. TellsArrays (scene_type scene.now) text.bytes.items) }
+{
+    let is_done = outcome == Outcome::Done;
+    if is_done && terms.look.is_some() {
+        last_arrays_text(scene, kept, end_of(value))
+    } else {
+        arrays_text(scene, kept, !is_done)
+    }
+}
+
+/// The first bit after a value.
+fn end_of(value: Typed<'_>) -> u128 {
+    u128::from(value.start()) + u128::from(value.size())
 }
 
 /// The lines on a mapping that stopped, if the run's outcome is its fault. An error if it isn't, and the mapping stopped

@@ -12,6 +12,7 @@ use crate::lengths::{say_bits, say_left, say_length, say_room};
 use crate::names::NamedValue;
 use crate::place::say_bit;
 use crate::scene::{Scene, purpose_of};
+use crate::turned::turned_order;
 use crate::value::Base;
 use crate::way::{FoundPart, Way};
 use bit_space::Order;
@@ -21,6 +22,7 @@ use pickle_map::mapper::stop::Stop;
 use pickle_map::mapper::watch::Clause;
 use pickle_source::site::Purpose;
 use pickle_source::text::Text;
+use pickle_tree::tree::ByteOrder;
 use pickle_types::view::Shape;
 use std::alloc::{AllocError, Global};
 
@@ -74,7 +76,8 @@ fn about(scene: &Scene<'_, '_>, fault: &Fault, found: &FoundPart) -> Result<Text
     let text = say_untried(scene, text, fault)?;
     let text = say_leads(scene, text, fault)?;
     let text = say_front(scene, text, fault)?;
-    say_order(text, fault.around.fits)
+    let text = say_order(text, fault.around.fits)?;
+    say_turned(text, turned_order(scene.nodes, fault))
 }
 
 /// Adds the lines on what failed to the text.
@@ -240,6 +243,15 @@ fn say_order(text: Text, fits: Option<Order>) -> Result<Text, AllocError> {
     }
 }
 
+/// Adds a line to the text that says which byte order before the type of the field fits the file.
+fn say_turned(text: Text, fits: Option<ByteOrder>) -> Result<Text, AllocError> {
+    match fits {
+        None => Ok(text),
+        Some(ByteOrder::Big) => text.say(b"  fits in big-endian: `big` before its type\n"),
+        Some(ByteOrder::Little) => text.say(b"  fits in little-endian: `little` before its type\n"),
+    }
+}
+
 /// Adds a line on an array whose elements end after its size to the text.
 fn say_outgrown(
     scene: &Scene<'_, '_>,
@@ -354,6 +366,63 @@ pub fn arrays_text(scene: &Scene<'_, '_>, kept: &Kept, is_faulty: bool) -> Resul
         say_planned(scene, text, kept.ended.planned.count)?
     };
     Ok(text)
+}
+
+/// The lines on the arrays that ended where a value does, if the file goes on after the value. Those have the fault of
+/// their next element at the bit `end` or after it.
+pub fn last_arrays_text(scene: &Scene<'_, '_>, kept: &Kept, end: u128) -> Result<Text, AllocError>
+    requires table { IsTable scene.now.nodes.now }
+    requires root { scene.now.root < length scene.now.nodes.now }
+    ensures arrays { IfOk result (λ text. TellsArrays (scene_type scene.now) text.bytes.items) }
+{
+    let text = Text::new(scene.alloc);
+    if u128::from(scene.bits) <= end {
+        return Ok(text);
+    }
+    let text = say_last_endings(scene, text, &kept.ended.broken, end)?;
+    let text = say_last_endings(scene, text, &kept.ended.planned, end)?;
+    Ok(text)
+}
+
+/// Adds the lines on the arrays to the text whose next element has its fault at a bit or after it.
+fn say_last_endings(
+    scene: &Scene<'_, '_>,
+    text: Text,
+    endings: &Endings,
+    end: u128,
+) -> Result<Text, AllocError>
+    requires table { IsTable scene.now.nodes.now }
+    requires root { scene.now.root < length scene.now.nodes.now }
+    requires said { TellsArrays (scene_type scene.now) text.bytes.items }
+    ensures arrays { IfOk result (λ text. TellsArrays (scene_type scene.now) text.bytes.items) }
+{
+    let mut text = text;
+    for ended in endings.last.as_slice() {
+        let line = last_line(scene, ended, end)?.into_bytes();
+        text = text.say(line.as_slice())?;
+    }
+    Ok(text)
+}
+
+/// The line on an array, if its next element has its fault at a bit or after it.
+fn last_line(scene: &Scene<'_, '_>, ended: &EndedArray, end: u128) -> Result<Text, AllocError>
+    requires table { IsTable scene.now.nodes.now }
+    requires root { scene.now.root < length scene.now.nodes.now }
+    ensures array { IfOk result (λ text. TellsArray (scene_type scene.now) text.bytes.items) }
+{
+    if is_stopped_from(ended.stop, end) {
+        array_line(scene, ended)
+    } else {
+        Ok(Text::new(scene.alloc))
+    }
+}
+
+/// Whether a fault is at a bit or after it.
+fn is_stopped_from(stop: Stop, bit: u128) -> bool {
+    match stop {
+        Stop::Fault(_, at) => bit <= at,
+        Stop::Limit | Stop::Device | Stop::Memory => false,
+    }
 }
 
 /// Adds the line that counts the arrays whose next element begins otherwise to the text.

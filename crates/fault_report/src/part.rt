@@ -26,6 +26,7 @@ use pickle_map::mapper::stop::Stop;
 use pickle_map::{MapFault, MapFaultKind, Store};
 use pickle_types::table::Table;
 use poke_batch::ask::Ask;
+use poke_batch::style::Look;
 use poke_batch::type_run::TypeRun;
 use std::alloc::{AllocError, Global};
 
@@ -57,7 +58,10 @@ pub fn part_with<S: Space>(
         None => Fault::of_type(run.alloc, fault),
     };
     if ends_run(fault.kind) {
-        return Ok(with_stop(part, run.ask, fault));
+        return match with_stop(part, run.ask, fault) {
+            Some(part) => Ok(Some(stopped_part(run, fault, part, space, store)?)),
+            None => Ok(None),
+        };
     }
     match confirm_part(run, fault, part, space, store)? {
         Some(part) => Ok(Some(part)),
@@ -98,7 +102,7 @@ fn confirm_part<S: Space>(
     let approached = watch.into_approached()?;
     let front = front_of(alloc, table, store, &part)?;
     let met = match run.terms.look {
-        Some(look) => met_lines(run, store, &part, look)?,
+        Some(look) => met_lines(run, store, &part, look, space)?,
         None => Vec::new(alloc),
     };
     store.clear();
@@ -177,6 +181,52 @@ fn is_at<S: Space>(
     find_there(whole, claim, space, &mut meter, store, watch)
 }
 
+/// A part where a run was ended that a type doesn't end. If the run's terms have a look, what the mapping had met is
+/// shown beside it, unless a read failed.
+fn stopped_part<S: Space>(
+    run: &TypeRun<'_>,
+    fault: MapFault,
+    part: Fault,
+    space: &mut S,
+    store: &mut Store,
+) -> Result<Fault, AllocError>
+    requires empty { store.old ≡ emptied store.old }
+    ensures keeps { Keeps (S.view space.old) (S.view space.new) }
+{
+    match run.terms.look {
+        Some(look) if fault.kind != MapFaultKind::Device => {
+            let met = met_before(run, fault, &part, look, space, store)?;
+            Ok(with_met(part, met))
+        }
+        _ => Ok(part),
+    }
+}
+
+/// The lines on what a mapping had met before a part where its run was ended. Empty if the check doesn't come to the part.
+fn met_before<S: Space>(
+    run: &TypeRun<'_>,
+    fault: MapFault,
+    part: &Fault,
+    look: Look,
+    space: &mut S,
+    store: &mut Store,
+) -> Result<Vec<u8>, AllocError>
+    requires empty { store.old ≡ emptied store.old }
+    ensures keeps { Keeps (S.view space.old) (S.view space.new) }
+{
+    let TypeRun { alloc, table, .. } = *run;
+    let places = part.way.places(alloc)?;
+    let mut watch = Approach::new(alloc, table.nodes(), part.way.steps(), false);
+    // What comes before the part is mapped again, and stays in the store. The check finds no fault, since no type means
+    // one of these.
+    let _is_found = is_at(run, fault, places.as_slice(), space, store, &mut watch);
+    let has_arrived = watch.has_arrived();
+    if !has_arrived {
+        return Ok(Vec::new(alloc));
+    }
+    met_lines(run, store, part, look, space)
+}
+
 /// A part, if its stop is the one that ended the mapping.
 fn with_stop(part: Fault, ask: &Ask<'_>, fault: MapFault) -> Option<Fault> {
     if fault_of(part.stop, ask.start) == fault {
@@ -198,6 +248,22 @@ fn front_of(
         _ => 0,
     };
     front(alloc, table.nodes(), store, part.way.steps(), inner)
+}
+
+/// A part, with what the mapping had met before it.
+fn with_met(part: Fault, met: Vec<u8>) -> Fault {
+    let Fault {
+        way,
+        stop,
+        cause,
+        around,
+    } = part;
+    Fault {
+        way,
+        stop,
+        cause,
+        around: around.with_met(met),
+    }
 }
 
 /// A part, with what was seen near it.

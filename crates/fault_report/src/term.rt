@@ -133,7 +133,7 @@ fn size_text(alloc: Global, value: Typed<'_>, terms: &Terms, mode: Mode) -> Resu
 {
     let mut counter = Counter { bytes: 0 };
     // The counter accepts each byte, so this doesn't fail.
-    let _printed = print_under(value, mode, terms, &mut counter);
+    let _printed = print_under(value, mode, terms, None, &mut counter);
     let count = Text::new(alloc)
         .say_number(counter.bytes as usize)?
         .into_bytes();

@@ -23,7 +23,7 @@ use std::alloc::{AllocError, Global};
 /// After a fault the trail is still whole when the first of `stop`, `end`, `miss` and `refuse` is called. That call
 /// stores the path to the part, and the later calls find it stored.
 #[derive(Drop)]
-pub struct Told<'t> {
+pub struct PartWatcher<'t> {
     alloc: Global,
     nodes: &'t [Node],
     trail: Trail,
@@ -37,10 +37,10 @@ pub struct Told<'t> {
     starved: bool,
 }
 
-impl<'t> Told<'t> {
+impl<'t> PartWatcher<'t> {
     /// A watcher that hasn't been notified yet.
-    pub fn new(alloc: Global, nodes: &'t [Node]) -> Told<'t> {
-        Told {
+    pub fn new(alloc: Global, nodes: &'t [Node]) -> PartWatcher<'t> {
+        PartWatcher {
             alloc,
             nodes,
             trail: Trail::new(alloc),
@@ -53,10 +53,10 @@ impl<'t> Told<'t> {
     }
 
     /// The same, for a walk that looks at the expressions of alternatives that don't match.
-    pub fn near(alloc: Global, nodes: &'t [Node]) -> Told<'t> {
-        Told {
+    pub fn near(alloc: Global, nodes: &'t [Node]) -> PartWatcher<'t> {
+        PartWatcher {
             near: Some(0),
-            ..Told::new(alloc, nodes)
+            ..PartWatcher::new(alloc, nodes)
         }
     }
 
@@ -75,7 +75,7 @@ impl<'t> Told<'t> {
 
     /// What was stored. An error if an allocation for it failed.
     pub fn into_kept(self) -> Result<Kept, AllocError> {
-        let Told {
+        let PartWatcher {
             alloc: _,
             nodes: _,
             trail: _,
@@ -265,7 +265,7 @@ impl<'t> Told<'t> {
     }
 }
 
-impl Watch for Told<'_> {
+impl Watch for PartWatcher<'_> {
     fn open(&mut self, at: usize) {
         let entered = self.enter(at);
         self.note(entered);

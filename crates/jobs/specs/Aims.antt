@@ -44,7 +44,7 @@ plain_aim name at order limit mode = record { name = name; start = Bit at; order
 -- a value that is shown to the eye has no mode of its own
 abbrev pub form_mode : Form → Mode
 form_mode (Printed mode faults) = mode
-form_mode (Shown color depth) = Flat
+form_mode (Shown color depth numbers beside) = Flat
 
 -- whether types are dimmed
 abbrev pub dims : Color → Bool
@@ -55,8 +55,15 @@ dims Never = false
 -- the look of a value that is shown to the eye
 abbrev pub look_of : Form → Terms → Option Look
 look_of (Printed mode faults) terms = terms.look
-look_of (Shown color depth) terms =
-    Some (record { elements = terms.style.elements; depth = depth; dim = dims color })
+look_of (Shown color depth numbers beside) terms =
+    Some (record {
+      numbers = numbers;
+      chars = terms.style.chars;
+      elements = terms.style.elements;
+      depth = depth;
+      dim = dims color;
+      beside = beside;
+    })
 
 -- the terms of a request: a head may want that a value ends where its file does
 abbrev pub settled_terms : Form → (whole : Bool) → Terms → Terms

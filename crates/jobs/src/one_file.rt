@@ -113,7 +113,7 @@ fn explain_run<S: Space, O: Write>(
     ensures met { AddsMet run.now.terms.now outcome (O.contents out.old) (O.contents out.new) result }
     ensures keeps { Keeps (S.view space.old) (S.view space.new) }
 {
-    if !is_explained(outcome.status(), run.terms) {
+    if !is_mapped(outcome.status()) {
         return outcome;
     }
     let Ok(reasons) = reasons_of(run, pickle, outcome, space) else {
@@ -194,14 +194,6 @@ pub fn tell_start(alloc: Global, why: &mut Why<'_>, start: Start, bytes: u64) {
     }
     if let Ok(line) = format!(in alloc; "  --byte -{back}: the file has {bytes} bytes\n") {
         *why.text = line.into_bytes();
-    }
-}
-
-// Whether reasons are printed after a run with this exit status. Of a value that is shown to the eye there are none.
-fn is_explained(status: Status, terms: &Terms) -> bool {
-    match status {
-        Status::Done => terms.look.is_none(),
-        _ => is_mapped(status),
     }
 }
 

@@ -118,11 +118,20 @@ pub fn settle_terms(terms: &mut Terms, form: Form, whole: bool)
     ensures { terms.new ≡ settled_terms form whole terms.old }
 {
     terms.whole |= whole;
-    if let Form::Shown { color, depth } = form {
+    if let Form::Shown {
+        color,
+        depth,
+        numbers,
+        beside,
+    } = form
+    {
         terms.look = Some(Look {
+            numbers,
+            chars: terms.style.chars,
             elements: terms.style.elements,
             depth,
             dim: dims(color),
+            beside,
         });
     }
 }

@@ -10,5 +10,5 @@ returns-in_default c = record {
 pub returns : goal.returns
 returns c = record {
   why = λ space after ask has. rw c.in_ok-text.ensures
-      (of_value has (rw c.in-Some.is at c.in_ok-term.ensures.term) c.in_ok-arrays_text.ensures.arrays);
+      (of_value has (rw c.in-Some.is at c.in_ok-term.ensures.term) c.in_ok-ended_text.ensures.arrays);
 }
