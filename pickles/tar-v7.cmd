@@ -1,0 +1,1 @@
+map tar.pk Archive tar_v7.tar
