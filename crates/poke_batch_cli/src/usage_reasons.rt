@@ -69,10 +69,12 @@ fn path_in<'a>(word: &'a str, next: Option<&'a String>) -> Option<&'a str> {
     rest.strip_prefix('=')
 }
 
-// Whether `--get` accepts a pattern: that of `map`, unless it is the column of a row.
+// Whether `--get` accepts a pattern: that of `map` and of `show`, unless it is the column of a row.
 fn takes_patterns(words: &[String]) -> bool {
-    let maps = words.first().is_some_and(|word| word.as_str() == "map");
-    maps && !words.iter().any(|word| word.starts_with("--rows"))
+    let prints_parts = words
+        .first()
+        .is_some_and(|word| word.as_str() == "map" || word.as_str() == "show");
+    prints_parts && !words.iter().any(|word| word.starts_with("--rows"))
 }
 
 // Adds the form of a path or pattern, if a word isn't one.
