@@ -13,7 +13,7 @@ use pickle_map::extent::Extent;
 use pickle_map::mapper::stop::Stop;
 use pickle_map::mapper::watch::{Clause, Watch};
 use pickle_map::{MapFaultKind, Store};
-use pickle_types::view::{Node, Resolved};
+use pickle_types::view::{Node, Resolved, Shape};
 use std::alloc::{AllocError, Global};
 
 /// The most bounds and labels that are printed.
@@ -90,9 +90,13 @@ impl<'t> Approach<'t> {
         Ok(Approached { leads, cause })
     }
 
-    /// Whether the walk has gone into each value that the part is in.
-    pub fn has_arrived(&self) -> bool {
-        self.gone == self.steps.len()
+    /// Whether the walk has gone into each value that the part is in, but for the digits of an integral struct, which are
+    /// read at once.
+    pub fn has_arrived(&self, nodes: &[Node]) -> bool {
+        match self.steps.get(self.gone) {
+            Some(step) => is_integral(nodes, step.node),
+            None => true,
+        }
     }
 
     /// Whether the walk is in the part itself, and that is watched.
@@ -123,6 +127,14 @@ impl<'t> Approach<'t> {
             self.leads.push(lead)?;
         }
         Ok(())
+    }
+}
+
+/// Whether the type of a node is an integral struct.
+fn is_integral(nodes: &[Node], at: usize) -> bool {
+    match nodes.get(at) {
+        Some(node) => matches!(node.shape, Shape::Integral { .. }),
+        None => false,
     }
 }
 

@@ -220,7 +220,7 @@ fn met_before<S: Space>(
     // What comes before the part is mapped again, and stays in the store. The check finds no fault, since no type means
     // one of these.
     let _is_found = is_at(run, fault, places.as_slice(), space, store, &mut watch);
-    let has_arrived = watch.has_arrived();
+    let has_arrived = watch.has_arrived(table.nodes());
     if !has_arrived {
         return Ok(Vec::new(alloc));
     }
