@@ -8,10 +8,11 @@ use Rattle.pickle_meaning.specs.declared.faults.MapFaultKind.TheVariants as faul
 use Rattle.run_parts.specs.declared.status.Status.TheVariants.{Fault as Faulty}
 use Rattle.run_parts.specs.FaultLines.{fault_saying}
 use Rattle.run_parts.specs.Outcomes.{outcome_saying, outcome_status}
-use Rattle.run_parts.specs.declared.outcome.Outcome.TheVariants.{Fault}
+use Rattle.run_parts.specs.declared.outcome.Outcome.{Outcome}
+use Rattle.run_parts.specs.declared.outcome.Outcome.TheVariants.{Fault, Slots}
 use Rattle.poke_batch.specs.RunsUnder.{end_saying, fixed_saying}
 use Rattle.fault_report.specs.Meant.{HasFault}
-use Rattle.fault_report.specs.Why.{Run, FailsRead, IsOutcomeOf, itself, TellsWhy, another_fault, failed_read}
+use Rattle.fault_report.specs.Why.{Run, FailsRead, IsOutcomeOf, itself, too_few_slots, TellsWhy, another_fault, failed_read}
 
 -- a mapping that ends with another fault than the run
 module _ (run : Run) (type : PokeType) where
@@ -61,6 +62,13 @@ own_line (Some slots) start fault e = fixed_line start fault.kind fault.at e
 pub not_own : (start : ℕ) (most : Option ℕ) (fault told : MapFault) → (told ≡ fault → ⊥) →
     IsOutcomeOf start most fault (Fault told) → ⊥
 not_own start most fault told differs (itself e) = differs refl
+
+-- nor is an outcome that is neither a fault nor a want of slots
+pub neither : (start : ℕ) (most : Option ℕ) (fault : MapFault) (ended : Outcome)
+    → ((told : MapFault) → ended ≢ Fault told) → ((at : ℕ) → ended ≢ Slots at)
+    → IsOutcomeOf start most fault ended → ⊥
+neither start most fault ended no_fault no_slots (itself e) = no_fault fault refl
+neither start most fault ended no_fault no_slots (too_few_slots is memory) = no_slots start refl
 
 pub both_true : {a b : Bool} → a ≡ true → b ≡ true → a && b ≡ true
 both_true x y = rw (x, y) refl

@@ -62,6 +62,9 @@ pub fn term_text(
         | Outcome::Fault(_)
         | Outcome::Slots(_)
         | Outcome::Unidentified
+        | Outcome::NotFound
+        | Outcome::Attempts { .. }
+        | Outcome::Unaligned(_)
         | Outcome::Failed(_) => return Ok(None),
     };
     Ok(Some(text))

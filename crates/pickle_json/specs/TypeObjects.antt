@@ -87,4 +87,7 @@ IsRefusedFor pickle (outcome.Left at) = Unit {0}
 IsRefusedFor pickle outcome.NoSuchPart = Unit {0}
 IsRefusedFor pickle (outcome.Output at) = Unit {0}
 IsRefusedFor pickle outcome.Unidentified = Unit {0}
+IsRefusedFor pickle outcome.NotFound = Unit {0}
+IsRefusedFor pickle (outcome.Attempts first count) = Unit {0}
+IsRefusedFor pickle (outcome.Unaligned at) = Unit {0}
 IsRefusedFor pickle (outcome.Failed why) = Unit {0}

@@ -42,3 +42,14 @@ part_json = refl
 
 unidentified_line : outcome_line outcome.Unidentified ≡ codes "fault Unidentified\n"
 unidentified_line = refl
+
+not_found_line : outcome_line outcome.NotFound ≡ codes "fault NotFound\n"
+not_found_line = refl
+
+attempts_line : outcome_line (outcome.Attempts 24 3) ≡ codes "fault Attempts at 24#b count 3\n"
+unfolding digits
+attempts_line = refl
+
+attempts_json : outcome_json (outcome.Attempts 24 3) ≡ codes "{\"fault\":\"Attempts\",\"at\":24,\"count\":3}\n"
+unfolding digits
+attempts_json = refl

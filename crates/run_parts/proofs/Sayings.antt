@@ -60,6 +60,9 @@ outcome_lines (outcome.Left at) = refl
 outcome_lines outcome.NoSuchPart = refl
 outcome_lines (outcome.Output at) = refl
 outcome_lines outcome.Unidentified = refl
+outcome_lines outcome.NotFound = refl
+outcome_lines (outcome.Attempts first count) = refl
+outcome_lines (outcome.Unaligned at) = refl
 outcome_lines (outcome.Failed why) = refl
 
 -- the object of an outcome is made of its exit status, name and place
@@ -76,6 +79,9 @@ object_made (outcome.Left at) other = refl
 object_made outcome.NoSuchPart other = refl
 object_made (outcome.Output at) other = refl
 object_made outcome.Unidentified other = refl
+object_made outcome.NotFound other = refl
+object_made (outcome.Attempts first count) other = refl
+object_made (outcome.Unaligned at) other = refl
 object_made (outcome.Failed why) other = refl
 
 pub members_made : (ended : Outcome) → ended ≢ outcome.Done →
@@ -91,6 +97,9 @@ members_made (outcome.Left at) other = refl
 members_made outcome.NoSuchPart other = refl
 members_made (outcome.Output at) other = refl
 members_made outcome.Unidentified other = refl
+members_made outcome.NotFound other = refl
+members_made (outcome.Attempts first count) other = refl
+members_made (outcome.Unaligned at) other = refl
 members_made (outcome.Failed why) other = refl
 
 -- a fact of a result that is an error

@@ -20,3 +20,8 @@ fault_line kind = codes "fault " ++ (kind ++ 10 ∷ [])
 -- a fault of a mapping, at a bit of the file
 abbrev pub fault_at_line : List ℕ → ℕ → List ℕ
 fault_at_line kind bit = codes "fault " ++ (kind ++ (codes " at " ++ (decimal bit ++ codes "#b\n")))
+
+-- a fault of so many mappings, of which the first began at this bit
+abbrev pub fault_starts_line : List ℕ → (first count : ℕ) → List ℕ
+fault_starts_line kind first count = codes "fault "
+    ++ (kind ++ (codes " at " ++ ((decimal first ++ codes "#b count ") ++ (decimal count ++ 10 ∷ []))))

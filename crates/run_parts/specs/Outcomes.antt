@@ -6,13 +6,13 @@ use Rattle.pickle_meaning.specs.declared.faults.MapFaultKind.TheVariants as faul
 use Rattle.pickle_meaning.specs.FaultNames.{fault_kind}
 use Rattle.run_parts.specs.Accepted.{refusal_kind, refusal_saying}
 use Rattle.run_parts.specs.FaultLines.{fault_saying}
-use Rattle.run_parts.specs.Lines.{refused_line, fault_line, fault_at_line}
+use Rattle.run_parts.specs.Lines.{refused_line, fault_line, fault_at_line, fault_starts_line}
 use Rattle.run_parts.specs.Reports.{report_members, report_json}
 use Rattle.run_parts.specs.Told.{Saying, Text, Line}
 use Rattle.run_parts.specs.declared.accept.Refusal.{Refusal}
 use Rattle.run_parts.specs.declared.accept.Refusal.TheVariants as refusal
 use Rattle.run_parts.specs.declared.lines.RunEnd.{RunEnd}
-use Rattle.run_parts.specs.declared.lines.RunEnd.TheVariants.{Nowhere, Byte, Declaration, Bit}
+use Rattle.run_parts.specs.declared.lines.RunEnd.TheVariants.{Nowhere, Byte, Declaration, Bit, Starts}
 use Rattle.run_parts.specs.declared.outcome.Failure.{Failure}
 use Rattle.run_parts.specs.declared.outcome.Failure.TheVariants as failure
 use Rattle.run_parts.specs.declared.outcome.Outcome.{Outcome}
@@ -43,6 +43,9 @@ outcome_saying (outcome.Left at) = Line Fault (fault_at_line (codes "Left") at)
 outcome_saying outcome.NoSuchPart = Line Fault (fault_line (codes "NoSuchPart"))
 outcome_saying (outcome.Output at) = Line Fault (fault_at_line (codes "Output") at)
 outcome_saying outcome.Unidentified = Line Fault (fault_line (codes "Unidentified"))
+outcome_saying outcome.NotFound = Line Fault (fault_line (codes "NotFound"))
+outcome_saying (outcome.Attempts first count) = Line Fault (fault_starts_line (codes "Attempts") first count)
+outcome_saying (outcome.Unaligned at) = Line Fault (fault_at_line (codes "Unaligned") at)
 outcome_saying (outcome.Failed why) = Line Outside (fault_line (failure_kind why))
 
 -- the exit status and the line of what is said
@@ -73,6 +76,9 @@ outcome_kind (outcome.Left at) = codes "Left"
 outcome_kind outcome.NoSuchPart = codes "NoSuchPart"
 outcome_kind (outcome.Output at) = codes "Output"
 outcome_kind outcome.Unidentified = codes "Unidentified"
+outcome_kind outcome.NotFound = codes "NotFound"
+outcome_kind (outcome.Attempts first count) = codes "Attempts"
+outcome_kind (outcome.Unaligned at) = codes "Unaligned"
 outcome_kind (outcome.Failed why) = failure_kind why
 
 -- a failure of the environment is no fault of the mapping, and has no place
@@ -107,6 +113,9 @@ outcome_place (outcome.Left at) = Bit at
 outcome_place outcome.NoSuchPart = Nowhere
 outcome_place (outcome.Output at) = Bit at
 outcome_place outcome.Unidentified = Nowhere
+outcome_place outcome.NotFound = Nowhere
+outcome_place (outcome.Attempts first count) = Starts first count
+outcome_place (outcome.Unaligned at) = Bit at
 outcome_place (outcome.Failed why) = Nowhere
 
 -- an outcome as a JSON object on a line; of a run that is done there is none

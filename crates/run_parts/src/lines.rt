@@ -3,7 +3,7 @@
 ghost use Rattle.std.specs.Prelude.{◌≡◌, ◌++◌, decimal, OnOk, OnErr};
 ghost use Rattle.std.specs.Io.KnownBytes.{Appends};
 ghost use Rattle.text_output.specs.Written.{AppendsPart};
-ghost use Rattle.run_parts.specs.Reports.{lead, member_lead, report_json, report_line, report_members};
+ghost use Rattle.run_parts.specs.Reports.{lead, member_lead, report_json, report_line, report_members, starts_members, starts_text};
 
 use crate::status::Status;
 use itoa::Buffer;
@@ -21,6 +21,8 @@ pub enum RunEnd {
     Declaration(usize),
     /// At a bit of the file, counted from 0.
     Bit(u128),
+    /// At so many bits of the file, of which this is the first.
+    Starts { first: u64, count: u64 },
 }
 
 /// Writes the line of a run that ended with a status other than `Done`. `kind` is the name of the refusal or fault.
@@ -41,6 +43,7 @@ pub fn put_report<W: Write>(
             put_placed(w, lead, kind, b" in type ", declaration as u128, b"\n")
         }
         RunEnd::Bit(bit) => put_placed(w, lead, kind, b" at ", bit, b"#b\n"),
+        RunEnd::Starts { first, count } => put_starts(w, lead, kind, first, count),
     }
 }
 
@@ -81,6 +84,7 @@ pub fn put_report_members<W: Write>(
             put_member(w, lead, kind, b"\",\"type\":", declaration as u128)
         }
         RunEnd::Bit(bit) => put_member(w, lead, kind, b"\",\"at\":", bit),
+        RunEnd::Starts { first, count } => put_starts_members(w, lead, kind, first, count),
     }
 }
 
@@ -157,6 +161,87 @@ fn put_member<W: Write>(
     put(w, kind)?;
     put(w, link)?;
     put_digits(w, number)?;
+    Ok(())
+}
+
+// `lead`, the kind, and how many bits there are, with the first of them
+#[tactic(auto, using(text_output::proofs::Parts::written))]
+fn put_starts<W: Write>(
+    w: &mut W,
+    lead: &[u8],
+    kind: &[u8],
+    first: u64,
+    count: u64,
+) -> Result<(), WriteFault>
+    ensures ok { OnOk result (Appends (W.contents w.old) (W.contents w.new)
+        (lead.now ++ (kind.now ++ starts_text first count))) }
+    ensures err { OnErr result (AppendsPart (W.contents w.old) (W.contents w.new)
+        (lead.now ++ (kind.now ++ starts_text first count))) }
+{
+    put(w, lead)?;
+    put(w, kind)?;
+    put_two(w, b" at ", first, b"#b count ", count, b"\n")?;
+    Ok(())
+}
+
+// two numbers, after `link`, before `tail`, and with `middle` between them
+#[tactic(auto, using(text_output::proofs::Parts::written))]
+fn put_two<W: Write>(
+    w: &mut W,
+    link: &[u8],
+    first: u64,
+    middle: &[u8],
+    second: u64,
+    tail: &[u8],
+) -> Result<(), WriteFault>
+    ensures ok { OnOk result (Appends (W.contents w.old) (W.contents w.new)
+        (link.now ++ ((decimal first ++ middle.now) ++ (decimal second ++ tail.now)))) }
+    ensures err { OnErr result (AppendsPart (W.contents w.old) (W.contents w.new)
+        (link.now ++ ((decimal first ++ middle.now) ++ (decimal second ++ tail.now)))) }
+{
+    put(w, link)?;
+    put_number(w, u128::from(first), middle)?;
+    put_number(w, u128::from(second), tail)?;
+    Ok(())
+}
+
+// the same as members
+#[tactic(auto, using(text_output::proofs::Parts::written))]
+fn put_starts_members<W: Write>(
+    w: &mut W,
+    lead: &[u8],
+    kind: &[u8],
+    first: u64,
+    count: u64,
+) -> Result<(), WriteFault>
+    ensures ok { OnOk result (Appends (W.contents w.old) (W.contents w.new)
+        (lead.now ++ (kind.now ++ starts_members first count))) }
+    ensures err { OnErr result (AppendsPart (W.contents w.old) (W.contents w.new)
+        (lead.now ++ (kind.now ++ starts_members first count))) }
+{
+    put(w, lead)?;
+    put(w, kind)?;
+    put_two_members(w, b"\",\"at\":", first, b",\"count\":", count)?;
+    Ok(())
+}
+
+// two numbers, after `link`, and with `middle` between them
+#[tactic(auto, using(text_output::proofs::Parts::written))]
+fn put_two_members<W: Write>(
+    w: &mut W,
+    link: &[u8],
+    first: u64,
+    middle: &[u8],
+    second: u64,
+) -> Result<(), WriteFault>
+    ensures ok { OnOk result (Appends (W.contents w.old) (W.contents w.new)
+        (link.now ++ ((decimal first ++ middle.now) ++ decimal second))) }
+    ensures err { OnErr result (AppendsPart (W.contents w.old) (W.contents w.new)
+        (link.now ++ ((decimal first ++ middle.now) ++ decimal second))) }
+{
+    put(w, link)?;
+    put_number(w, u128::from(first), middle)?;
+    put_digits(w, u128::from(second))?;
     Ok(())
 }
 

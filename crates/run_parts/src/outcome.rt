@@ -71,6 +71,12 @@ pub enum Outcome {
     Output(u64),
     /// The file has none of the formats that were tried.
     Unidentified,
+    /// A search found no value.
+    NotFound,
+    /// So many attempts of a search reached their own limit of steps. The first of them began at this bit.
+    Attempts { first: u64, count: u64 },
+    /// The part whose bytes are requested doesn't begin and end at a byte, or has no place of its own. It is at this bit.
+    Unaligned(u64),
     /// Something in the environment failed.
     Failed(Failure),
 }
@@ -96,7 +102,10 @@ impl Outcome {
             | Outcome::Left(_)
             | Outcome::NoSuchPart
             | Outcome::Output(_)
-            | Outcome::Unidentified => Status::Fault,
+            | Outcome::Unidentified
+            | Outcome::NotFound
+            | Outcome::Attempts { .. }
+            | Outcome::Unaligned(_) => Status::Fault,
         }
     }
 
@@ -115,6 +124,9 @@ impl Outcome {
             Outcome::ImpossiblePart | Outcome::NoSuchPart => "NoSuchPart",
             Outcome::Output(_) => "Output",
             Outcome::Unidentified => "Unidentified",
+            Outcome::NotFound => "NotFound",
+            Outcome::Attempts { .. } => "Attempts",
+            Outcome::Unaligned(_) => "Unaligned",
             Outcome::Failed(failure) => failure.name(),
         }
     }
@@ -126,7 +138,9 @@ impl Outcome {
         match self {
             Outcome::Refused(refusal) => refusal_place(refusal),
             Outcome::Fault(fault) => fault_place(fault),
-            Outcome::Slots(at) | Outcome::Output(at) => RunEnd::Bit(u128::from(at)),
+            Outcome::Slots(at) | Outcome::Output(at) | Outcome::Unaligned(at) => RunEnd::Bit(
+                u128::from(at),
+            ),
             Outcome::Left(at) => RunEnd::Bit(at),
             Outcome::Done
             | Outcome::NoSuchType
@@ -134,7 +148,9 @@ impl Outcome {
             | Outcome::Offset
             | Outcome::NoSuchPart
             | Outcome::Unidentified
+            | Outcome::NotFound
             | Outcome::Failed(_) => RunEnd::Nowhere,
+            Outcome::Attempts { first, count } => RunEnd::Starts { first, count },
         }
     }
 
