@@ -1,2 +1,4 @@
 pub mod Tight
 pub mod Laws
+pub mod Held
+pub mod TightRuns

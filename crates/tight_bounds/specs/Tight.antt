@@ -4,7 +4,7 @@
 -- take belongs to the first part of what is around them.
 use Rattle.std.specs.Prelude.{ℕ, zero, suc, ◌+◌, ◌-◌, ◌*◌, ◌/◌, ◌^◌, min, max, nat_lt, if◌then◌else◌, ◌||◌, Option, Some, None}
 use Rattle.pickle_types.specs.Types.{Term, Number, Bound, Unbounded, ByCount, BySize, PokeType, IntegerOf, OffsetOf, StringOf, ArrayOf, StructOf, IntegralOf, UnionOf, Fields, NoFields, FieldThen, Parts, NoParts, PartThen, optional_weight, bound_weight}
-use Rattle.pickle_types.specs.Bounds.{has_label, where_present, cost}
+use Rattle.pickle_types.specs.Bounds.{has_label, where_present, cost, room}
 
 -- Steps are counted in grains, so that the steps for a bit are a whole number of them. A byte of a string takes a step,
 -- so an octet of grains for each bit.
@@ -254,3 +254,7 @@ unfoldable mutual
 -- a bound on the steps of a mapping on m bits, which is never above `cost`
 unfoldable pub tight : PokeType → ℕ → ℕ
 tight type m = min (cost type m) (divided (attempt type m + rate type m * m) grain)
+
+-- a bound on the slots of each kind: each slot that a mapping fills was paid by a step
+unfoldable pub tight_slots : PokeType → ℕ → ℕ
+tight_slots type m = min (room type m) (tight type m)

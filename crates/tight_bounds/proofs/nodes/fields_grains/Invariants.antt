@@ -1,0 +1,15 @@
+use Rattle.std.proofs.Common.{◌≤◌, List, length, drop}
+use Rattle.pickle_types.specs.declared.node.Node.{Node}
+use Rattle.pickle_types.specs.Table.{type_of, open_fields}
+use Rattle.tight_bounds.specs.Held.{AreFieldGrains, AreKnown}
+use Rattle.tight_bounds.proofs.nodes.fields_grains.Given as goal
+
+abbrev pub invariant-loop-at : goal.invariant-loop-at
+invariant-loop-at l = record {
+  within : l.at ≤ length l.fields;
+  so_far : (nodes : List Node) → AreKnown nodes l.known l.bits →
+      AreFieldGrains l.all (open_fields (type_of nodes) (drop l.at l.fields)) l.bits;
+}
+
+abbrev pub decreases-loop-at : goal.decreases-loop-at
+decreases-loop-at l = l.at
