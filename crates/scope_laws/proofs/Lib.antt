@@ -1,0 +1,9 @@
+pub mod Expressions
+pub mod SameTypes
+pub mod Meanings
+pub mod Scopes
+pub mod Typed
+pub mod Arrays
+pub mod Declared
+pub mod Records
+pub mod Rows

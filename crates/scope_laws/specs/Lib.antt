@@ -1,0 +1,4 @@
+pub mod Agreement
+pub mod Arrays
+pub mod Records
+pub mod Laws
