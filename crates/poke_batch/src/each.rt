@@ -123,8 +123,8 @@ pub fn run_file<S: Space, W: Write>(
     Ok(kept.outcome.status())
 }
 
-// The outcome of a run that wrote into memory: a text that wasn't written whole lacked memory.
-fn in_memory(outcome: Outcome) -> Outcome
+/// The outcome of a run that wrote into memory: a text that wasn't written whole lacked memory.
+pub fn in_memory(outcome: Outcome) -> Outcome
     ensures { result ≡ in_memory outcome }
 {
     match outcome {

@@ -47,7 +47,7 @@ impl TakenBytes {
 impl TypeRun<'_> {
     /// Writes the printed value, mapped from a space, if it meets the terms. Otherwise the outcome is the first term that
     /// it fails to meet. If the look has the bytes of parts, those of the requested part are read from the space.
-    pub(crate) fn tell_value<S: Space, O: Write>(
+    pub fn tell_value<S: Space, O: Write>(
         &self,
         value: ValueRef<'_>,
         space: &mut S,

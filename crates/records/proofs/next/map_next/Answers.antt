@@ -1,0 +1,60 @@
+-- `map_next`: a value in so many steps, or what the mapping must say of its fault.
+use Rattle.std.proofs.Common.{◌≤◌, ◌-◌, refl, sym, arith}
+use Rattle.pickle_map.specs.Mapped.{prepared}
+use Rattle.pickle_types.specs.TypeTable.{nodes_of}
+use Rattle.poke_batch.proofs.Mappings.{fault_says, root_given, run_to_fault}
+use Rattle.poke_batch.proofs.UnderTerms.{end_under, fault_under, few_of, least_of}
+use Rattle.poke_batch.specs.TypeRuns.{run_type}
+use Rattle.records.proofs.Mapped.{value_meant}
+use Rattle.records.proofs.next.map_next.Goals as goal
+
+pub returns-in-Ok-clause-ok : goal.returns-in-Ok-clause-ok
+returns-in-Ok-clause-ok g c =
+    let run = c.args.run.now in
+    let ask = run.ask.now in
+    let given = c.in-Ok.ensures.is.fits in
+    let limit = c.new-meter.ensures.limit in
+    let unused = c.new-meter.ensures.steps in
+    let most = c.in-Ok.ensures.is.most in
+    let within = c.map_with.new.meter.within in
+    let taken = c.steps.ensures in
+    record {
+      value = given.value;
+      there = root_given given;
+      few = omega (arith, limit, most, within, taken);
+      made = c.map_with.new.meter.made - c.new-meter.result.made;
+      means = value_meant (run_type run) ask.order ask.start ask.limit c.steps.result c.new-meter.result
+          c.map_with.new.meter (g.S.Space.view c.args.space.now).bytes (nodes_of run.table.now) c.map_with.new.store
+          given.value limit unused (sym taken) c.in-Ok.ensures.is.value (root_given given);
+      fits = given.holds;
+    }
+
+pub returns-in-Err-clause-err : goal.returns-in-Err-clause-err
+returns-in-Err-clause-err g c =
+    let run = c.args.run.now in
+    let ask = run.ask.now in
+    let most = run.terms.now.most_slots in
+    let fault = c.in-Err.fault in
+    let meter = c.new-meter.result in
+    let limit = c.new-meter.ensures.limit in
+    let unused = c.new-meter.ensures.steps in
+    let ready = c.requires.store in
+    record {
+      says = λ pickle asked.
+          end_under pickle ask run.terms.now _ _ fault.kind fault.at asked
+          (λ memory.
+          least_of most _ _ ready c.clear.ensures.empty c.clear.ensures.fixed (c.in-Err.ensures.is.memory memory))
+          (λ memory. few_of most _ _ (prepared (run_type run) (g.S.Space.view c.args.space.now) c.clear.new.self).room
+          (run_type run) ask _
+          (meter.limit - meter.steps) ready c.clear.ensures.empty refl c.clear.ensures.fixed
+          (omega (arith, limit, unused))
+          (λ bytes known kept. c.in-Err.ensures.is.asked bytes known memory kept))
+          (fault_under pickle ask run.terms.now _ _ fault.kind fault.at
+          (fault_says pickle ask _ _ (run_type run) fault.at meter.limit meter.steps _ _ _ limit unused asked fault.kind
+          c.in-Err.ensures.is.fault
+          (run_to_fault _ (run_type run) ask.order ask.start ask.limit meter c.map_with.new.meter
+          (prepared (run_type run) (g.S.Space.view c.args.space.now) c.clear.new.self)
+          c.map_with.new.store
+          fault.kind fault.at limit unused c.new-meter.ensures.made c.in-Err.ensures.is.counts)
+          c.in-Err.ensures.is.limit c.in-Err.ensures.is.place c.in-Err.ensures.is.device));
+    }

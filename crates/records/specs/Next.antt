@@ -1,0 +1,134 @@
+-- What the functions that map and write one record do.
+use Rattle.std.specs.Prelude.{◌≡◌, ◌≢◌, ◌<◌, ◌≤◌, ◌*◌, ◌^◌, ℕ, true, false, List, [], ◌∷◌, Option, Some, Ok}
+use Rattle.std.specs.List.{concat}
+use Rattle.std.specs.Io.KnownBytes.{Appends, Keeps as KeepsBytes}
+use Rattle.bit_space.specs.Bits.{bits_of}
+use Rattle.bit_space.specs.SpaceView.{SpaceView}
+use Rattle.pickle_map.specs.Findings.{AreFound}
+use Rattle.pickle_meaning.specs.Answer.{Answer}
+use Rattle.pickle_meaning.specs.Fits.{Fits}
+use Rattle.pickle_meaning.specs.Values.{Value, end_of, no_values, start_of, value_at}
+use Rattle.pickle_meaning.specs.declared.faults.MapFault.{MapFault}
+use Rattle.pickle_meaning.specs.declared.faults.MapFaultKind.TheVariants as fault
+use Rattle.pickle_types.specs.TypeTable.{nodes_of}
+use Rattle.poke_batch.specs.FileLine.{in_memory}
+use Rattle.poke_batch.specs.Runs.{IsAsked}
+use Rattle.poke_batch.specs.RunsUnder.{IsStoreOf, MapsUnder, end_saying}
+use Rattle.poke_batch.specs.TypeRuns.{run_type}
+use Rattle.poke_batch.specs.declared.type_run.TypeRun.{TypeRun}
+use Rattle.records.specs.Records.{is_written}
+use Rattle.records.specs.Written.{Adds, EndsList, Gathers}
+use Rattle.records.specs.declared.listing.Listing.{Listing}
+use Rattle.records.specs.declared.listing.Progress.{Progress}
+use Rattle.records.specs.declared.next.Kept.{Kept}
+use Rattle.run_parts.specs.Told.{AppendsUpTo}
+use Rattle.run_parts.specs.declared.outcome.Failure.TheVariants as failure
+use Rattle.run_parts.specs.declared.outcome.Outcome.{Outcome}
+use Rattle.run_parts.specs.declared.outcome.Outcome.TheVariants as outcome
+use Rattle.value_store.specs.Slots.{Held, levels}
+
+-- what is stored serves a run: its store is of the most slots, and what was found of the table's types is right
+pub record IsReady (run : TypeRun) (kept : Kept) : Type 0 where
+  pub store : IsStoreOf run.terms.now.most_slots kept.store
+  pub found : AreFound (nodes_of run.table.now) kept.findings
+
+-- the one value that a store holds
+abbrev pub held_value : TypeRun → Held → Option Value
+held_value run store = value_at (levels (nodes_of run.table.now) store) 0 0
+
+-- a store holds the value of a run, which took so many steps
+pub record HoldsValue (run : TypeRun) (space : SpaceView) (store : Held) (steps : ℕ) : Type 0 where
+  pub value : Value
+  pub there : held_value run store ≡ Some value
+  pub few : steps ≤ run.ask.now.limit
+  pub made : ℕ
+  pub means : (bytes : List ℕ) → space.bytes ≡ Some bytes →
+      Answer (bits_of bytes) (run_type run) run.ask.now.order run.ask.now.start run.ask.now.limit (Ok value) steps made
+  pub fits : Fits (8 * space.len) (run_type run) no_values run.ask.now.start value
+
+-- a value begins where a run does, and ends at a bit that a file can have
+pub record IsPlaced (run : TypeRun) (value : Value) : Type 0 where
+  pub starts : start_of value ≡ run.ask.now.start
+  pub forward : start_of value ≤ end_of value
+  pub inside : end_of value < 2 ^ 64
+
+-- such a value is stored
+pub record IsHeld (run : TypeRun) (store : Held) : Type 0 where
+  pub value : Value
+  pub there : held_value run store ≡ Some value
+  pub placed : IsPlaced run value
+
+-- a run has a fault, which is what it must say
+pub record HasFault (run : TypeRun) (begun done : SpaceView) (why : MapFault) : Type 0 where
+  pub says : (pickle : List ℕ) → IsAsked pickle run.ask.now.name.now (run_type run)
+      → MapsUnder pickle run.ask.now run.terms.now begun done
+      (end_saying run.terms.now.most_slots run.ask.now.start why.kind why.at)
+
+-- memory didn't suffice
+abbrev pub IsNoMemory : Outcome → Type 0
+IsNoMemory ended = ended ≡ outcome.Failed failure.Memory
+
+-- why a value isn't gathered: the run has an outcome in place of a text, or memory didn't suffice
+pub data IsUntold (run : TypeRun) (listing : Listing) (before : ℕ) (begun done : SpaceView) (value : Value) :
+    Outcome → Type 0 where
+  has_outcome : {ended : Outcome} {text : List ℕ} → ended ≢ outcome.Done
+      → Gathers run listing before begun done value ended text
+      → IsUntold run listing before begun done value (in_memory ended)
+  lacks_memory : IsUntold run listing before begun done value (outcome.Failed failure.Memory)
+
+-- a value was gathered and written
+pub record IsPut (run : TypeRun) (listing : Listing) (before : ℕ) (begun done : SpaceView) (value : Value)
+    (Takes : List ℕ → Type 0) : Type 0 where
+  pub text : List ℕ
+  pub gathers : Gathers run listing before begun done value outcome.Done text
+  pub takes : Takes text
+
+-- why a value isn't written: it isn't gathered, and nothing is written; or the output failed
+pub data IsUnput (run : TypeRun) (listing : Listing) (before : ℕ) (begun done : SpaceView) (value : Value)
+    (out out' : Option (List ℕ)) : Outcome → Type 0 where
+  is_untold : {ended : Outcome} → IsUntold run listing before begun done value ended → KeepsBytes out out' →
+      IsUnput run listing before begun done value out out' ended
+  is_cut : IsPut run listing before begun done value (AppendsUpTo out out') →
+      IsUnput run listing before begun done value out out' (outcome.Failed failure.Write)
+
+-- what is due of a value was written: nothing if it is omitted
+pub data PutsDue (run : TypeRun) (listing : Listing) (before : ℕ) (begun done : SpaceView) (value : Value)
+    (out out' : Option (List ℕ)) : (more : List (List ℕ)) → Type 0 where
+  omits : is_written listing before ≡ false → KeepsBytes out out' →
+      PutsDue run listing before begun done value out out' []
+  puts : is_written listing before ≡ true → (put : IsPut run listing before begun done value (Appends out out')) →
+      PutsDue run listing before begun done value out out' (put.text ∷ [])
+
+-- a value was written as it is due, and ends at a bit
+pub record PutsHeld (run : TypeRun) (listing : Listing) (before : ℕ) (begun done : SpaceView) (value : Value)
+    (out out' : Option (List ℕ)) (end : ℕ) : Type 0 where
+  pub is_end : end ≡ end_of value
+  pub moves : run.ask.now.start < end_of value
+  pub more : List (List ℕ)
+  pub due : PutsDue run listing before begun done value out out' more
+
+-- why that wasn't done: the value has no bits, or isn't written
+pub data IsNotPut (run : TypeRun) (listing : Listing) (before : ℕ) (begun done : SpaceView) (value : Value)
+    (out out' : Option (List ℕ)) : Outcome → Type 0 where
+  is_empty : end_of value ≡ run.ask.now.start → KeepsBytes out out'
+      → IsNotPut run listing before begun done value out out'
+      (outcome.Fault (record { kind = fault.NoBits; at = run.ask.now.start }))
+  is_unput : {ended : Outcome} → run.ask.now.start < end_of value → is_written listing before ≡ true
+      → IsUnput run listing before begun done value out out' ended
+      → IsNotPut run listing before begun done value out out' ended
+
+-- one more record was mapped, and what is due of it written; the list is now so far
+pub record GoesOn (run : TypeRun) (listing : Listing) (first : SpaceView) (at : Progress)
+    (out out' : Option (List ℕ)) (next : Progress) : Type 0 where
+  pub more : List (List ℕ)
+  pub adds : Adds run listing first at next more
+  pub takes : Appends out out' (concat more)
+
+-- the list ends here, and nothing is written; or the output failed at one more record
+pub data EndsHere (pickle : List ℕ) (run : TypeRun) (listing : Listing) (first last : SpaceView) (at : Progress)
+    (out out' : Option (List ℕ)) : Outcome → Type 0 where
+  no_more : {ended : Outcome} → EndsList pickle run listing first last at ended → KeepsBytes out out' →
+      EndsHere pickle run listing first last at out out' ended
+  cut_off : {next : Progress} {more : List (List ℕ)} → Adds run listing first at next more
+      → is_written listing at.count ≡ true → AppendsUpTo out out' (concat more)
+      → EndsHere pickle run listing first last at out out' (outcome.Failed failure.Write)

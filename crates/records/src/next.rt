@@ -1,0 +1,304 @@
+//! The next record of a list.
+
+ghost use Rattle.std.specs.Prelude.{◌≡◌, ◌≤◌, ◌<◌, ◌∷◌, ◌*◌, [], if◌then◌else◌, ℕ, List, Some, false, true, IfOk, IfErr, OnOk, OnErr};
+ghost use Rattle.std.specs.Io.KnownBytes.{Appends};
+ghost use Rattle.bit_space.specs.SpaceView.{Keeps, SpaceView};
+ghost use Rattle.pickle_meaning.specs.Clauses.{ends_array};
+ghost use Rattle.pickle_meaning.specs.Values.{Value, end_of, start_of};
+ghost use Rattle.poke_batch.specs.Runs.{IsAsked};
+ghost use Rattle.poke_batch.specs.RunsUnder.{end_saying};
+ghost use Rattle.poke_batch.specs.TypeRuns.{run_type};
+ghost use Rattle.records.specs.Next.{EndsHere, GoesOn, HasFault, HoldsValue, IsHeld, IsNoMemory, IsNotPut, IsPlaced, IsPut, IsReady, IsUnput, IsUntold, PutsHeld, held_value};
+ghost use Rattle.records.specs.Records.{goes_on};
+ghost use Rattle.records.specs.Written.{Gathers, left_at};
+ghost use Rattle.run_parts.specs.Outcomes.{outcome_saying};
+ghost use Rattle.run_parts.specs.Told.{AppendsUpTo};
+ghost use Rattle.run_parts.specs.declared.outcome.Outcome.TheVariants.{Done, Fault};
+ghost use Rattle.value_store.specs.Refs.{value_shown};
+
+use crate::listing::{Listing, Progress};
+use bit_space::{Memory, Meter, Space};
+use pickle_map::mapper::findings::Findings;
+use pickle_map::mapper::map_with;
+use pickle_map::mapper::watch::Unwatched;
+use pickle_map::{MapFault, MapFaultKind, Store, ValueRef};
+use poke_batch::each::in_memory;
+use poke_batch::run::{end_outcome, store_of};
+use poke_batch::type_run::TypeRun;
+use poke_batch::write::{WriteFault, put};
+use run_parts::outcome::{Failure, Outcome};
+use std::io::Write;
+
+/// What is stored from record to record. The next record uses the same memory.
+#[derive(Drop)]
+pub struct Kept {
+    store: Store,
+    findings: Findings,
+    text: Vec<u8>,
+}
+
+impl Kept {
+    /// Nothing yet.
+    pub fn new(run: &TypeRun<'_>) -> Result<Kept, Memory>
+        ensures { IfOk result (IsReady run.now) }
+    {
+        Ok(Kept {
+            store: store_of(run.alloc, run.terms.most_slots)?,
+            findings: Findings::new(),
+            text: Vec::new(run.alloc),
+        })
+    }
+}
+
+/// Maps the next record of a list, and writes it unless it is omitted. Returns how far the list is then, or how it ends.
+pub fn next_record<S: Space, O: Write>(
+    run: &TypeRun<'_>,
+    listing: Listing,
+    at: Progress,
+    kept: &mut Kept,
+    space: &mut S,
+    out: &mut O,
+) -> Result<Progress, Outcome>
+    requires ready { IsReady run.now kept.old }
+    requires on { goes_on listing at (8 * (S.view space.old).len) ≡ true }
+    // Each record takes a bit.
+    requires few { at.count ≤ at.place }
+    ensures ready { IsReady run.now kept.new }
+    ensures ok { (first : SpaceView) → Keeps first (S.view space.old) →
+        IfOk result (GoesOn run.now listing first at (O.contents out.old) (O.contents out.new)) }
+    ensures err { (first : SpaceView) (pickle : List ℕ) → Keeps first (S.view space.old) →
+        IsAsked pickle run.now.ask.now.name.now (run_type run.now) →
+        IfErr result (EndsHere pickle run.now listing first (S.view space.new) at
+        (O.contents out.old) (O.contents out.new)) }
+    ensures keeps { Keeps (S.view space.old) (S.view space.new) }
+{
+    if at.left == 0 {
+        return Err(fault_at(MapFaultKind::Limit, at.place));
+    }
+    let ask = at.ask_for(run.ask);
+    let next = TypeRun {
+        alloc: run.alloc,
+        table: run.table,
+        id: run.id,
+        ask: &ask,
+        terms: run.terms,
+    };
+    match map_next(&next, kept, space) {
+        Ok(steps) => {
+            let end = write_held(
+                &next,
+                listing,
+                at.count,
+                &kept.store,
+                &mut kept.text,
+                space,
+                out,
+            )?;
+            Ok(Progress {
+                place: end,
+                count: at.count + 1,
+                left: at.left - 1 - steps,
+            })
+        }
+        Err(fault) => Err(list_end(fault, run.terms.most_slots, listing, at.place)),
+    }
+}
+
+/// A fault at a bit of the file.
+pub fn fault_at(kind: MapFaultKind, place: u64) -> Outcome
+    ensures { result ≡ Fault (record { kind = kind; at = place }) }
+{
+    Outcome::Fault(MapFault {
+        kind,
+        at: u128::from(place),
+    })
+}
+
+// Maps the type of a run into a store, which is emptied first. Returns how many steps that took.
+fn map_next<S: Space>(run: &TypeRun<'_>, kept: &mut Kept, space: &mut S) -> Result<u64, MapFault>
+    requires { IsReady run.now kept.old }
+    ensures ready { IsReady run.now kept.new }
+    ensures ok { IfOk result (HoldsValue run.now (S.view space.old) kept.new.store) }
+    ensures err { IfErr result (HasFault run.now (S.view space.old) (S.view space.new)) }
+    ensures keeps { Keeps (S.view space.old) (S.view space.new) }
+{
+    let TypeRun { table, id, ask, .. } = *run;
+    kept.store.clear();
+    let mut meter = Meter::new(ask.limit);
+    match map_with(
+        table,
+        id,
+        ask.order,
+        ask.start,
+        space,
+        &mut meter,
+        &mut kept.store,
+        &mut Unwatched,
+        &mut kept.findings,
+    ) {
+        Ok(()) => Ok(meter.steps()),
+        Err(fault) => Err(fault),
+    }
+}
+
+// How a list ends whose next record has a fault.
+fn list_end(fault: MapFault, most: Option<u64>, listing: Listing, place: u64) -> Outcome
+    ensures dropped { ends_array fault.kind ≡ true → result ≡ left_at listing place }
+    ensures stopped { ends_array fault.kind ≡ false →
+        outcome_saying result ≡ end_saying most place fault.kind fault.at }
+{
+    if ends_array(fault.kind) {
+        left_at(listing, place)
+    } else {
+        end_outcome(fault, most, place)
+    }
+}
+
+// Whether a fault ends an array without a bound, and its element is dropped.
+fn ends_array(kind: MapFaultKind) -> bool
+    ensures { result ≡ ends_array kind }
+{
+    matches!(kind, MapFaultKind::End | MapFaultKind::Constraint)
+}
+
+// How a list ends before the file does.
+fn left_at(listing: Listing, place: u64) -> Outcome
+    ensures { result ≡ left_at listing place }
+{
+    if listing.any_end {
+        Outcome::Done
+    } else {
+        Outcome::Left(u128::from(place))
+    }
+}
+
+// Writes the value that a store holds, unless it is omitted, and returns where it ends.
+fn write_held<S: Space, O: Write>(
+    run: &TypeRun<'_>,
+    listing: Listing,
+    before: u64,
+    store: &Store,
+    text: &mut Vec<u8>,
+    space: &mut S,
+    out: &mut O,
+) -> Result<u64, Outcome>
+    requires { IsHeld run.now store.now }
+    ensures ok { (value : Value) → held_value run.now store.now ≡ Some value →
+        IfOk result (PutsHeld run.now listing before (S.view space.old) (S.view space.new) value
+        (O.contents out.old) (O.contents out.new)) }
+    ensures err { (value : Value) → held_value run.now store.now ≡ Some value →
+        IfErr result (IsNotPut run.now listing before (S.view space.old) (S.view space.new) value
+        (O.contents out.old) (O.contents out.new)) }
+    ensures keeps { Keeps (S.view space.old) (S.view space.new) }
+{
+    match store.root(run.table) {
+        Some(value) => write_due(run, listing, before, value, text, space, out),
+        None => unreachable!(),
+    }
+}
+
+// Writes a value, unless it is omitted, and returns where it ends.
+fn write_due<S: Space, O: Write>(
+    run: &TypeRun<'_>,
+    listing: Listing,
+    before: u64,
+    value: ValueRef<'_>,
+    text: &mut Vec<u8>,
+    space: &mut S,
+    out: &mut O,
+) -> Result<u64, Outcome>
+    requires { IsPlaced run.now (value_shown value) }
+    ensures ok { IfOk result (PutsHeld run.now listing before (S.view space.old) (S.view space.new)
+        (value_shown value.entry) (O.contents out.old) (O.contents out.new)) }
+    ensures err { IfErr result (IsNotPut run.now listing before (S.view space.old) (S.view space.new)
+        (value_shown value.entry) (O.contents out.old) (O.contents out.new)) }
+    ensures keeps { Keeps (S.view space.old) (S.view space.new) }
+{
+    let end = value.start() + value.size();
+    if end == run.ask.start {
+        return Err(fault_at(MapFaultKind::NoBits, run.ask.start));
+    }
+    if !listing.is_written(before) {
+        return Ok(end);
+    }
+    write_value(run, listing, before, value, text, space, out)?;
+    Ok(end)
+}
+
+// Writes a value, after what separates it from the one before. Nothing is written before its text is there.
+fn write_value<S: Space, O: Write>(
+    run: &TypeRun<'_>,
+    listing: Listing,
+    before: u64,
+    value: ValueRef<'_>,
+    text: &mut Vec<u8>,
+    space: &mut S,
+    out: &mut O,
+) -> Result<(), Outcome>
+    requires { start_of (value_shown value) ≤ end_of (value_shown value) }
+    ensures ok { OnOk result (IsPut run.now listing before (S.view space.old) (S.view space.new)
+        (value_shown value.entry) (Appends (O.contents out.old) (O.contents out.new))) }
+    ensures err { IfErr result (IsUnput run.now listing before (S.view space.old) (S.view space.new)
+        (value_shown value.entry) (O.contents out.old) (O.contents out.new)) }
+    ensures keeps { Keeps (S.view space.old) (S.view space.new) }
+{
+    gather(run, listing, before, value, text, space)?;
+    match put_record(out, text, listing.flush) {
+        Ok(()) => Ok(()),
+        Err(WriteFault) => Err(Outcome::Failed(Failure::Write)),
+    }
+}
+
+// Writes a text, and what waits to be written if that is due at once.
+fn put_record<O: Write>(out: &mut O, text: &[u8], flush: bool) -> Result<(), WriteFault>
+    ensures ok { OnOk result (Appends (O.contents out.old) (O.contents out.new) text.now) }
+    ensures err { OnErr result (AppendsUpTo (O.contents out.old) (O.contents out.new) text.now) }
+{
+    put(out, text)?;
+    if !flush {
+        return Ok(());
+    }
+    match out.flush() {
+        Ok(()) => Ok(()),
+        Err(_) => Err(WriteFault),
+    }
+}
+
+// Gathers the text of a value, after what separates it from the one before.
+fn gather<S: Space>(
+    run: &TypeRun<'_>,
+    listing: Listing,
+    before: u64,
+    value: ValueRef<'_>,
+    text: &mut Vec<u8>,
+    space: &mut S,
+) -> Result<(), Outcome>
+    requires { start_of (value_shown value) ≤ end_of (value_shown value) }
+    ensures ok { OnOk result (Gathers run.now listing before (S.view space.old) (S.view space.new)
+        (value_shown value.entry) Done text.new.items) }
+    ensures err { IfErr result (IsUntold run.now listing before (S.view space.old) (S.view space.new)
+        (value_shown value.entry)) }
+    ensures keeps { Keeps (S.view space.old) (S.view space.new) }
+{
+    let apart = listing.starts_apart(run.ask.mode, before);
+    begin(text, apart)?;
+    match run.tell_value(value, space, text) {
+        Outcome::Done => Ok(()),
+        ended => Err(in_memory(ended)),
+    }
+}
+
+// Empties a text, and begins it with what separates it from the one before.
+fn begin(text: &mut Vec<u8>, apart: bool) -> Result<(), Outcome>
+    ensures ok { OnOk result (text.new.items ≡ (if apart then 10 ∷ [] else [])) }
+    ensures err { IfErr result IsNoMemory }
+{
+    text.clear();
+    if !apart {
+        return Ok(());
+    }
+    match text.push(b'\n') {
+        Ok(()) => Ok(()),
+        Err(_) => Err(Outcome::Failed(Failure::Memory)),
+    }
+}
