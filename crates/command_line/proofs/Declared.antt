@@ -1,13 +1,28 @@
 -- The arguments and commands of the program without ties.
 use Rattle.std.proofs.Common.{◌≡◌, ◌∙◌, ◌||◌, ◌+◌, ◌<◌, ℕ, Bool, true, false, List, [], ◌∷◌, ◌++◌, length, take, get_or, Result, Ok, Err, IfOk, refl, sym, ap, ap₂, subst, append_assoc, append-nil}
-use Rattle.std.proofs.lemmas.List.{take_more}
+use Rattle.std.proofs.lemmas.List.{map-append, take_more}
 use Rattle.clap.specs.Walk.{Rule, Text}
 use Rattle.clap.specs.Simple.{App, new_app, new_shape, with_rule, with_subcommand}
 use Rattle.clap.specs.Words.{AddsArg, AddsSubcommand}
 use Rattle.clap.specs.declared.Arg.{Arg}
 use Rattle.clap.specs.declared.Command.{Command}
 use Rattle.command_line.specs.declared.words.arguments.Argument.{Argument}
-use Rattle.command_line.specs.Commands.{IsArg, IsApp, before_if, command_of, has, rules_of, rule_of_argument, with_rules}
+use Rattle.command_line.specs.Commands.{Row, AreRows, IsArg, IsApp, IsTable, before_if, command_of, format_options, has, mapping_options, other_options, positionals, row_of, rules_of, rule_of_argument, style_options, with_rules}
+
+-- two groups of rows, one after the other
+both_are : (group more : List Argument) (rows others : List Row) → AreRows group rows → AreRows more others
+    → AreRows (group ++ more) (rows ++ others)
+both_are group more rows others is next = map-append row_of group more ∙ ap₂ (λ a b. a ++ b) is next
+
+-- the five groups are the table
+pub is_table : (mapping formats style others places : List Argument) → AreRows mapping mapping_options
+    → AreRows formats format_options → AreRows style style_options → AreRows others other_options
+    → AreRows places positionals → IsTable (mapping ++ formats ++ style ++ others ++ places)
+is_table mapping formats style others places m f s o p =
+    both_are _ places _ positionals
+    (both_are _ others _ other_options
+    (both_are _ style _ style_options
+    (both_are mapping formats mapping_options format_options m f) s) o) p
 
 -- one argument more
 pub added : (old new : Command) (arg : Arg) (app : App) (rule : Rule) → AddsArg old arg new → IsApp app old →
@@ -50,6 +65,15 @@ app_more command table i default app lt =
     ap (λ rows. with_rules app (rules_of command rows)) (take_more table i default lt)
     ∙ ap (with_rules app) (rules_append command (take i table) (get_or table i default ∷ []))
     ∙ with_rules_append app (rules_of command (take i table)) (rules_of command (get_or table i default ∷ []))
+
+-- the arguments of two groups, one after the other
+pub group_added : (command : Text) (group more : List Argument) (new : Command) (app : App)
+    → IsApp (with_rules (with_rules app (rules_of command group)) (rules_of command more)) new
+    → IsApp (with_rules app (rules_of command (group ++ more))) new
+group_added command group more new app is =
+    let P : App → Type 0 = λ made. IsApp made new in
+    subst P (sym (ap (with_rules app) (rules_append command group more)
+    ∙ with_rules_append app (rules_of command group) (rules_of command more))) is
 
 -- one argument more of the table, if the command has it
 pub row_added : (command : Text) (table : List Argument) (i : ℕ) (default : Argument) (new : Command) (app : App)

@@ -14,6 +14,7 @@ use Rattle.clap.specs.declared.Command.TheViews.{out-Command}
 use Rattle.command_line.specs.declared.words.arguments.Accepts.{Accepts}
 use Rattle.command_line.specs.declared.words.arguments.Accepts.TheVariants as accepts
 use Rattle.command_line.specs.declared.words.arguments.Argument.{Argument}
+use Rattle.command_line.specs.declared.words.arguments.Groups.{Groups}
 use Rattle.command_line.specs.declared.words.arguments.Kind.{Kind}
 use Rattle.command_line.specs.declared.words.arguments.Kind.TheVariants.{Flag, Valued, Repeated, Positional, Omissible, Positionals}
 
@@ -79,14 +80,18 @@ abbrev pub mapping : List Text
 mapping = codes "map" ∷ codes "show" ∷ codes "each" ∷ []
 
 abbrev pub printing : List Text
-printing = codes "map" ∷ codes "each" ∷ []
+printing = codes "map" ∷ codes "each" ∷ codes "records" ∷ []
+
+-- those that map a type once in a file, or again and again
+abbrev pub placing : List Text
+placing = codes "map" ∷ codes "show" ∷ codes "each" ∷ codes "records" ∷ []
 
 -- the commands that read files by types, those of them whose lines are for programs, and those over many files
 abbrev pub reading : List Text
-reading = codes "map" ∷ codes "show" ∷ codes "each" ∷ codes "identify" ∷ []
+reading = codes "map" ∷ codes "show" ∷ codes "each" ∷ codes "records" ∷ codes "identify" ∷ []
 
 abbrev pub reporting : List Text
-reporting = codes "map" ∷ codes "each" ∷ codes "identify" ∷ []
+reporting = codes "map" ∷ codes "each" ∷ codes "records" ∷ codes "identify" ∷ []
 
 abbrev pub over_many : List Text
 over_many = codes "each" ∷ codes "identify" ∷ []
@@ -97,6 +102,9 @@ only command = command ∷ []
 -- the words of choices that more than one option has
 abbrev pub modes : List Text
 modes = codes "flat" ∷ codes "tree" ∷ codes "json" ∷ codes "lines" ∷ []
+
+abbrev pub map_modes : List Text
+map_modes = codes "flat" ∷ codes "tree" ∷ codes "json" ∷ codes "lines" ∷ codes "raw" ∷ []
 
 abbrev pub numbers : List Text
 numbers = codes "decimal" ∷ codes "hex" ∷ codes "digits" ∷ []
@@ -110,22 +118,27 @@ forms = codes "text" ∷ codes "json" ∷ []
 -- the options of mappings, in the order in which the parser has them
 abbrev pub mapping_options : List Row
 mapping_options =
-    defaulted (option mapping (codes "at") (codes "OFFSET")) (codes "0#b")
-    ∷ option mapping (codes "byte") (codes "N")
-    ∷ option mapping (codes "length") (codes "BYTES")
+    defaulted (option placing (codes "at") (codes "OFFSET")) (codes "0#b")
+    ∷ option placing (codes "byte") (codes "N")
+    ∷ option placing (codes "length") (codes "BYTES")
     ∷ flag mapping (codes "inside")
-    ∷ choice mapping (codes "endian") (codes "ORDER") (codes "big" ∷ codes "little" ∷ [])
+    ∷ choice placing (codes "endian") (codes "ORDER") (codes "big" ∷ codes "little" ∷ [])
     ∷ defaulted (number mapping (codes "limit") (codes "N")) (codes "1000000000")
+    ∷ number (only (codes "records")) (codes "limit") (codes "N")
     ∷ flag mapping (codes "whole")
     ∷ number mapping (codes "max-output") (codes "N")
-    ∷ number mapping (codes "slots") (codes "N")
+    ∷ number placing (codes "slots") (codes "N")
     ∷ repeated (option (codes "map" ∷ codes "show" ∷ []) (codes "get") (codes "PATH"))
-    ∷ repeated (option (only (codes "each")) (codes "get") (codes "PATH"))
+    ∷ repeated (option (codes "each" ∷ codes "records" ∷ []) (codes "get") (codes "PATH"))
     ∷ number reading (codes "spool") (codes "BYTES")
     ∷ flag reading (codes "progress")
     ∷ option (only (codes "map")) (codes "rows") (codes "PATTERN")
     ∷ flag (only (codes "map")) (codes "header")
-    ∷ defaulted (choice mapping (codes "absent") (codes "WHAT") (codes "fault" ∷ codes "empty" ∷ [])) (codes "fault")
+    ∷ defaulted (choice placing (codes "absent") (codes "WHAT") (codes "fault" ∷ codes "empty" ∷ [])) (codes "fault")
+    ∷ number (only (codes "records")) (codes "count") (codes "N")
+    ∷ defaulted (number (only (codes "records")) (codes "omit") (codes "N")) (codes "0")
+    ∷ flag (only (codes "records")) (codes "any-end")
+    ∷ flag (only (codes "records")) (codes "report-end")
     ∷ []
 
 -- those of formats of files
@@ -141,18 +154,20 @@ format_options =
 abbrev pub style_options : List Row
 style_options =
     flag (only (codes "bound")) (codes "text")
-    ∷ defaulted (choice (only (codes "map")) (codes "mode") (codes "MODE") modes) (codes "flat")
+    ∷ flag (only (codes "bound")) (codes "tight")
+    ∷ defaulted (choice (only (codes "map")) (codes "mode") (codes "MODE") map_modes) (codes "flat")
+    ∷ defaulted (choice (only (codes "records")) (codes "mode") (codes "MODE") modes) (codes "flat")
     ∷ defaulted (choice (only (codes "each")) (codes "mode") (codes "MODE") (codes "flat" ∷ codes "json" ∷ []))
     (codes "flat")
     ∷ choice (only (codes "bound")) (codes "mode") (codes "MODE") modes
     ∷ defaulted (choice (codes "check" ∷ codes "types" ∷ codes "formats" ∷ []) (codes "mode") (codes "MODE") forms)
     (codes "text")
     ∷ defaulted (choice (only (codes "identify")) (codes "mode") (codes "MODE") forms) (codes "text")
-    ∷ choice mapping (codes "numbers") (codes "FORM") numbers
+    ∷ choice placing (codes "numbers") (codes "FORM") numbers
     ∷ choice (only (codes "bound")) (codes "numbers") (codes "FORM") numbers
-    ∷ choice mapping (codes "chars") (codes "FORM") chars
+    ∷ choice placing (codes "chars") (codes "FORM") chars
     ∷ choice (only (codes "bound")) (codes "chars") (codes "FORM") chars
-    ∷ option mapping (codes "elements") (codes "N")
+    ∷ option placing (codes "elements") (codes "N")
     ∷ option (only (codes "bound")) (codes "elements") (codes "N")
     ∷ defaulted (choice reporting (codes "faults") (codes "FORM") forms) (codes "text")
     ∷ defaulted (option (only (codes "show")) (codes "depth") (codes "N")) (codes "6")
@@ -172,6 +187,7 @@ style_options =
 abbrev pub other_options : List Row
 other_options =
     flag over_many (codes "flush")
+    ∷ flag (only (codes "records")) (codes "flush")
     ∷ option over_many (codes "files0-from") (codes "PATH")
     ∷ defaulted (option (only (codes "dump")) (codes "from") (codes "OFFSET")) (codes "0#B")
     ∷ defaulted (option (only (codes "dump")) (codes "size") (codes "OFFSET")) (codes "128#B")
@@ -182,11 +198,13 @@ other_options =
 
 abbrev pub positionals : List Row
 positionals =
-    positional (codes "map" ∷ codes "each" ∷ codes "bound" ∷ codes "check" ∷ codes "types" ∷ []) (codes "PICKLE")
+    positional (codes "map" ∷ codes "each" ∷ codes "records" ∷ codes "bound" ∷ codes "check" ∷ codes "types" ∷ [])
+    (codes "PICKLE")
     ∷ omissible (only (codes "show")) (codes "PICKLE")
     ∷ omissible (codes "map" ∷ codes "show" ∷ codes "each" ∷ codes "bound" ∷ []) (codes "TYPE")
+    ∷ positional (only (codes "records")) (codes "TYPE")
     ∷ omissible (codes "map" ∷ codes "show" ∷ []) (codes "FILE")
-    ∷ positional (only (codes "dump")) (codes "FILE")
+    ∷ positional (codes "records" ∷ codes "dump" ∷ []) (codes "FILE")
     ∷ record (positional over_many (codes "FILE")) { kind = Positionals }
     ∷ record (omissible (only (codes "bound")) (codes "BITS")) { accepted = ANumber }
     ∷ []
@@ -212,9 +230,18 @@ row_of argument = record {
   default = option_map (λ text. text.now) argument.default;
 }
 
+-- a group of arguments of the code has these rows
+abbrev pub AreRows : List Argument → List Row → Type 0
+AreRows group rows = map row_of group ≡ rows
+
 -- the table of the code has these arguments
 abbrev pub IsTable : List Argument → Type 0
-IsTable table = map row_of table ≡ arguments
+IsTable table = AreRows table arguments
+
+-- the groups of the code, one after the other
+abbrev pub table_of : Groups → List Argument
+table_of groups = groups.mapping.now ++ groups.formats.now ++ groups.style.now ++ groups.others.now
+    ++ groups.positionals.now
 
 -- a rule of the parser, by how the argument is given
 abbrev pub with_kind : Kind → (name : Text) → Rule → Rule
@@ -288,8 +315,8 @@ without_commands = record {
 
 -- the names of the commands
 abbrev pub commands : List Text
-commands = codes "map" ∷ codes "show" ∷ codes "each" ∷ codes "identify" ∷ codes "bound" ∷ codes "check"
-    ∷ codes "types" ∷ codes "formats" ∷ codes "dump" ∷ []
+commands = codes "map" ∷ codes "show" ∷ codes "each" ∷ codes "records" ∷ codes "identify" ∷ codes "bound"
+    ∷ codes "check" ∷ codes "types" ∷ codes "formats" ∷ codes "dump" ∷ []
 
 -- a program whose commands have these rules, and of which one command must be given
 abbrev pub program_of : (rules_of : (command : Text) → List Rule) → App

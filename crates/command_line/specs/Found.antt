@@ -1,6 +1,8 @@
 -- What the arguments of a command request, by what clap found among them.
-use Rattle.std.specs.Prelude.{◌≡◌, ◌≢◌, ◌⊎◌, ℕ, Bool, true, false, not, List, [], map, Option, Some, None, option_map, string_bytes, codes}
+use Rattle.std.specs.Prelude.{◌≡◌, ◌≢◌, ◌⊎◌, ℕ, Bool, true, false, is_none, not, List, [], map, Option, Some, None, option_map, String, string_bytes, codes}
 use Rattle.std.specs.Option.{unwrap_or, option_map_or}
+use Rattle.std.specs.declared.alloc.Global.{Global}
+use Rattle.std.specs.Str.{bytes_eq}
 use Rattle.clap.specs.Matches.{first_value, one_text, matched_of, raw_values}
 use Rattle.clap.specs.declared.parser.matches.Found.{Found}
 use Rattle.bit_space.specs.declared.order.Order.{Order}
@@ -28,7 +30,7 @@ use Rattle.command_line.specs.declared.terms.Terms.{Terms}
 use Rattle.command_line.specs.declared.words.mapping.MappingWords.{MappingWords}
 use Rattle.command_line.specs.declared.words.Job.{Job}
 use Rattle.command_line.specs.declared.words.Job.TheVariants as job
-use Rattle.command_line.specs.declared.words.Job.TheVariants.{Map, Bound, BoundText, Check, Types, Identify, Formats, Dump}
+use Rattle.command_line.specs.declared.words.Job.TheVariants.{Map, Bound, BoundText, TightBound, Check, Types, Identify, Formats, Dump}
 use Rattle.command_line.specs.declared.identification.Identification.{Identification}
 use Rattle.command_line.specs.declared.request.Request.{Request}
 use Rattle.command_line.specs.declared.fault_form.FaultForm.{FaultForm}
@@ -36,7 +38,8 @@ use Rattle.command_line.specs.declared.fault_form.FaultForm.TheVariants.{Text}
 use Rattle.command_line.specs.declared.request.Form.{Form}
 use Rattle.command_line.specs.declared.request.Form.TheVariants.{Printed, Shown}
 use Rattle.command_line.specs.declared.request.Over.{Over}
-use Rattle.command_line.specs.declared.request.Over.TheVariants.{File, Files}
+use Rattle.command_line.specs.declared.request.Over.TheVariants.{Bytes, File, Files, Records}
+use Rattle.command_line.specs.declared.request.RecordList.{RecordList}
 use Rattle.command_line.specs.declared.request.FileNames.{FileNames}
 use Rattle.command_line.specs.declared.request.FileNames.TheVariants.{Words, EndedByZero}
 
@@ -177,11 +180,26 @@ pub record ShowsBeside (found : Found) (beside : Beside) : Type 0 where
   pub sizes : FlagIn (one_text found (codes "sizes")) beside.sizes
   pub bytes : FlagIn (one_text found (codes "bytes")) beside.bytes
 
+-- `raw` is the mode in which the bytes of a part are written as they are
+abbrev pub is_raw : Found → Bool
+is_raw found = bytes_eq (word_in found (codes "mode")) (codes "raw")
+
+-- what is mapped over, by whether bytes are written
+abbrev pub over_file : String Global → (raw : Bool) → Over
+over_file file true = Bytes file
+over_file file false = File file
+
+abbrev pub IsPrintedOver : Found → Over → Type 0
+IsPrintedOver found (File file) = is_raw found ≡ false
+IsPrintedOver found (Bytes file) = is_raw found ≡ true
+IsPrintedOver found (Files names flush) = Unit {0}
+IsPrintedOver found (Records file list) = Unit {0}
+
 -- how a value is written: printed in a mode, beside the form of refusals and faults, or shown with colors and with so
 -- many levels of parts, 6 by default
-abbrev pub IsInForm : Found → Form → Type 0
-IsInForm found (Printed mode faults) = IsInMode found mode × ReportsIn found faults
-IsInForm found (Shown color depth numbers beside) = NamesColor (word_in found (codes "color")) color
+abbrev pub IsInForm : Found → Over → Form → Type 0
+IsInForm found over (Printed mode faults) = IsInMode found mode × ReportsIn found faults × IsPrintedOver found over
+IsInForm found over (Shown color depth numbers beside) = NamesColor (word_in found (codes "color")) color
     × NamesElementsOr (Some 6) (first_value found (codes "depth")) depth
     × NamesNumbersIfAny (first_value found (codes "numbers")) numbers × ShowsBeside found beside
 
@@ -197,20 +215,41 @@ style_by_default (Shown color depth numbers beside) = for_the_eye
 abbrev pub file_in : Found → List ℕ
 file_in found = unwrap_or (after_type_in found (codes "FILE")) (word_in found (codes "PICKLE"))
 
--- what a type is mapped over: the one file that an argument names, or many, of which each line may be written at once
+-- the limit of steps grows with the file where none is given
+abbrev pub GrowsLimit : Found → Bool → Type 0
+GrowsLimit found grows = grows ≡ is_none (first_value found (codes "limit"))
+
+-- which records of a list are printed, and how the list may end
+pub record AsksList (found : Found) (list : RecordList) : Type 0 where
+  pub omits : NumberIn (first_value found (codes "omit")) 0 list.omit
+  pub counts : NumberIfAny (first_value found (codes "count")) list.count
+  pub any_end : FlagIn (one_text found (codes "any-end")) list.any_end
+  pub flush : FlagIn (one_text found (codes "flush")) list.flush
+  pub report_end : FlagIn (one_text found (codes "report-end")) list.report_end
+  pub grows : GrowsLimit found list.grows
+
+-- what a type is mapped over: the one file that an argument names, or many, of which each line may be written at once,
+-- or the records in one
 abbrev pub IsOver : Found → Over → Type 0
 IsOver found (File file) = string_bytes file ≡ file_in found
+IsOver found (Bytes file) = string_bytes file ≡ file_in found
 IsOver found (Files names flush) = NamesFiles found names × FlagIn (one_text found (codes "flush")) flush
+IsOver found (Records file list) = (string_bytes file ≡ word_in found (codes "FILE")) × AsksList found list
 
 -- the argument for the type; before many files it is left out only if their names are in a list
 abbrev pub type_over : Found → Over → Option (List ℕ)
 type_over found (File file) = type_in found (codes "FILE")
+type_over found (Bytes file) = type_in found (codes "FILE")
 type_over found (Files names flush) = first_value found (codes "TYPE")
+type_over found (Records file list) = first_value found (codes "TYPE")
 
 -- what a request maps that writes in a form
-abbrev pub AsksSubjectIn : (found : Found) → (type : Option (List ℕ)) → Form → Subject → Type 0
-AsksSubjectIn found type (Printed mode faults) subject = AsksSubject found type subject
-AsksSubjectIn found type (Shown color depth numbers beside) subject = ShowsSubject found type subject
+abbrev pub AsksSubjectIn : (found : Found) → (type : Option (List ℕ)) → Form → Over → Subject → Type 0
+AsksSubjectIn found type (Printed mode faults) (File file) subject = AsksSubject found type subject
+AsksSubjectIn found type (Printed mode faults) (Bytes file) subject = AsksSubject found type subject
+AsksSubjectIn found type (Printed mode faults) (Files names flush) subject = AsksSubject found type subject
+AsksSubjectIn found type (Printed mode faults) (Records file list) subject = AsksSubject found type subject
+AsksSubjectIn found type (Shown color depth numbers beside) over subject = ShowsSubject found type subject
 
 -- whether how much is done is shown
 abbrev pub ShowsProgress : Found → Bool → Type 0
@@ -220,16 +259,26 @@ ShowsProgress found progress = FlagIn (one_text found (codes "progress")) progre
 abbrev pub choice_of : Form → Over → Choice
 choice_of (Shown color depth numbers beside) over = Parts
 choice_of (Printed mode faults) (File file) = Parts
+choice_of (Printed mode faults) (Bytes file) = Parts
 choice_of (Printed mode faults) (Files names flush) = Columns
+choice_of (Printed mode faults) (Records file list) = Columns
+
+-- bytes are those of one part
+abbrev pub SelectsOne : Over → Terms → Type 0
+SelectsOne (Bytes file) terms = terms.selection ≡ None
+SelectsOne (File file) terms = Unit {0}
+SelectsOne (Files names flush) terms = Unit {0}
+SelectsOne (Records file list) terms = Unit {0}
 
 -- a request is what arguments request
 pub record AsksRequest (found : Found) (request : Request) : Type 0 where
-  pub subject : AsksSubjectIn found (type_over found request.over) request.form request.subject
+  pub subject : AsksSubjectIn found (type_over found request.over) request.form request.over request.subject
   pub mapping : AsksMapping found request.start request.window request.limit
   pub order : AsksOrder found request.order
   pub spools : Spools found request.spool
   pub terms : HasTerms found (choice_of request.form request.over) (style_by_default request.form) request.terms
-  pub form : IsInForm found request.form
+  pub selects : SelectsOne request.over request.terms
+  pub form : IsInForm found request.over request.form
   pub progress : ShowsProgress found request.progress
   pub over : IsOver found request.over
 
@@ -258,12 +307,15 @@ abbrev pub Asks : Found → Job → Type 0
 Asks found (Map at order limit mode pickle name file) =
     AsksSubject found (type_in found (codes "FILE")) (Named pickle name)
     × AsksMapping found (Bit at) None limit × NamesOrderOrBig (first_value found (codes "endian")) order
-    × IsInMode found mode × ReportsIn found Text × Spools found None × ShowsProgress found false
+    × IsInMode found mode × (is_raw found ≡ false) × ReportsIn found Text × Spools found None
+    × ShowsProgress found false
     × HasTerms found Parts plain no_terms
     × (string_bytes file ≡ file_in found)
 Asks found (job.Request request) = AsksRequest found request
-Asks found (Bound pickle name bits) =
-    AsksBound found (string_bytes pickle) (string_bytes name) bits × FlagIn (one_text found (codes "text")) false
+Asks found (Bound pickle name bits) = AsksBound found (string_bytes pickle) (string_bytes name) bits
+    × FlagIn (one_text found (codes "text")) false × FlagIn (one_text found (codes "tight")) false
+Asks found (TightBound pickle name bits) = AsksBound found (string_bytes pickle) (string_bytes name) bits
+    × FlagIn (one_text found (codes "text")) false × FlagIn (one_text found (codes "tight")) true
 Asks found (BoundText pickle name bits mode style) = AsksBound found (string_bytes pickle) (string_bytes name) bits
     × FlagIn (one_text found (codes "text")) true × NamesModeIfAny (first_value found (codes "mode")) mode
     × NamesStyle found plain style
@@ -282,18 +334,23 @@ Asks found (Dump from size ruler file) = DumpsFrom found from × DumpsBytes foun
 abbrev pub IsOther : Option (List ℕ) → List ℕ → Type 0
 IsOther command name = command ≢ Some name
 
--- the command that writes in a form, over one file or many; none shows many files to the eye
+-- the command that writes in a form, over one file, many or a list; only one file is shown to the eye
 abbrev pub IsRequestOf : Option (List ℕ) → Form → Over → Type 0
 IsRequestOf command (Printed mode faults) (File file) = command ≡ Some (codes "map")
 IsRequestOf command (Shown color depth numbers beside) (File file) = command ≡ Some (codes "show")
+IsRequestOf command (Printed mode faults) (Bytes file) = command ≡ Some (codes "map")
+IsRequestOf command (Shown color depth numbers beside) (Bytes file) = ⊥
 IsRequestOf command (Printed mode faults) (Files names flush) = command ≡ Some (codes "each")
 IsRequestOf command (Shown color depth numbers beside) (Files names flush) = ⊥
+IsRequestOf command (Printed mode faults) (Records file list) = command ≡ Some (codes "records")
+IsRequestOf command (Shown color depth numbers beside) (Records file list) = ⊥
 
 -- a job is of the command of a name
 abbrev pub IsJobOf : Option (List ℕ) → Job → Type 0
 IsJobOf command (Map at order limit mode pickle name file) = command ≡ Some (codes "map")
 IsJobOf command (job.Request request) = IsRequestOf command request.form request.over
 IsJobOf command (Bound pickle name bits) = command ≡ Some (codes "bound")
+IsJobOf command (TightBound pickle name bits) = command ≡ Some (codes "bound")
 IsJobOf command (BoundText pickle name bits mode style) = command ≡ Some (codes "bound")
 IsJobOf command (Types pickle) = command ≡ Some (codes "types")
 IsJobOf command (job.Parts pickle name depth) = command ≡ Some (codes "types")
@@ -302,8 +359,8 @@ IsJobOf command Formats = command ≡ Some (codes "formats")
 IsJobOf command (Dump from size ruler file) = command ≡ Some (codes "dump")
 IsJobOf command (Check pickle) =
     IsOther command (codes "map") × IsOther command (codes "show") × IsOther command (codes "each")
-    × IsOther command (codes "identify") × IsOther command (codes "bound") × IsOther command (codes "types")
-    × IsOther command (codes "formats") × IsOther command (codes "dump")
+    × IsOther command (codes "records") × IsOther command (codes "identify") × IsOther command (codes "bound")
+    × IsOther command (codes "types") × IsOther command (codes "formats") × IsOther command (codes "dump")
 
 -- the arguments of a mapping name no start, or no number of bytes from there on
 abbrev pub IsNoExtent : Found → Type 0
@@ -324,3 +381,8 @@ IsNoRange found = IsNoBytes (first_value found (codes "skip")) (word_in found (c
 abbrev pub IsNoBound : Found → Type 0
 IsNoBound found =
     IsNoNumberIfAny (after_type_in found (codes "BITS")) ⊎ IsNoElementsIfAny (first_value found (codes "elements"))
+
+-- the arguments for a list have something else than a number where one belongs
+abbrev pub IsNoList : Found → Type 0
+IsNoList found =
+    IsNoNumberIfAny (first_value found (codes "omit")) ⊎ IsNoNumberIfAny (first_value found (codes "count"))

@@ -1,5 +1,5 @@
 -- Why the arguments of a command aren't a job, though the parser takes them.
-use Rattle.std.specs.Prelude.{◌≡◌, ◌⊎◌, Bool, false, ℕ, List, [], ◌∷◌, Option, Some, None, codes, unwrap_or}
+use Rattle.std.specs.Prelude.{◌≡◌, ◌⊎◌, Bool, true, false, ℕ, List, [], ◌∷◌, Option, Some, None, codes, unwrap_or}
 use Rattle.clap.specs.Matches.{first_value, one_text}
 use Rattle.clap.specs.declared.parser.matches.Found.{Found}
 use Rattle.command_line.specs.declared.pattern.Pattern.{Pattern}
@@ -8,10 +8,11 @@ use Rattle.command_line.specs.declared.selection.Choice.TheVariants as choice
 use Rattle.command_line.specs.declared.words.WordFault.{WordFault}
 use Rattle.command_line.specs.declared.words.WordFault.TheVariants.{Usage, Help, Offset, Memory}
 use Rattle.command_line.specs.Flags.{FlagIn}
-use Rattle.command_line.specs.Found.{IsNoBound, IsNoByteExtent, IsNoExtent, IsNoNumberIfAny, IsNoRange}
+use Rattle.command_line.specs.Found.{is_raw, IsNoBound, IsNoByteExtent, IsNoExtent, IsNoList, IsNoNumberIfAny, IsNoRange}
 use Rattle.command_line.specs.Paths.{PathStep, IsPath}
 use Rattle.command_line.specs.Patterns.{PatternPart, IsPattern}
-use Rattle.command_line.specs.Selects.{ArePatterns, HasRows, is_one_path, words_in}
+use Rattle.command_line.specs.Selects.{ArePatterns, HasRows, Selects, is_one_path, words_in}
+use Rattle.command_line.specs.declared.selection.Selection.{Selection}
 use Rattle.command_line.specs.Styles.{IsNoElementsIfAny}
 
 -- a usage error has one reason, a refused offset another; what needs memory may fail
@@ -73,11 +74,19 @@ pub data MisreadRequest (found : Found) (offered : Choice) : Type 0 where
   elements_wrong : IsNoElementsIfAny (first_value found (codes "elements")) → MisreadRequest found offered
   depth_wrong : IsNoElementsIfAny (first_value found (codes "depth")) → MisreadRequest found offered
 
+-- bytes are requested, and not of one part
+pub record IsNoRaw (found : Found) : Type 0 where
+  pub raw : is_raw found ≡ true
+  pub selection : Selection
+  pub selects : Selects found choice.Parts (Some selection)
+
 -- the arguments of the command of this name are wrong
 pub data Misread (command : List ℕ) (found : Found) : Type 0 where
-  map_wrong : command ≡ codes "map" → MisreadRequest found choice.Parts → Misread command found
+  map_wrong : command ≡ codes "map" → MisreadRequest found choice.Parts ⊎ IsNoRaw found → Misread command found
   show_wrong : command ≡ codes "show" → MisreadRequest found choice.Parts → Misread command found
   each_wrong : command ≡ codes "each" → MisreadRequest found choice.Columns → Misread command found
+  records_wrong : command ≡ codes "records" → MisreadRequest found choice.Columns ⊎ IsNoList found →
+      Misread command found
   identify_wrong : command ≡ codes "identify" → IsNoNumberIfAny (first_value found (codes "spool")) →
       Misread command found
   bound_wrong : command ≡ codes "bound" → IsNoBound found → Misread command found
@@ -88,5 +97,6 @@ pub data Misplaced (command : List ℕ) (found : Found) : Type 0 where
   map_nowhere : command ≡ codes "map" → IsNoExtent found → Misplaced command found
   show_nowhere : command ≡ codes "show" → IsNoExtent found → Misplaced command found
   each_nowhere : command ≡ codes "each" → IsNoExtent found → Misplaced command found
+  records_nowhere : command ≡ codes "records" → IsNoExtent found → Misplaced command found
   identify_nowhere : command ≡ codes "identify" → IsNoByteExtent found → Misplaced command found
   dump_nowhere : command ≡ codes "dump" → IsNoRange found → Misplaced command found

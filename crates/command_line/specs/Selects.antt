@@ -57,7 +57,8 @@ IsOnePath word patterns = ArePatterns (word ∷ []) patterns × (is_one_path pat
 
 -- a mode has rows, and a header if one is wanted
 abbrev pub HasRows : (mode : List ℕ) → (header : Bool) → Type 0
-HasRows mode header = (mode ≢ codes "tree") × (mode ≢ codes "lines") × (header ≡ true → mode ≢ codes "json")
+HasRows mode header = (mode ≢ codes "tree") × (mode ≢ codes "lines") × (mode ≢ codes "raw")
+    × (header ≡ true → mode ≢ codes "json")
 
 -- rows of a pattern, with a column for each path
 pub record NamesRows (found : Found) (pattern : List ℕ) (words : List (List ℕ)) (rows : Rows) : Type 0 where
@@ -98,10 +99,18 @@ IsLonePath [] given patterns = ⊥
 IsLonePath (word ∷ []) given patterns = IsOnePath word patterns × (given ≡ absent.Empty)
 IsLonePath (word ∷ more ∷ words) given patterns = ⊥
 
+-- one row, the value itself, with the columns whose paths the texts are
+abbrev pub IsRow : List (List ℕ) → Shape → Type 0
+IsRow words (shape.Parts patterns) = ⊥
+IsRow words (shape.Rows rows) =
+    (rows.pattern.steps.items ≡ []) × AreColumns words rows.columns.items × (rows.header ≡ false)
+
+abbrev pub IsRowOf : List (List ℕ) → Absent → Selection → Type 0
+IsRowOf words absent selection = IsRow words selection.shape × (selection.absent ≡ absent)
+
 abbrev pub IsShapeOfColumns : List (List ℕ) → Absent → Shape → Type 0
 IsShapeOfColumns words absent (shape.Parts patterns) = IsLonePath words absent patterns.items
-IsShapeOfColumns words absent (shape.Rows rows) =
-    (1 < length words) × (rows.pattern.steps.items ≡ []) × AreColumns words rows.columns.items × (rows.header ≡ false)
+IsShapeOfColumns words absent (shape.Rows rows) = (1 < length words) × IsRow words (shape.Rows rows)
 
 abbrev pub SelectsColumns : List (List ℕ) → Absent → Option Selection → Type 0
 SelectsColumns words absent None = IsOneAtMost words absent

@@ -61,6 +61,11 @@ keeps_each_ties found =
     are_apart found (codes "byte") (codes "at") && (is_either_given found (codes "FILE") (codes "files0-from")
     && (is_typed found (first_value found (codes "TYPE")) && keeps_inside found (first_value found (codes "TYPE"))))
 
+-- a list has its own type, that no head says
+abbrev pub keeps_records_ties : Found → Bool
+keeps_records_ties found = are_apart found (codes "byte") (codes "at")
+    && not (is_by_head (word_in found (codes "PICKLE")) (first_value found (codes "TYPE")))
+
 abbrev pub keeps_identify_ties : Found → Bool
 keeps_identify_ties found = is_either_given found (codes "FILE") (codes "files0-from")
 
@@ -69,7 +74,8 @@ keeps_text_ties found = needs found (codes "mode") (codes "text") && (needs foun
     && (needs found (codes "chars") (codes "text") && needs found (codes "elements") (codes "text")))
 
 abbrev pub keeps_bound_ties : Found → Bool
-keeps_bound_ties found = has_words found (codes "BITS") && keeps_text_ties found
+keeps_bound_ties found =
+    has_words found (codes "BITS") && (are_apart found (codes "tight") (codes "text") && keeps_text_ties found)
 
 abbrev pub keeps_dump_ties : Found → Bool
 keeps_dump_ties found = are_apart found (codes "skip") (codes "from") && are_apart found (codes "length") (codes "size")
@@ -83,6 +89,7 @@ keeps_ties command found =
     if bytes_eq command (codes "map") then keeps_map_ties found
     else if bytes_eq command (codes "show") then keeps_show_ties found
     else if bytes_eq command (codes "each") then keeps_each_ties found
+    else if bytes_eq command (codes "records") then keeps_records_ties found
     else if bytes_eq command (codes "identify") then keeps_identify_ties found
     else if bytes_eq command (codes "bound") then keeps_bound_ties found
     else if bytes_eq command (codes "types") then keeps_types_ties found

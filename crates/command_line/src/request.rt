@@ -74,8 +74,29 @@ pub enum Form {
 pub enum Over {
     /// The file of this name.
     File(String),
+    /// The file of this name, of which the bytes of the requested part are written as they are.
+    Bytes(String),
     /// One file after another, with a line for each. With `flush` each line is written at once.
     Files { names: FileNames, flush: bool },
+    /// The records of a list in the file of this name, one after another.
+    Records { file: String, list: RecordList },
+}
+
+/// Which records of a list are printed, and how the list may end.
+#[derive(Clone, Copy, Debug, Drop, PartialEq, Eq)]
+pub struct RecordList {
+    /// How many records are mapped first, and not printed.
+    pub omit: u64,
+    /// After how many printed records the list stops. `None` goes on to its end.
+    pub count: Option<u64>,
+    /// Whether the list may end before the file does.
+    pub any_end: bool,
+    /// Whether each record is written at once.
+    pub flush: bool,
+    /// Whether a line says at last where the list is then, and how many records there were.
+    pub report_end: bool,
+    /// Whether the limit of steps, that of all records together, grows with the file, since none is given.
+    pub grows: bool,
 }
 
 /// Where the names of many files are.

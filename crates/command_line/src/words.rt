@@ -17,11 +17,12 @@ ghost use Rattle.std.specs.Prelude.{◌≡◌, ◌≢◌, ◌⊎◌, ℕ, List, 
 ghost use Rattle.clap.specs.Matches.{found_of, first_value};
 ghost use Rattle.command_line.specs.Commanded.{Finds, Fails, AsksOf, AnswersIn, IsAskedBy, IsJobAskedBy, IsRefused, IsUnread, IsMisread, IsMisplaced, FailsTo, has_no_size};
 ghost use Rattle.command_line.specs.Ties.{keeps_ties};
-ghost use Rattle.command_line.specs.Misread.{FailsFor, MisreadRequest, Misread, Misplaced};
+ghost use Rattle.command_line.specs.Misread.{FailsFor, IsNoRaw, MisreadRequest, Misread, Misplaced};
 ghost use Rattle.command_line.specs.Lines.{command_line};
+ghost use Rattle.command_line.specs.Selects.{Selects};
 ghost use Rattle.command_line.specs.Words.{IsCheckOf, IsBareCheckOf, NamesMode, NamesModeIfAny};
 ghost use Rattle.command_line.specs.Found.{word_in, NumberIfAny, NumberIn, HasTerms, no_terms, NamesFiles, IsNoExtent, NamesOrderIfAny, NamesOrderOrBig, after_type_in, file_in};
-ghost use Rattle.command_line.specs.Found.{Asks, IsJobOf, IsNoRange, IsNoBound, IsNoNumberIfAny, IsNoByteExtent};
+ghost use Rattle.command_line.specs.Found.{Asks, AsksList, is_raw, over_file, IsJobOf, IsNoList, IsNoRange, IsNoBound, IsNoNumberIfAny, IsNoByteExtent};
 ghost use Rattle.command_line.specs.Styles.{IsNoElementsIfAny};
 ghost use Rattle.command_line.specs.declared.words.WordFault.TheVariants.{Memory};
 
@@ -29,10 +30,10 @@ use crate::answer_form::AnswerForm;
 use crate::fault_form::FaultForm;
 use crate::identification::Identification;
 use crate::numerals::whole_number;
-use crate::request::{FileNames, Form, Over, Request};
-use crate::selection::Choice;
+use crate::request::{FileNames, Form, Over, RecordList, Request};
+use crate::selection::{Choice, Selection};
 use crate::start::Start;
-use crate::subject::{BY_HEAD, Subject, has_type};
+use crate::subject::{BY_HEAD, Subject, has_type, is_by_head};
 use crate::terms::Terms;
 use arguments::arguments;
 use bit_space::Order;
@@ -40,7 +41,7 @@ use bytes::{byte_of, bytes_in, window_of};
 use clap::ArgMatches;
 use clap::error::ErrorKind;
 use commands::{PROGRAM, SHOWN_LEVELS, program};
-use found::{after_type, flag_of, number_if_any, type_word, word, word_if_any, word_of};
+use found::{after_type, flag_of, number_if_any, number_of, type_word, word, word_if_any, word_of};
 use line::{command_line, without_help_of_help};
 use mapping::{mapping_words, shown_subject, subject_of};
 use parser::Ties;
@@ -59,6 +60,14 @@ use usage::without_wrong_tip;
 
 /// The usage error for arguments that are wrong, but whose escaped forms clap accepts.
 const WRONG_WORD: &str = "error: an argument has bytes that aren't printed\n";
+
+/// The usage error for a list of records whose type is that of a head.
+const NO_RECORD_TYPE: &str =
+    "error: records needs the TYPE of a record: - is that of a whole file\n\nFor more information, try '--help'.\n";
+
+/// The usage error for bytes of more than one part.
+const NO_RAW: &str =
+    "error: --mode raw writes the bytes of one part: --get takes one path, without --absent\n\nFor more information, try '--help'.\n";
 
 /// The usage error for an option that is about the head of a pickle beside a type.
 const NO_HEAD: &str =
@@ -84,6 +93,12 @@ pub enum Job {
     /// Print the most steps and slots that a mapping of a type over `bits` bits takes. The type `-` of an installed pickle
     /// is the one that its head says.
     Bound {
+        pickle: String,
+        name: String,
+        bits: u64,
+    },
+    /// Print the same, and tighter bounds. The type `-` is as above.
+    TightBound {
         pickle: String,
         name: String,
         bits: u64,
@@ -248,13 +263,20 @@ fn untied_usage(
     found: &ArgMatches<'_>,
     words: &[String],
 ) -> Result<String, AllocError> {
-    if leaves_type_out(command, found) {
+    if names_whole_type(command, found) {
+        String::from_str(alloc, NO_RECORD_TYPE)
+    } else if leaves_type_out(command, found) {
         usage_of(alloc, words, Ties::WithoutType)
     } else if leaves_pickle_out(command, found) {
         usage_of(alloc, words, Ties::WithoutPickle)
     } else {
         usage_of(alloc, words, Ties::With)
     }
+}
+
+// Whether the type of a record is that of a whole file, which the head of the pickle says.
+fn names_whole_type(command: &str, found: &ArgMatches<'_>) -> bool {
+    command == "records" && is_by_head(word(found, "PICKLE"), found.get_str("TYPE"))
 }
 
 // Whether the pickle and TYPE are left out among the arguments of a command.
@@ -382,6 +404,7 @@ fn read_command(
         "map" => read_map(alloc, found),
         "show" => read_show(alloc, found),
         "each" => read_each(alloc, found),
+        "records" => read_records(alloc, found),
         "identify" => read_identify(alloc, found),
         "bound" => read_bound(alloc, found, words),
         "types" => read_types(alloc, found),
@@ -395,8 +418,8 @@ fn read_map(alloc: Global, found: &ArgMatches<'_>) -> Result<Job, WordFault>
     ensures asks { IfOk result (Asks (found_of found.now)) }
     ensures command { IfOk result (IsJobOf (Some (codes "map"))) }
     ensures offset { IfErr result (λ fault. fault ≡ WordFault.Offset → IsNoExtent (found_of found.now)) }
-    ensures misread { IfErr result
-        (FailsFor (MisreadRequest (found_of found.now) Choice.Parts) (IsNoExtent (found_of found.now))) }
+    ensures misread { IfErr result (FailsFor (MisreadRequest (found_of found.now) Choice.Parts
+        ⊎ IsNoRaw (found_of found.now)) (IsNoExtent (found_of found.now))) }
 {
     let terms = terms_of(alloc, found, Choice::Parts, Style::plain())?;
     let spool = spool_of(alloc, found)?;
@@ -405,7 +428,8 @@ fn read_map(alloc: Global, found: &ArgMatches<'_>) -> Result<Job, WordFault>
     let mapping = mapping_words(alloc, found)?;
     let mode = mode_of(word(found, "mode"));
     let progress = flag_of(found, "progress");
-    let is_plain = is_plain(spool, mapping.window, progress, &terms);
+    let raw = raw_of(alloc, found, &terms.selection)?;
+    let is_plain = is_plain(raw, spool, mapping.window, progress, &terms);
     match (mapping.start, subject, faults_of(word(found, "faults"))) {
         (Start::Bit(at), Subject::Named { pickle, name }, FaultForm::Text) if is_plain => Ok(
             Job::Map {
@@ -428,8 +452,45 @@ fn read_map(alloc: Global, found: &ArgMatches<'_>) -> Result<Job, WordFault>
             form: Form::Printed { mode, faults },
             progress,
             subject,
-            over: Over::File(file),
+            over: over_file(file, raw),
         })),
+    }
+}
+
+// Whether the bytes of a part are requested as they are. They are those of one part, without a selection.
+fn raw_of(
+    alloc: Global,
+    found: &ArgMatches<'_>,
+    selection: &Option<Selection>,
+) -> Result<bool, WordFault>
+    ensures ok { IfOk result (λ raw. raw ≡ is_raw (found_of found.now)) }
+    ensures one { IfOk result (λ raw. raw ≡ true → selection.now ≡ None) }
+    ensures fault { IfErr result (λ fault. fault ≢ WordFault.Offset) }
+    ensures misread { Selects (found_of found.now) Choice.Parts selection.now →
+        IfErr result (FailsFor (IsNoRaw (found_of found.now)) ⊥) }
+{
+    let raw = is_raw(found);
+    match selection {
+        Some(_) if raw => Err(WordFault::Usage(String::from_str(alloc, NO_RAW)?)),
+        _ => Ok(raw),
+    }
+}
+
+// Whether the bytes of a part are requested as they are.
+fn is_raw(found: &ArgMatches<'_>) -> bool
+    ensures { result ≡ is_raw (found_of found.now) }
+{
+    word(found, "mode") == "raw"
+}
+
+// What is mapped over: a file whose value is printed, or whose bytes are written as they are.
+fn over_file(file: String, raw: bool) -> Over
+    ensures { result ≡ over_file file raw }
+{
+    if raw {
+        Over::Bytes(file)
+    } else {
+        Over::File(file)
     }
 }
 
@@ -511,6 +572,52 @@ fn read_each(alloc: Global, found: &ArgMatches<'_>) -> Result<Job, WordFault>
     }))
 }
 
+fn read_records(alloc: Global, found: &ArgMatches<'_>) -> Result<Job, WordFault>
+    ensures asks { IfOk result (Asks (found_of found.now)) }
+    ensures command { IfOk result (IsJobOf (Some (codes "records"))) }
+    ensures offset { IfErr result (λ fault. fault ≡ WordFault.Offset → IsNoExtent (found_of found.now)) }
+    ensures misread { IfErr result (FailsFor (MisreadRequest (found_of found.now) Choice.Columns
+        ⊎ IsNoList (found_of found.now)) (IsNoExtent (found_of found.now))) }
+{
+    let spool = spool_of(alloc, found)?;
+    let terms = terms_of(alloc, found, Choice::Columns, Style::plain())?;
+    let list = list_of(alloc, found)?;
+    let file = word_of(alloc, found, "FILE")?;
+    let subject = subject_of(alloc, found, found.get_str("TYPE"))?;
+    let mapping = mapping_words(alloc, found)?;
+    Ok(Job::Request(Request {
+        start: mapping.start,
+        window: mapping.window,
+        order: mapping.order,
+        limit: mapping.limit,
+        spool,
+        terms,
+        form: Form::Printed {
+            mode: mode_of(word(found, "mode")),
+            faults: faults_of(word(found, "faults")),
+        },
+        progress: flag_of(found, "progress"),
+        subject,
+        over: Over::Records { file, list },
+    }))
+}
+
+// Which records are printed, and how their list may end.
+fn list_of(alloc: Global, found: &ArgMatches<'_>) -> Result<RecordList, WordFault>
+    ensures ok { IfOk result (AsksList (found_of found.now)) }
+    ensures fault { IfErr result (λ fault. fault ≢ WordFault.Offset) }
+    ensures misread { IfErr result (FailsFor (IsNoList (found_of found.now)) ⊥) }
+{
+    Ok(RecordList {
+        omit: number_of(alloc, found, "omit", "--omit <N>", 0)?,
+        count: number_if_any(alloc, found, "count", "--count <N>")?,
+        any_end: flag_of(found, "any-end"),
+        flush: flag_of(found, "flush"),
+        report_end: flag_of(found, "report-end"),
+        grows: found.get_str("limit").is_none(),
+    })
+}
+
 fn read_identify(alloc: Global, found: &ArgMatches<'_>) -> Result<Job, WordFault>
     ensures asks { IfOk result (Asks (found_of found.now)) }
     ensures command { IfOk result (IsJobOf (Some (codes "identify"))) }
@@ -587,10 +694,17 @@ fn terms_of(
 }
 
 // Whether a mapping has nothing that a plain one lacks.
-fn is_plain(spool: Option<u64>, window: Option<u64>, progress: bool, terms: &Terms) -> bool
-    ensures { result ≡ true → (spool ≡ None) × (window ≡ None) × (progress ≡ false) × (terms.now ≡ no_terms) }
+fn is_plain(
+    raw: bool,
+    spool: Option<u64>,
+    window: Option<u64>,
+    progress: bool,
+    terms: &Terms,
+) -> bool
+    ensures { result ≡ true → (raw ≡ false) × (spool ≡ None) × (window ≡ None) × (progress ≡ false)
+        × (terms.now ≡ no_terms) }
 {
-    spool.is_none() && window.is_none() && !progress && has_no_terms(terms)
+    !raw && spool.is_none() && window.is_none() && !progress && has_no_terms(terms)
 }
 
 fn has_no_terms(terms: &Terms) -> bool
@@ -644,6 +758,9 @@ fn read_bound(alloc: Global, found: &ArgMatches<'_>, words: &[String]) -> Result
             mode: mode_in(found),
             style: style_of(alloc, found, Style::plain())?,
         });
+    }
+    if flag_of(found, "tight") {
+        return Ok(Job::TightBound { pickle, name, bits });
     }
     Ok(Job::Bound { pickle, name, bits })
 }

@@ -1,10 +1,9 @@
 //! The arguments of the commands: each option and each positional argument once.
 //!
 //! `tools/options --write` writes the option overview of `--help`, the manual page's OPTIONS, the completions and the
-//! tables of docs/COMMAND_LINE.md from `ARGUMENTS` and the comments in it, and `tools/options --check` compares them. A
-//! new option is a row here, and a row of `arguments` in specs/Commands.antt.
-ghost use Rattle.std.specs.Prelude.{◌≡◌};
-ghost use Rattle.command_line.specs.Commands.{IsTable};
+//! tables of docs/COMMAND_LINE.md from the rows of all groups and the comments above them, and `tools/options --check`
+//! compares them. A new option is a row here, and a row of the same group in specs/Commands.antt.
+ghost use Rattle.command_line.specs.Commands.{AreRows, IsTable, table_of, mapping_options, format_options, style_options, other_options, positionals};
 
 /// How an argument is given.
 #[derive(Clone, Copy)]
@@ -74,8 +73,23 @@ pub struct Argument {
     pub tie: Tie,
     /// Whether the short help leaves it out.
     pub is_rare: bool,
-    /// The short sentence of help. The comment above a row of `ARGUMENTS` is the long one, in Markdown.
+    /// The short sentence of help. The comment above a row is the long one, in Markdown.
     pub help: &'static str,
+}
+
+/// The arguments of all commands, in groups. Help lists them in this order.
+#[derive(Clone, Copy)]
+pub struct Groups {
+    /// The options of mappings.
+    pub mapping: &'static [Argument],
+    /// The options of formats of files.
+    pub formats: &'static [Argument],
+    /// The options of printed values and answers.
+    pub style: &'static [Argument],
+    /// The options of many files, and of dumps.
+    pub others: &'static [Argument],
+    /// The positional arguments.
+    pub positionals: &'static [Argument],
 }
 
 /// What an option with a value has if its row says nothing else.
@@ -104,11 +118,11 @@ const POSITIONAL: Argument = Argument {
     ..OPTION
 };
 
-/// The arguments of all commands, in the order in which help lists them.
-const ARGUMENTS: &[Argument] = &[
+/// The options of mappings, in the order in which help lists them.
+const MAPPING: &[Argument] = &[
     // The value begins this far from the start of FILE.
     Argument {
-        of: &["map", "show", "each"],
+        of: &["map", "show", "each", "records"],
         name: "at",
         value: "OFFSET",
         accepts: Accepts::Offset,
@@ -119,7 +133,7 @@ const ARGUMENTS: &[Argument] = &[
     // The same in bytes, below 2^61: `446`, `0x1be` or, counted from the end of FILE, `-512`. A place before the first
     // byte of FILE is `refused offset`.
     Argument {
-        of: &["map", "show", "each"],
+        of: &["map", "show", "each", "records"],
         name: "byte",
         value: "N",
         accepts: Accepts::Place,
@@ -130,7 +144,7 @@ const ARGUMENTS: &[Argument] = &[
     // FILE ends for the mapping BYTES bytes after the byte that the value begins in, or where it ends anyway. The number is
     // `446` or `0x1be`. Places are still those in the whole FILE.
     Argument {
-        of: &["map", "show", "each"],
+        of: &["map", "show", "each", "records"],
         name: "length",
         value: "BYTES",
         is_rare: true,
@@ -149,7 +163,7 @@ const ARGUMENTS: &[Argument] = &[
     // The byte order of numbers whose field has neither `big` nor `little` before its type. Without the option it is the
     // one that the head of +NAME says, if TYPE is left out or `-`, and else big-endian.
     Argument {
-        of: &["map", "show", "each"],
+        of: &["map", "show", "each", "records"],
         name: "endian",
         value: "ORDER",
         accepts: Accepts::OneOf(&["big", "little"]),
@@ -164,6 +178,16 @@ const ARGUMENTS: &[Argument] = &[
         accepts: Accepts::Number,
         default: Some("1000000000"),
         help: "The most steps of the mapping",
+        ..OPTION
+    },
+    // All records together take at most N steps. If they need more the list ends with `fault Limit` at the record where the
+    // steps end. Without the option it is 1,000,000,000, or 256 for each byte of FILE from the start on if that is more.
+    Argument {
+        of: &["records"],
+        name: "limit",
+        value: "N",
+        accepts: Accepts::Number,
+        help: "The most steps of all records together [default: 1000000000, or 256 a byte if that is more]",
         ..OPTION
     },
     // Accept only a value that ends where FILE ends, or with `--length` where that ends it. Reject any other with
@@ -189,7 +213,7 @@ const ARGUMENTS: &[Argument] = &[
     // [stores a part of a value](OPERATORS.md#memory): a node, a link to a part, a part of a value that isn't finished, or
     // a byte of a string. A mapping that needs more ends with `fault Slots`.
     Argument {
-        of: &["map", "show", "each"],
+        of: &["map", "show", "each", "records"],
         name: "slots",
         value: "N",
         accepts: Accepts::Number,
@@ -211,7 +235,7 @@ const ARGUMENTS: &[Argument] = &[
     // [many times](#many-parts-and-tables), each part is a column, with tabs between them. In mode `json` the columns
     // are one object.
     Argument {
-        of: &["each"],
+        of: &["each", "records"],
         name: "get",
         kind: Kind::Repeated,
         value: "PATH",
@@ -221,7 +245,7 @@ const ARGUMENTS: &[Argument] = &[
     // Read a FILE that has no length, such as a pipe, [into memory](#a-file-without-a-length) before it is mapped. If it
     // has more than BYTES bytes the run ends with `fault TooLong`. Without the option such a FILE is `fault Open`.
     Argument {
-        of: &["map", "show", "each", "identify"],
+        of: &["map", "show", "each", "records", "identify"],
         name: "spool",
         value: "BYTES",
         accepts: Accepts::Number,
@@ -232,7 +256,7 @@ const ARGUMENTS: &[Argument] = &[
     // Show on standard error [how far](#progress) FILE was read, or of `each` and `identify` how many files are done, if
     // that is a terminal.
     Argument {
-        of: &["map", "show", "each", "identify"],
+        of: &["map", "show", "each", "records", "identify"],
         name: "progress",
         is_rare: true,
         help: "Show how much is done, if standard error is a terminal [default: no]",
@@ -260,7 +284,7 @@ const ARGUMENTS: &[Argument] = &[
     },
     // What a part that isn't there is: `fault NoSuchPart`, or with `empty` an empty column or line, in JSON `null`.
     Argument {
-        of: &["map", "show", "each"],
+        of: &["map", "show", "each", "records"],
         name: "absent",
         value: "WHAT",
         accepts: Accepts::OneOf(&["fault", "empty"]),
@@ -269,6 +293,46 @@ const ARGUMENTS: &[Argument] = &[
         help: "What a part that isn't there is: a fault, or an empty column or line",
         ..OPTION
     },
+    // Stop after N lines: the next record isn't mapped, and what follows may be anything.
+    Argument {
+        of: &["records"],
+        name: "count",
+        value: "N",
+        accepts: Accepts::Number,
+        help: "Stop after the lines of N records [default: where the list ends]",
+        ..OPTION
+    },
+    // Map N records first, and print nothing for them.
+    Argument {
+        of: &["records"],
+        name: "omit",
+        value: "N",
+        accepts: Accepts::Number,
+        default: Some("0"),
+        help: "How many records are mapped first, and not printed",
+        ..OPTION
+    },
+    // Accept a list that ends before FILE does. Without the option such a list ends with `fault Left` after its lines.
+    Argument {
+        of: &["records"],
+        name: "any-end",
+        help: "Accept a list that ends before FILE does [default: fault Left]",
+        ..FLAG
+    },
+    // At last print on standard error where the next record would begin, and how many there were, those that weren't printed
+    // too: `end 48#b records 3`. `--at 48#b` goes on from there. A run that maps nothing, since the pickle is refused or
+    // FILE isn't opened, has no such line.
+    Argument {
+        of: &["records"],
+        name: "report-end",
+        is_rare: true,
+        help: "Print at last where the next record would begin, and how many there were [default: no]",
+        ..FLAG
+    },
+];
+
+/// The options of formats of files.
+const FORMATS: &[Argument] = &[
     // Print all formats that fit, in the line of the file, the closest first. After them come, by name, those that have no
     // signature and whose type of whole files maps FILE within 1,000,000,000 steps.
     Argument {
@@ -305,6 +369,10 @@ const ARGUMENTS: &[Argument] = &[
         help: "After how many bytes from there FILE ends, as 446 or 0x1be [default: where it does]",
         ..OPTION
     },
+];
+
+/// The options of printed values and answers.
+const STYLE: &[Argument] = &[
     // Also print how many bytes the printed value has at most.
     Argument {
         of: &["bound"],
@@ -312,16 +380,35 @@ const ARGUMENTS: &[Argument] = &[
         help: "Print the most bytes of the printed value too",
         ..FLAG
     },
+    // Also print tighter bounds on the steps and slots, on two lines of their own. It excludes `--text`.
+    Argument {
+        of: &["bound"],
+        name: "tight",
+        tie: Tie::Apart("text"),
+        help: "Print tighter bounds on the steps and slots too",
+        ..FLAG
+    },
     // How the value is printed. `flat` prints one line. `tree` prints a line for each part of the value, indented.
     // `json` prints one line of JSON. `lines` prints a line for each part that has no parts inside: its path, its start,
-    // its size and its value, with tabs between them.
+    // its size and its value, with tabs between them. `raw` writes [the bytes](#the-bytes-of-a-part) of FILE that the value
+    // takes, or with one `--get` a part of it.
     Argument {
         of: &["map"],
         name: "mode",
         value: "MODE",
+        accepts: Accepts::OneOf(&["flat", "tree", "json", "lines", "raw"]),
+        default: Some("flat"),
+        help: "How the value is printed, or raw for the bytes that it takes",
+        ..OPTION
+    },
+    // How each value is printed, as by `map`.
+    Argument {
+        of: &["records"],
+        name: "mode",
+        value: "MODE",
         accepts: Accepts::OneOf(&["flat", "tree", "json", "lines"]),
         default: Some("flat"),
-        help: "How the value is printed",
+        help: "How each value is printed",
         ..OPTION
     },
     // How the value is printed. `flat` prints it in the line of its file. `json` prints an object for each file instead.
@@ -372,7 +459,7 @@ const ARGUMENTS: &[Argument] = &[
     // How numbers are printed. `digits` prints decimal digits without the type and the unit. `show` prints numbers in this
     // form alone, always without the type.
     Argument {
-        of: &["map", "show", "each"],
+        of: &["map", "show", "each", "records"],
         name: "numbers",
         value: "FORM",
         accepts: Accepts::OneOf(&["decimal", "hex", "digits"]),
@@ -392,7 +479,7 @@ const ARGUMENTS: &[Argument] = &[
     // How an array of `char` is printed. `text` prints it as a string, without the zero bytes at its end. With `numbers`
     // `show` prints a dump of its bytes.
     Argument {
-        of: &["map", "show", "each"],
+        of: &["map", "show", "each", "records"],
         name: "chars",
         value: "FORM",
         accepts: Accepts::OneOf(&["numbers", "text"]),
@@ -411,7 +498,7 @@ const ARGUMENTS: &[Argument] = &[
     },
     // Print at most N elements of each array, or `all`. Of an array of bytes `show` prints at most N lines.
     Argument {
-        of: &["map", "show", "each"],
+        of: &["map", "show", "each", "records"],
         name: "elements",
         value: "N",
         help: "The most elements that are printed of an array, or all [default: all, in show 16]",
@@ -429,7 +516,7 @@ const ARGUMENTS: &[Argument] = &[
     // How a refusal or a fault is [printed](#streams-and-exit-statuses). `json` prints it as a JSON object, such as
     // `{"fault":"End","at":32}`.
     Argument {
-        of: &["map", "each", "identify"],
+        of: &["map", "each", "records", "identify"],
         name: "faults",
         value: "FORM",
         accepts: Accepts::OneOf(&["text", "json"]),
@@ -495,7 +582,7 @@ const ARGUMENTS: &[Argument] = &[
     // [which part](WHY.md#why-a-mapping-stops) stops a mapping and why. With `--mode json` of `each` the reasons of a
     // file are in its object, as the member `why`.
     Argument {
-        of: &["map", "each"],
+        of: &["map", "each", "records"],
         name: "why",
         help: "Explain why the pickle or TYPE is refused, or what stops a mapping [default: no]",
         ..FLAG
@@ -522,11 +609,22 @@ const ARGUMENTS: &[Argument] = &[
         help: "Explain why FILE or the pickles aren't opened [default: no]",
         ..FLAG
     },
+];
+
+/// The options of many files, and of dumps.
+const OTHERS: &[Argument] = &[
     // Write the line of a file before the next file is read.
     Argument {
         of: &["each", "identify"],
         name: "flush",
         help: "Write the line of a file before the next file is read [default: no]",
+        ..FLAG
+    },
+    // Write each record before the next one is mapped.
+    Argument {
+        of: &["records"],
+        name: "flush",
+        help: "Write each record before the next one is mapped [default: no]",
         ..FLAG
     },
     // Read the names of the files from PATH, or from standard input for `-`. A byte 0 ends each name, as `find -print0`
@@ -587,8 +685,12 @@ const ARGUMENTS: &[Argument] = &[
         help: "Leave out the line above the bytes [default: it is printed]",
         ..FLAG
     },
+];
+
+/// The positional arguments.
+const POSITIONALS: &[Argument] = &[
     Argument {
-        of: &["map", "each", "bound", "check", "types"],
+        of: &["map", "each", "records", "bound", "check", "types"],
         name: "PICKLE",
         help: "The file of the pickle, - for standard input, or +NAME for one that is installed",
         ..POSITIONAL
@@ -608,6 +710,12 @@ const ARGUMENTS: &[Argument] = &[
         ..POSITIONAL
     },
     Argument {
+        of: &["records"],
+        name: "TYPE",
+        help: "The type of a record",
+        ..POSITIONAL
+    },
+    Argument {
         of: &["map", "show"],
         name: "FILE",
         kind: Kind::Omissible,
@@ -615,7 +723,7 @@ const ARGUMENTS: &[Argument] = &[
         ..POSITIONAL
     },
     Argument {
-        of: &["dump"],
+        of: &["records", "dump"],
         name: "FILE",
         help: "The file of the bytes",
         ..POSITIONAL
@@ -638,9 +746,45 @@ const ARGUMENTS: &[Argument] = &[
     },
 ];
 
-/// The arguments of all commands, in the order in which help lists them.
-pub fn arguments() -> &'static [Argument]
-    ensures { IsTable result.now }
+/// The arguments of all commands.
+pub fn arguments() -> Groups
+    ensures { IsTable (table_of result) }
 {
-    ARGUMENTS
+    Groups {
+        mapping: mapping_options(),
+        formats: format_options(),
+        style: style_options(),
+        others: other_options(),
+        positionals: positionals(),
+    }
+}
+
+fn mapping_options() -> &'static [Argument]
+    ensures { AreRows result.now mapping_options }
+{
+    MAPPING
+}
+
+fn format_options() -> &'static [Argument]
+    ensures { AreRows result.now format_options }
+{
+    FORMATS
+}
+
+fn style_options() -> &'static [Argument]
+    ensures { AreRows result.now style_options }
+{
+    STYLE
+}
+
+fn other_options() -> &'static [Argument]
+    ensures { AreRows result.now other_options }
+{
+    OTHERS
+}
+
+fn positionals() -> &'static [Argument]
+    ensures { AreRows result.now positionals }
+{
+    POSITIONALS
 }

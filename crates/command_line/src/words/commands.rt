@@ -1,9 +1,9 @@
 //! The commands, and the texts of their help.
 ghost use Rattle.std.specs.Prelude.{◌≡◌, IfOk};
 ghost use Rattle.clap.specs.Simple.{new_app};
-ghost use Rattle.command_line.specs.Commands.{IsApp, command_of, the_program, without_commands};
+ghost use Rattle.command_line.specs.Commands.{IsApp, command_of, table_of, the_program, without_commands};
 
-use crate::words::arguments::Argument;
+use crate::words::arguments::Groups;
 use crate::words::overview::PROGRAM_HELP;
 use crate::words::parser::{Ties, with_arguments};
 use clap::Command;
@@ -25,9 +25,7 @@ pub const SHOWN_ELEMENTS: u64 = 16;
 pub const SHOWN_LEVELS: u64 = 6;
 
 const PROGRAM_SHORT_HELP: &str = "\
-Many files, one line each:
-  find . -name '*.png' -print0 | poke_batch each --files0-from - +png
-PICKLE is a path, - for standard input, or +NAME for a pickle that is installed: `poke_batch formats`.
+PICKLE is a path, - for standard input, or +NAME for a pickle that `formats` lists.
 `poke_batch COMMAND -h` lists the options of a command, `--help` also explains them.";
 
 /// A command, and the texts of its help.
@@ -101,6 +99,27 @@ Example:
 Exit status:
   0  each value was printed
   1  a mapping has a fault, which its line reports
+  2  refused: the arguments, an offset, the pickle or the type's name
+  3  memory, a file, standard input or an output failed",
+};
+
+const RECORDS: Verb = Verb {
+    name: "records",
+    about: "Maps a type again and again, each time from the end of the value before, and prints each value",
+    usage: None,
+    help: "\
+The values are the elements that an array of TYPE without a bound has there. Each is printed when it is there, and then
+forgotten: a list of any length needs the memory of one record. A fault comes after the lines before it. Where the list ends
+before FILE does, as a log that was cut off, the lines stand, and the run ends with fault Left at the bit after them. The
+options are those of map, and --limit is the most steps of all records together.
+
+Example:
+  printf '\\001\\002\\003\\004' > four.bin
+  echo 'type P = struct { uint<8> a; uint<8> b; };' | poke_batch records - P four.bin
+
+Exit status:
+  0  the list ends where FILE does, or as --count or --any-end say
+  1  the list ends before that, or a record has a fault, which is reported with its place
   2  refused: the arguments, an offset, the pickle or the type's name
   3  memory, a file, standard input or an output failed",
 };
@@ -223,17 +242,14 @@ Exit status:
 };
 
 /// The program with its commands.
-pub fn program<'a>(
-    alloc: Global,
-    table: &'static [Argument],
-    ties: Ties,
-) -> Result<Command<'a>, AllocError>
-    ensures { IfOk result (λ program. ties ≡ Ties.Without → IsApp (the_program table.entry.now) program) }
+pub fn program<'a>(alloc: Global, table: Groups, ties: Ties) -> Result<Command<'a>, AllocError>
+    ensures { IfOk result (λ program. ties ≡ Ties.Without → IsApp (the_program (table_of table)) program) }
 {
     without_commands(alloc)
         .subcommand(command(alloc, MAP, table, ties)?)?
         .subcommand(command(alloc, SHOW, table, ties)?)?
         .subcommand(command(alloc, EACH, table, ties)?)?
+        .subcommand(command(alloc, RECORDS, table, ties)?)?
         .subcommand(command(alloc, IDENTIFY, table, ties)?)?
         .subcommand(command(alloc, BOUND, table, ties)?)?
         .subcommand(command(alloc, CHECK, table, ties)?)?
@@ -256,11 +272,11 @@ fn without_commands<'a>(alloc: Global) -> Command<'a>
 fn command<'a>(
     alloc: Global,
     verb: Verb,
-    table: &'static [Argument],
+    table: Groups,
     ties: Ties,
 ) -> Result<Command<'a>, AllocError>
     ensures { IfOk result (λ command. ties ≡ Ties.Without →
-        IsApp (command_of verb.name.now table.entry.now) command) }
+        IsApp (command_of verb.name.now (table_of table)) command) }
 {
     with_arguments(alloc, new_command(alloc, verb), verb.name, table, ties)
 }

@@ -62,7 +62,7 @@ pub fn subject_of(
     Ok(Subject::Named { pickle, name })
 }
 
-/// What is shown: the same, or if one argument alone is the file, the format that it has.
+/// What is shown: what is mapped, or if one argument alone is the file, the format that it has.
 pub fn shown_subject(alloc: Global, found: &ArgMatches<'_>) -> Result<Subject, AllocError>
     ensures { IfOk result (ShowsSubject (found_of found.now) (type_in (found_of found.now) (codes "FILE"))) }
 {

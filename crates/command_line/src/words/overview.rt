@@ -8,15 +8,11 @@ these. They are in the folder that POKE_BATCH_PICKLES names, else in ../share/po
 +NAME the TYPE may be left out: then the pickle's head says the type and the options. A TYPE of - means the same.
 OFFSET is a number, # and a unit: b for bits, B for bytes, or a number of bits, as 8#b, 1#B or 2#4.
 
-Options of map, show and each:
+Options of map, show, each and records:
   --at OFFSET      where the value begins in FILE [default: 0#b]
   --byte N         the byte where the value begins, as 446, 0x1be or, from the end of FILE, -512 [default: 0]
   --length BYTES   after how many bytes from there FILE ends, as 446 or 0x1be [default: where it does]
-  --inside         map the type of +NAME for the format inside other bytes [default: that of whole files]
   --endian ORDER   the byte order (big or little) [default: big, without TYPE that of the head]
-  --limit N        the most steps of the mapping [default: 1000000000]
-  --whole          accept only a value that ends where FILE does [default: any end]
-  --max-output N   the most bytes of the printed value [default: any length]
   --slots N        the most slots of each kind, reserved before the mapping [default: any number]
   --absent WHAT    what a part that isn't there is: a fault, or an empty column or line (fault or empty)
                    [default: fault]
@@ -25,21 +21,36 @@ Options of map, show and each:
   --chars FORM     how arrays of char are printed (numbers or text) [default: numbers, in show text]
   --elements N     the most elements that are printed of an array, or all [default: all, in show 16]
 
+Options of map, show and each:
+  --inside         map the type of +NAME for the format inside other bytes [default: that of whole files]
+  --limit N        the most steps of the mapping [default: 1000000000]
+  --whole          accept only a value that ends where FILE does [default: any end]
+  --max-output N   the most bytes of the printed value [default: any length]
+
+Options of records:
+  --limit N        the most steps of all records together [default: 1000000000, or 256 a byte if that is more]
+  --count N        stop after the lines of N records [default: where the list ends]
+  --omit N         how many records are mapped first, and not printed [default: 0]
+  --any-end        accept a list that ends before FILE does [default: fault Left]
+  --report-end     print at last where the next record would begin, and how many there were [default: no]
+  --mode MODE      how each value is printed (flat, tree, json or lines) [default: flat]
+  --flush          write each record before the next one is mapped [default: no]
+
 Options of map and show:
   --get PATH       print parts of the value: . or steps of .name, .place, [place], [*], [2:5], .* [default: .]
 
-Options of each:
+Options of each and records:
   --get PATH       print a part of the value, or many as columns: . or steps of .name, .place, [place] [default: .]
-  --mode MODE      how the value is printed (flat or json) [default: flat]
 
-Options of map, show, each and identify:
+Options of map, show, each, records and identify:
   --spool BYTES    read a FILE without a length, as a pipe, up to so many bytes [default: it isn't opened]
   --progress       show how much is done, if standard error is a terminal [default: no]
 
 Options of map:
   --rows PATTERN   print a line for each part that PATTERN leads to, with a column for each --get
   --header         with --rows, print the paths of the columns first [default: no]
-  --mode MODE      how the value is printed (flat, tree, json or lines) [default: flat]
+  --mode MODE      how the value is printed, or raw for the bytes that it takes (flat, tree, json, lines or raw)
+                   [default: flat]
 
 Options of identify:
   --all            print all formats that fit, those without a signature too [default: the first]
@@ -51,15 +62,19 @@ Options of identify:
 
 Options of bound:
   --text           print the most bytes of the printed value too
+  --tight          print tighter bounds on the steps and slots too
   --mode MODE      with --text, in this mode alone (flat, tree, json or lines) [default: in any]
   --numbers FORM   with --text, for numbers in this form (decimal, hex or digits) [default: decimal]
   --chars FORM     with --text, for arrays of char in this form (numbers or text) [default: numbers]
   --elements N     with --text, for so many elements of an array, or all [default: all]
 
+Options of each:
+  --mode MODE      how the value is printed (flat or json) [default: flat]
+
 Options of check, types and formats:
   --mode MODE      how the answer is printed (text or json) [default: text]
 
-Options of map, each and identify:
+Options of map, each, records and identify:
   --faults FORM    how a refusal or a fault is printed (text or json) [default: text]
 
 Options of show:
@@ -72,7 +87,7 @@ Options of types:
   --parts NAME     list the parts that values of the type NAME can have
   --depth N        the most levels of parts below the value that are listed, or all [default: 6]
 
-Options of map and each:
+Options of map, each and records:
   --why            explain why the pickle or TYPE is refused, or what stops a mapping [default: no]
 
 Options of bound and types:

@@ -2,9 +2,9 @@
 ghost use Rattle.std.specs.Prelude.{◌≡◌, [], false, IfOk, option_map};
 ghost use Rattle.clap.specs.Walk.{Rule};
 ghost use Rattle.clap.specs.Simple.{App, new_rule};
-ghost use Rattle.command_line.specs.Commands.{IsArg, IsApp, rule_of_argument, rules_of, with_rules, before_if, has, accepted, names_of, with_kind, with_letter, with_default, with_values};
+ghost use Rattle.command_line.specs.Commands.{table_of, IsArg, IsApp, rule_of_argument, rules_of, with_rules, before_if, has, accepted, names_of, with_kind, with_letter, with_default, with_values};
 
-use crate::words::arguments::{Accepts, Argument, Kind, Tie};
+use crate::words::arguments::{Accepts, Argument, Groups, Kind, Tie};
 use clap::{Arg, ArgAction, Command};
 use std::alloc::{AllocError, Global};
 
@@ -26,14 +26,32 @@ pub fn with_arguments<'a>(
     alloc: Global,
     command: Command<'a>,
     name: &str,
-    table: &'static [Argument],
+    table: Groups,
     ties: Ties,
 ) -> Result<Command<'a>, AllocError>
     ensures { IfOk result (λ made. (app : App) → ties ≡ Ties.Without → IsApp app command.entry
-        → IsApp (with_rules app (rules_of name.now table.entry.now)) made) }
+        → IsApp (with_rules app (rules_of name.now (table_of table))) made) }
+{
+    let command = with_group(alloc, command, name, table.mapping, ties)?;
+    let command = with_group(alloc, command, name, table.formats, ties)?;
+    let command = with_group(alloc, command, name, table.style, ties)?;
+    let command = with_group(alloc, command, name, table.others, ties)?;
+    with_group(alloc, command, name, table.positionals, ties)
+}
+
+// The command with the arguments of a group that the command `name` has.
+fn with_group<'a>(
+    alloc: Global,
+    command: Command<'a>,
+    name: &str,
+    group: &'static [Argument],
+    ties: Ties,
+) -> Result<Command<'a>, AllocError>
+    ensures { IfOk result (λ made. (app : App) → ties ≡ Ties.Without → IsApp app command.entry
+        → IsApp (with_rules app (rules_of name.now group.entry.now)) made) }
 {
     let mut command = command;
-    for row in table {
+    for row in group {
         command = with_row(alloc, command, row, name, ties)?;
     }
     Ok(command)

@@ -4,7 +4,7 @@ ghost use Rattle.clap.specs.Matches.{found_of, first_value};
 ghost use Rattle.command_line.specs.Paths.{steps_of, IsPath};
 ghost use Rattle.command_line.specs.Patterns.{parts_of, IsPattern};
 ghost use Rattle.command_line.specs.Misread.{FailsFor, AnyWord, IsNoPath, IsNoPathIfAny, IsNoPattern, IsNoOnePath, MisreadSelection, MisreadColumns, MisreadRows};
-ghost use Rattle.command_line.specs.Selects.{NamesAbsent, ArePatterns, AreColumns, IsOnePath, NamesRows, SelectsParts, SelectsColumns, Selects, PartBeside, HasRows, IsColumn, is_one_path};
+ghost use Rattle.command_line.specs.Selects.{NamesAbsent, ArePatterns, AreColumns, IsOnePath, NamesRows, SelectsParts, IsRowOf, SelectsColumns, Selects, PartBeside, HasRows, IsColumn, is_one_path};
 ghost use Rattle.command_line.specs.declared.words.WordFault.TheVariants.{Offset};
 
 use crate::path::{Path, PathFault, read_path};
@@ -114,15 +114,7 @@ fn columns_selection(
     ensures misread { IfErr result (FailsFor (MisreadColumns (map (λ word. word.now) words.now)) ⊥) }
 {
     if words.len() > 1 {
-        let rows = Rows {
-            pattern: Pattern::root(alloc),
-            columns: columns_of(alloc, words)?,
-            header: false,
-        };
-        return Ok(Some(Selection {
-            shape: Shape::Rows(rows),
-            absent,
-        }));
+        return Ok(Some(row_of(alloc, words, absent)?));
     }
     match (words, absent) {
         ([word], Absent::Empty) => Ok(Some(Selection {
@@ -131,6 +123,23 @@ fn columns_selection(
         })),
         _ => Ok(None),
     }
+}
+
+// One row, the value itself, with the columns whose paths the arguments are.
+fn row_of(alloc: Global, words: &[&str], absent: Absent) -> Result<Selection, WordFault>
+    ensures ok { IfOk result (IsRowOf (map (λ word. word.now) words.now) absent) }
+    ensures fault { IfErr result (λ fault. fault ≢ Offset) }
+    ensures misread { IfErr result (FailsFor (AnyWord IsNoPath (map (λ word. word.now) words.now)) ⊥) }
+{
+    let rows = Rows {
+        pattern: Pattern::root(alloc),
+        columns: columns_of(alloc, words)?,
+        header: false,
+    };
+    Ok(Selection {
+        shape: Shape::Rows(rows),
+        absent,
+    })
 }
 
 // The path that an argument is, as the one pattern.
@@ -174,7 +183,7 @@ fn check_mode(alloc: Global, mode: &str, header: bool) -> Result<(), WordFault>
     ensures misread { IfErr result (FailsFor (¬ (HasRows mode.now header)) ⊥) }
 {
     let why = match mode {
-        "tree" | "lines" => "--rows prints flat or json",
+        "tree" | "lines" | "raw" => "--rows prints flat or json",
         "json" if header => "--header prints flat",
         _ => return Ok(()),
     };

@@ -2,7 +2,7 @@
 ghost use Rattle.std.specs.Prelude.{◌≡◌, codes, option_map};
 ghost use Rattle.clap.specs.Matches.{found_of, first_value};
 ghost use Rattle.command_line.specs.Found.{shows_file_alone};
-ghost use Rattle.command_line.specs.Ties.{is_given, are_apart, needs, is_either_given, is_typed, has_words, keeps_inside, keeps_file_ties, keeps_map_ties, keeps_show_ties, keeps_each_ties, keeps_identify_ties, keeps_text_ties, keeps_bound_ties, keeps_types_ties, keeps_dump_ties, keeps_ties};
+ghost use Rattle.command_line.specs.Ties.{is_given, are_apart, needs, is_either_given, is_typed, has_words, keeps_inside, keeps_file_ties, keeps_map_ties, keeps_show_ties, keeps_each_ties, keeps_records_ties, keeps_identify_ties, keeps_text_ties, keeps_bound_ties, keeps_types_ties, keeps_dump_ties, keeps_ties};
 
 use crate::subject::{has_type, is_by_head, is_file_alone};
 use crate::words::found::{after_type, type_word, word};
@@ -17,6 +17,7 @@ pub fn keeps_ties(command: &str, found: &ArgMatches<'_>) -> bool
         "map" => keeps_map_ties(found),
         "show" => keeps_show_ties(found),
         "each" => keeps_each_ties(found),
+        "records" => keeps_records_ties(found),
         "identify" => keeps_identify_ties(found),
         "bound" => keeps_bound_ties(found),
         "types" => keeps_types_ties(found),
@@ -56,6 +57,12 @@ fn keeps_each_ties(found: &ArgMatches<'_>) -> bool
         && keeps_inside(found, found.get_str("TYPE"))
 }
 
+fn keeps_records_ties(found: &ArgMatches<'_>) -> bool
+    ensures { result ≡ keeps_records_ties (found_of found.now) }
+{
+    are_apart(found, "byte", "at") && !is_by_head(word(found, "PICKLE"), found.get_str("TYPE"))
+}
+
 fn keeps_identify_ties(found: &ArgMatches<'_>) -> bool
     ensures { result ≡ keeps_identify_ties (found_of found.now) }
 {
@@ -65,7 +72,7 @@ fn keeps_identify_ties(found: &ArgMatches<'_>) -> bool
 fn keeps_bound_ties(found: &ArgMatches<'_>) -> bool
     ensures { result ≡ keeps_bound_ties (found_of found.now) }
 {
-    has_words(found, "BITS") && keeps_text_ties(found)
+    has_words(found, "BITS") && are_apart(found, "tight", "text") && keeps_text_ties(found)
 }
 
 fn keeps_text_ties(found: &ArgMatches<'_>) -> bool
