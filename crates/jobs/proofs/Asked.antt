@@ -11,9 +11,9 @@ use Rattle.command_line.specs.declared.words.Job.{Job}
 use Rattle.command_line.specs.declared.words.Job.TheVariants as job
 use Rattle.part_lists.specs.PartRuns.{PartsAs}
 use Rattle.jobs.specs.Due.{DueOver, DueRun, End, Holds}
-use Rattle.jobs.specs.Given.{DueAnswer, IsAskedAbout, IsOverFiles, of_bound, of_check, of_parts, of_text, of_types}
+use Rattle.jobs.specs.Given.{DueAnswer, IsAskedAbout, IsOverFiles, of_bound, of_check, of_parts, of_text, of_tight, of_types}
 use Rattle.jobs.specs.Gives.{Gives}
-use Rattle.jobs.specs.Jobs.{DueBound, DueCheckIn, DueTextBound, DueTypesIn, HoldsJob}
+use Rattle.jobs.specs.Jobs.{DueBound, DueCheckIn, DueTextBound, DueTightBound, DueTypesIn, HoldsJob}
 use Rattle.jobs.specs.declared.pickles.Question.{Question}
 
 -- the answer of a question is that of its job
@@ -31,6 +31,9 @@ question_holds gives why _ form word _ out out' end (of_parts {pickle = pickle} 
 question_holds gives why _ form word _ out out' end (of_bound {pickle = pickle} {bits = bits} given is same) h =
     subst (λ n. Holds (DueOver gives (string_bytes pickle) (DueBound (string_bytes pickle) n bits)) out out' end) same
     (subst (λ w. Holds (DueOver gives w (DueBound w given.now bits)) out out' end) is h)
+question_holds gives why _ form word _ out out' end (of_tight {pickle = pickle} {bits = bits} given is same) h =
+    subst (λ n. Holds (DueOver gives (string_bytes pickle) (DueTightBound (string_bytes pickle) n bits)) out out' end)
+    same (subst (λ w. Holds (DueOver gives w (DueTightBound w given.now bits)) out out' end) is h)
 question_holds gives why _ form word _ out out' end
     (of_text {pickle = pickle} {bits = bits} {mode = mode} {style = style} given is same) h =
     subst (λ n. Holds (DueOver gives (string_bytes pickle) (DueTextBound (string_bytes pickle) n bits style mode))
@@ -51,6 +54,7 @@ only_formats (job.Dump from size ruler file) over map request dump identify = ab
 only_formats (job.Identify files) over map request dump identify = absurd (identify files refl)
 only_formats job.Formats over map request dump identify = refl
 only_formats (job.Bound pickle name bits) over map request dump identify = absurd over
+only_formats (job.TightBound pickle name bits) over map request dump identify = absurd over
 only_formats (job.BoundText pickle name bits mode style) over map request dump identify = absurd over
 only_formats (job.Check pickle) over map request dump identify = absurd over
 only_formats (job.Types pickle) over map request dump identify = absurd over

@@ -12,3 +12,6 @@ mod Among
 mod Readable
 mod Listed
 mod Explained
+pub mod Recorded
+pub mod Copied
+pub mod Tasked

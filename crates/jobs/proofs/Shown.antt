@@ -1,10 +1,9 @@
 -- What standard output holds of a file that is shown as the format that it has.
-use Rattle.std.proofs.Common.{◌≡◌, ◌≢◌, ◌⊎◌, inl, inr, ℕ, zero, Bool, List, [], ◌∷◌, Option, Some, None, Ok, String, drop, slice_get, refl, sym, ap, subst}
+use Rattle.std.proofs.Common.{◌≡◌, ◌≢◌, ◌⊎◌, inl, inr, ℕ, Bool, List, [], ◌∷◌, Option, Some, None, Ok, String, drop, slice_get, refl, sym, ap, subst}
 use Rattle.std.proofs.lemmas.Option.{none-some, same_Some}
 use Rattle.std.specs.declared.alloc.Global.{Global}
 use Rattle.std.specs.Io.KnownBytes.{Keeps}
-use Rattle.command_line.specs.declared.request.Over.{Over}
-use Rattle.command_line.specs.declared.request.Over.TheVariants.{File, Files}
+use Rattle.command_line.specs.declared.request.Over.TheVariants.{File}
 use Rattle.command_line.specs.declared.request.Request.{Request}
 use Rattle.identification.specs.declared.format.Formats.{Formats}
 use Rattle.jobs.specs.Due.{Holds}
@@ -17,28 +16,18 @@ use Rattle.run_parts.specs.declared.outcome.Failure.TheVariants as failure
 use Rattle.run_parts.specs.declared.outcome.Outcome.TheVariants as outcome
 use Rattle.run_parts.specs.declared.status.Status.TheVariants.{Refused}
 
--- many files have no format of their own, which is a usage error
-many_hold_over : (gives : Gives) (why : Bool) (request : Request) (pickles : List InstalledPickle) (formats : Formats)
-    (ending : Ending) (out out' : Option (List ℕ)) (over : Over) → request.over ≡ over
-    → ((file : String Global) → over ≢ File file)
-    → (ending ≡ Silent Refused) ⊎ (ending ≡ Run (outcome.Failed failure.Memory)) → Keeps out out'
-    → Holds (DueSeenFile gives why request pickles formats) out out' (Ok ending)
-many_hold_over gives why request pickles formats ending out out' (File file) same other is keeps =
-    absurd (other file refl)
-many_hold_over gives why request pickles formats ending out out' (Files names flush) same other (inl is) keeps =
-    subst (λ e. Holds (DueSeenFile gives why request pickles formats) out out' (Ok e)) (sym is)
-    (no_text (DueSeenFile gives why request pickles formats) (Ok (Silent Refused)) out out' (many_files same) keeps)
-many_hold_over gives why request pickles formats ending out out' (Files names flush) same other (inr is) keeps =
-    subst (λ e. Holds (DueSeenFile gives why request pickles formats) out out' (Ok e)) (sym is)
-    (no_text (DueSeenFile gives why request pickles formats) (Ok (Run (outcome.Failed failure.Memory))) out out'
-    (many_unwritten same) keeps)
-
+-- many files, or a list, have no format of their own, which is a usage error
 pub many_hold : (gives : Gives) (why : Bool) (request : Request) (pickles : List InstalledPickle) (formats : Formats)
     (ending : Ending) (out out' : Option (List ℕ)) → ((file : String Global) → request.over ≢ File file)
     → (ending ≡ Silent Refused) ⊎ (ending ≡ Run (outcome.Failed failure.Memory)) → Keeps out out'
     → Holds (DueSeenFile gives why request pickles formats) out out' (Ok ending)
-many_hold gives why request pickles formats ending out out' other is keeps =
-    many_hold_over gives why request pickles formats ending out out' request.over refl other is keeps
+many_hold gives why request pickles formats ending out out' other (inl is) keeps =
+    subst (λ e. Holds (DueSeenFile gives why request pickles formats) out out' (Ok e)) (sym is)
+    (no_text (DueSeenFile gives why request pickles formats) (Ok (Silent Refused)) out out' (many_files other) keeps)
+many_hold gives why request pickles formats ending out out' other (inr is) keeps =
+    subst (λ e. Holds (DueSeenFile gives why request pickles formats) out out' (Ok e)) (sym is)
+    (no_text (DueSeenFile gives why request pickles formats) (Ok (Run (outcome.Failed failure.Memory))) out out'
+    (many_unwritten other) keeps)
 
 -- the first of a list, and the rest of it
 pub none_first : {A : Type 0} (xs : List A) → slice_get xs 0 ≡ None → xs ≡ []

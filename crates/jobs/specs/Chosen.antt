@@ -1,8 +1,8 @@
 -- The type that is mapped: the one that is named, or one that the head of the pickle says.
-use Rattle.std.specs.Prelude.{ℕ, Bool, false, List, Option, Some, None, if◌then◌else◌, option_map, string_bytes}
+use Rattle.std.specs.Prelude.{◌&&◌, ℕ, Bool, false, not, List, Option, Some, None, if◌then◌else◌, option_map, string_bytes}
 use Rattle.bit_space.specs.declared.order.Order.{Order}
 use Rattle.bit_space.specs.declared.order.Order.TheVariants.{Big}
-use Rattle.command_line.specs.Subjects.{is_by_head}
+use Rattle.command_line.specs.Subjects.{is_by_head, is_inside}
 use Rattle.command_line.specs.declared.subject.HeadType.{HeadType}
 use Rattle.command_line.specs.declared.subject.HeadType.TheVariants.{Documented, Inside}
 use Rattle.command_line.specs.declared.subject.Subject.{Subject}
@@ -21,12 +21,12 @@ pub record ChosenType : Type 0 where
 abbrev pub chosen_type : Chosen → ChosenType
 chosen_type chosen = record { name = chosen.name.now; order = chosen.order; whole = chosen.whole }
 
--- a type with the options of the head of its pickle
-abbrev pub with_options : (pickle name : List ℕ) → ChosenType
-with_options pickle name = record {
+-- a type with the options of the head of its pickle; inside other bytes a value ends before they do
+abbrev pub with_options : (pickle : List ℕ) → HeadType → (name : List ℕ) → ChosenType
+with_options pickle part name = record {
   name = name;
   order = (given_or_none (options_of pickle)).order;
-  whole = (given_or_none (options_of pickle)).whole;
+  whole = (given_or_none (options_of pickle)).whole && not (is_inside part);
 }
 
 abbrev pub type_among : Option Among → Option (List ℕ)
@@ -43,7 +43,7 @@ head_type Inside pickle = type_among (inside_of pickle)
 abbrev pub chosen : Subject → (pickle : List ℕ) → Option ChosenType
 chosen (Named _ name) pickle = Some (record { name = string_bytes name; order = None; whole = false })
 chosen Identified pickle = None
-chosen (ByHead _ part) pickle = option_map (with_options pickle) (head_type part pickle)
+chosen (ByHead _ part) pickle = option_map (with_options pickle part) (head_type part pickle)
 
 -- the type of a bound, by the arguments for its pickle and for the type
 abbrev pub bound_type : (word name pickle : List ℕ) → Option (List ℕ)

@@ -16,7 +16,7 @@ use Rattle.jobs.specs.Due.{DueRun, End, Holds}
 use Rattle.jobs.specs.FaultNames.{list_failure}
 use Rattle.jobs.specs.Gives.{Gives}
 use Rattle.jobs.specs.Files.{Every}
-use Rattle.jobs.specs.Jobs.{DueBound, DueCheckIn, DueFiles, DueIfAny, DueMapping, DueTextBound, DueTypesIn, HoldsDump}
+use Rattle.jobs.specs.Jobs.{DueBound, DueCheckIn, DueFiles, DueIfAny, DueMapping, DueTextBound, DueTightBound, DueTypesIn, HoldsDump}
 use Rattle.jobs.specs.Spaces.{DueSpace, MayShow}
 use Rattle.jobs.specs.Names.{AreListed, AreListedFirst, AreNamed, AreNamedFirst, StopsList}
 use Rattle.jobs.specs.declared.dumps.Range.{Range}
@@ -50,6 +50,7 @@ DueAnswer why word (about.Check form) pickle = DueCheckIn why form pickle
 DueAnswer why word (about.Types form) pickle = DueTypesIn why form pickle
 DueAnswer why word (about.Parts name depth form) pickle = DueRun (PartsAs pickle name.now depth form)
 DueAnswer why word (about.Bound name bits) pickle = DueBound word name.now bits pickle
+DueAnswer why word (about.TightBound name bits) pickle = DueTightBound word name.now bits pickle
 DueAnswer why word (about.BoundText name texts) pickle =
     DueTextBound word name.now texts.bits texts.style texts.mode pickle
 
@@ -72,6 +73,9 @@ pub data IsAskedAbout (form : AnswerForm) (word : List ℕ) : Job → Question �
   of_bound : {pickle name : String Global} {bits : ℕ} (given : Bor (List ℕ)) → word ≡ string_bytes pickle
       → given.now ≡ string_bytes name
       → IsAskedAbout form word (job.Bound pickle name bits) (about.Bound given bits)
+  of_tight : {pickle name : String Global} {bits : ℕ} (given : Bor (List ℕ)) → word ≡ string_bytes pickle
+      → given.now ≡ string_bytes name
+      → IsAskedAbout form word (job.TightBound pickle name bits) (about.TightBound given bits)
   of_text : {pickle name : String Global} {bits : ℕ} {mode : Option Mode} {style : Style} (given : Bor (List ℕ))
       → word ≡ string_bytes pickle → given.now ≡ string_bytes name
       → IsAskedAbout form word (job.BoundText pickle name bits mode style)
@@ -85,6 +89,7 @@ IsOverFiles (job.Identify files) = Unit {0}
 IsOverFiles (job.Dump from size ruler file) = Unit {0}
 IsOverFiles job.Formats = Unit {0}
 IsOverFiles (job.Bound pickle name bits) = ⊥
+IsOverFiles (job.TightBound pickle name bits) = ⊥
 IsOverFiles (job.BoundText pickle name bits mode style) = ⊥
 IsOverFiles (job.Check pickle) = ⊥
 IsOverFiles (job.Types pickle) = ⊥

@@ -1,13 +1,12 @@
 -- What is due of a file that is shown as the format that it has among the installed ones.
-use Rattle.std.specs.Prelude.{◌≡◌, ◌≤◌, ◌⊎◌, ℕ, Bool, List, [], ◌∷◌, Option, Some, None, Result, Ok, Err, slice_get, string_bytes, String}
+use Rattle.std.specs.Prelude.{◌≡◌, ◌≢◌, ◌≤◌, ◌⊎◌, ℕ, Bool, List, [], ◌∷◌, Option, Some, None, Result, Ok, Err, slice_get, string_bytes, String}
 use Rattle.std.specs.declared.alloc.Global.{Global}
 use Rattle.bit_space.specs.Bits.{bits_of}
 use Rattle.bit_space.specs.SpaceView.{HasRisen, Keeps, SpaceView}
 use Rattle.bit_space.specs.declared.order.Order.{Order}
 use Rattle.command_line.specs.Starts.{start_bit}
 use Rattle.command_line.specs.declared.ask.Ask.{Ask}
-use Rattle.command_line.specs.declared.request.FileNames.{FileNames}
-use Rattle.command_line.specs.declared.request.Over.TheVariants.{File, Files}
+use Rattle.command_line.specs.declared.request.Over.TheVariants.{File}
 use Rattle.command_line.specs.declared.request.Request.{Request}
 use Rattle.identification.specs.Fits.{IsIdentified, StopsTrying}
 use Rattle.identification.specs.declared.fit.Ranked.{Ranked}
@@ -100,12 +99,12 @@ pub record ShowsSpace (why : Bool) (request : Request) (pickles : List Installed
 
 module _ (gives : Gives) (why : Bool) where
   -- of the file of a request among formats: as of a file whose type is known, but by the format that it has. A request
-  -- of many files has none
+  -- of many files, or of a list, has none
   pub data DueSeenFile (request : Request) (pickles : List InstalledPickle) (formats : Formats) :
       (lines : List (List ℕ)) → Option End → Type 0 where
-    many_files : {names : FileNames} {flush : Bool} → request.over ≡ Files names flush →
+    many_files : ((path : String Global) → request.over ≢ File path) →
         DueSeenFile request pickles formats [] (Some (Ok (Silent Refused)))
-    many_unwritten : {names : FileNames} {flush : Bool} → request.over ≡ Files names flush →
+    many_unwritten : ((path : String Global) → request.over ≢ File path) →
         DueSeenFile request pickles formats [] (Some (Ok (Run (outcome.Failed failure.Memory))))
     unopened : {path : String Global} {fault : FileFault} → request.over ≡ File path
         → gives.is_unopened (string_bytes path) request.spool fault

@@ -11,7 +11,7 @@ use Rattle.command_line.specs.declared.ask.Ask.{Ask}
 use Rattle.command_line.specs.declared.identification.Identification.{Identification}
 use Rattle.command_line.specs.declared.request.FileNames.{FileNames}
 use Rattle.command_line.specs.declared.request.Over.{Over}
-use Rattle.command_line.specs.declared.request.Over.TheVariants.{File, Files}
+use Rattle.command_line.specs.declared.request.Over.TheVariants.{Bytes, File, Files, Records}
 use Rattle.command_line.specs.declared.request.Request.{Request}
 use Rattle.command_line.specs.declared.terms.Terms.{Terms}
 use Rattle.command_line.specs.declared.words.Asked.{Asked}
@@ -25,6 +25,8 @@ use Rattle.jobs.specs.Files.{Every, IdentifiesFrom, MapsFrom, WritesRuns, answer
 use Rattle.identification.specs.declared.format.Formats.{Formats}
 use Rattle.jobs.specs.Gives.{Gives}
 use Rattle.jobs.specs.Installed.{DueAmong, folder_of}
+use Rattle.jobs.specs.Tasks.{DueTask}
+use Rattle.jobs.specs.declared.task.Task.TheVariants as task
 use Rattle.jobs.specs.Identified.{DueIdentifiedFile}
 use Rattle.jobs.specs.Spaces.{DueSpace}
 use Rattle.jobs.specs.Names.{AreFirstOf, AreNamesOf, StopsNames}
@@ -54,6 +56,7 @@ use Rattle.run_parts.specs.declared.outcome.Outcome.TheVariants as outcome
 use Rattle.run_parts.specs.declared.status.Status.{Status}
 use Rattle.run_parts.specs.declared.status.Status.TheVariants.{Done, Fault, Refused}
 use Rattle.text_bounds.specs.TextRuns.{TextBoundsAs}
+use Rattle.tight_bounds.specs.TightRuns.{TightBoundsAs}
 use Rattle.text_output.specs.declared.mode.Mode.{Mode}
 use Rattle.text_output.specs.declared.style.Style.{Style}
 use Rattle.spool.specs.Window.{seen}
@@ -129,10 +132,16 @@ pub data DueIfAny {A : Type 0} (Due : A → (lines : List (List ℕ)) → Option
   usage_due : DueIfAny Due None [] (Some (Ok (Silent Refused)))
   usage_unwritten : DueIfAny Due None [] (Some (Ok (Run (outcome.Failed failure.Memory))))
 
--- of bounds of a type over so many bits, and of the bound of its text, by the arguments for the pickle and for the type
+-- of bounds of a type over so many bits, of tighter ones, and of the bound of its text, by the arguments for the pickle
+-- and for the type
 abbrev pub DueBound : (word name : List ℕ) (bits : ℕ) → (pickle : List ℕ) →
     (lines : List (List ℕ)) → Option End → Type 0
 DueBound word name bits pickle = DueIfAny (λ type. DueRun (BoundsAs pickle type bits)) (bound_type word name pickle)
+
+abbrev pub DueTightBound : (word name : List ℕ) (bits : ℕ) → (pickle : List ℕ) →
+    (lines : List (List ℕ)) → Option End → Type 0
+DueTightBound word name bits pickle =
+    DueIfAny (λ type. DueRun (TightBoundsAs pickle type bits)) (bound_type word name pickle)
 
 abbrev pub DueTextBound : (word name : List ℕ) (bits : ℕ) → Style → Option Mode → (pickle : List ℕ) →
     (lines : List (List ℕ)) → Option End → Type 0
@@ -189,10 +198,12 @@ module _ (gives : Gives) (why : Bool) where
   DueIdentified asked form = DueAmong gives (folder_of asked)
       (λ pickles formats. DueNamed gives (every_format why asked form formats) asked.names)
 
-  -- of a requested mapping over one file, or over many
+  -- of a requested mapping over one file or over many, or of a task with one
   abbrev pub DueMapping : Requested → Over → (pickle : List ℕ) → (lines : List (List ℕ)) → Option End → Type 0
   DueMapping requested (File file) = DueFile requested (string_bytes file)
   DueMapping requested (Files files flush) = DueEach requested files
+  DueMapping requested (Records file list) = DueTask gives requested (task.List list) (string_bytes file)
+  DueMapping requested (Bytes file) = DueTask gives requested task.Copy (string_bytes file)
 
   -- of a request: once its pickle says which type is mapped, or of the file's own format
   abbrev pub DueSubject : Request → Option (List ℕ) → (lines : List (List ℕ)) → Option End → Type 0
@@ -211,6 +222,8 @@ module _ (gives : Gives) (why : Bool) where
   DueJob (job.Request request) form = DueRequest request
   DueJob (job.Bound pickle name bits) form =
       DueOver gives (string_bytes pickle) (DueBound (string_bytes pickle) (string_bytes name) bits)
+  DueJob (job.TightBound pickle name bits) form =
+      DueOver gives (string_bytes pickle) (DueTightBound (string_bytes pickle) (string_bytes name) bits)
   DueJob (job.BoundText pickle name bits mode style) form =
       DueOver gives (string_bytes pickle) (DueTextBound (string_bytes pickle) (string_bytes name) bits style mode)
   DueJob (job.Check pickle) form = DueOver gives (string_bytes pickle) (DueCheckIn why form)

@@ -10,6 +10,8 @@ pub mod Due
 pub mod Installed
 pub mod Formats
 pub mod Spaces
+pub mod Growth
+pub mod Tasks
 pub mod Identified
 pub mod Files
 pub mod Every

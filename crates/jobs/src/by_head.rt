@@ -39,22 +39,22 @@ pub fn choose<'a>(subject: &'a Subject, pickle: &'a [u8]) -> Result<Chosen<'a>, 
             whole: false,
         }),
         Subject::ByHead { part, .. } => match head_type(*part, pickle) {
-            Ok(name) => Ok(with_options(name, pickle)),
+            Ok(name) => Ok(with_options(name, *part, pickle)),
             Err(missing) => Err(missing),
         },
         Subject::Identified => Err(NoType::Unsaid),
     }
 }
 
-// A type with the options of the head of its pickle.
-fn with_options<'a>(name: &'a [u8], pickle: &'a [u8]) -> Chosen<'a>
-    ensures { chosen_type result ≡ with_options pickle.now name.now }
+// A type with the options of the head of its pickle. Inside other bytes a value ends before they do.
+fn with_options<'a>(name: &'a [u8], part: HeadType, pickle: &'a [u8]) -> Chosen<'a>
+    ensures { chosen_type result ≡ with_options pickle.now part name.now }
 {
     let options = head_of(b"", pickle).options;
     Chosen {
         name,
         order: options.order,
-        whole: options.whole,
+        whole: options.whole && part == HeadType::Documented,
     }
 }
 

@@ -158,8 +158,8 @@ fn is_within(most: Option<u64>, text: &[u8]) -> bool
     }
 }
 
-// Adds what the arguments of a mapping with a fault may have wrong, if reasons are requested.
-fn tell_arguments(path: &str, order: Order, pickle: &NamedPickle, why: &mut Why<'_>) {
+/// Adds what the arguments of a mapping with a fault may have wrong, if reasons are requested.
+pub fn tell_arguments(path: &str, order: Order, pickle: &NamedPickle, why: &mut Why<'_>) {
     if !why.asked {
         return;
     }

@@ -2,7 +2,7 @@
 ghost use Rattle.std.specs.Prelude.{◌≡◌, IfNone, IfSome, Ok};
 ghost use Rattle.jobs.specs.Due.{DueOver, Holds};
 ghost use Rattle.jobs.specs.Given.{DueAnswer, IsAskedAbout, IsOverFiles};
-ghost use Rattle.jobs.specs.Jobs.{DueBound, DueTextBound};
+ghost use Rattle.jobs.specs.Jobs.{DueBound, DueTextBound, DueTightBound};
 ghost use Rattle.jobs.specs.declared.ending.Ending.TheVariants.{Run};
 
 use crate::answers::{check_in_json, types_in_json};
@@ -22,6 +22,7 @@ use std::alloc::Global;
 use std::io::Write;
 use text_bounds::run::bound_text_outcome;
 use text_bounds::texts::Texts;
+use tight_bounds::run::tight_outcome;
 
 /// What a job requests of a pickle alone.
 #[derive(Clone, Copy)]
@@ -41,7 +42,12 @@ pub enum Question<'a> {
         name: &'a [u8],
         bits: u64,
     },
-    /// The same bounds, and the most bytes of the printed value.
+    /// The same bounds, and tighter ones.
+    TightBound {
+        name: &'a [u8],
+        bits: u64,
+    },
+    /// The bounds, and the most bytes of the printed value.
     BoundText {
         name: &'a [u8],
         texts: Texts,
@@ -71,6 +77,10 @@ pub fn question_of(asked: &Asked) -> Option<(&str, Question<'_>)>
         Job::Bound { pickle, name, bits } => {
             let name = name.as_bytes();
             Some((pickle, Question::Bound { name, bits: *bits }))
+        }
+        Job::TightBound { pickle, name, bits } => {
+            let name = name.as_bytes();
+            Some((pickle, Question::TightBound { name, bits: *bits }))
         }
         Job::BoundText {
             pickle,
@@ -138,6 +148,9 @@ fn answer<O: Write>(
             end_in_words(alloc, outcome, pickle, name, why)
         }
         Question::Bound { name, bits } => answer_bound(alloc, pickle, word, name, bits, out, why),
+        Question::TightBound { name, bits } => {
+            answer_tight_bound(alloc, pickle, word, name, bits, out, why)
+        }
         Question::BoundText { name, texts } => {
             answer_text_bound(alloc, pickle, word, name, texts, out, why)
         }
@@ -166,7 +179,29 @@ fn answer_bound<O: Write>(
     }
 }
 
-// Prints the same bounds, and the most bytes of the printed value.
+// Prints the same bounds, and tighter ones.
+fn answer_tight_bound<O: Write>(
+    alloc: Global,
+    pickle: &NamedPickle,
+    word: &str,
+    name: &[u8],
+    bits: u64,
+    out: &mut O,
+    why: &mut Why<'_>,
+) -> Ending
+    ensures { Holds (DueTightBound word.now name.now bits pickle.now.bytes.items)
+        (O.contents out.old) (O.contents out.new) (Ok result) }
+{
+    match bound_type(word, name, &pickle.bytes) {
+        Ok(name) => {
+            let outcome = tight_outcome(alloc, &pickle.bytes, name, bits, out);
+            end_in_words(alloc, outcome, pickle, name, why)
+        }
+        Err(missing) => refuse(why, word, missing),
+    }
+}
+
+// Prints the bounds, and the most bytes of the printed value.
 fn answer_text_bound<O: Write>(
     alloc: Global,
     pickle: &NamedPickle,

@@ -18,6 +18,7 @@ use crate::one_file::map_file;
 use crate::opener::{NamedPickle, Opener};
 use crate::pickles::{answer_about, question_of};
 use crate::settings::{Mapping, settle_terms};
+use crate::task::{Task, do_in_file};
 use crate::usage::refuse;
 use crate::why::Why;
 use command_line::request::{Over, Request};
@@ -199,7 +200,7 @@ fn run_settled<P: Opener, O: Write, A: Aside>(
     }
 }
 
-// Maps over the file or the files of a request.
+// Maps over the file, the files or the list of a request.
 fn map_over<P: Opener, O: Write, A: Aside>(
     alloc: Global,
     opener: &P,
@@ -218,6 +219,14 @@ fn map_over<P: Opener, O: Write, A: Aside>(
         Over::Files { names, .. } => {
             let ending = map_each(alloc, opener, mapping, pickle, names, out, aside, why);
             Ok(ending)
+        }
+        Over::Records { file, list } => {
+            let task = Task::List(*list);
+            do_in_file(alloc, opener, mapping, pickle, file, task, out, why)
+        }
+        Over::Bytes(file) => {
+            let task = Task::Copy;
+            do_in_file(alloc, opener, mapping, pickle, file, task, out, why)
         }
     }
 }

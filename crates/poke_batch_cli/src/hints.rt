@@ -38,7 +38,7 @@ pub fn explained_endings(asked: &Asked) -> Explained {
     };
     match (&request.over, &request.form) {
         (
-            Over::File(_),
+            Over::File(_) | Over::Bytes(_) | Over::Records { .. },
             Form::Printed {
                 faults: FaultForm::Text,
                 ..

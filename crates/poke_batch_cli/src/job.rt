@@ -167,7 +167,7 @@ fn file_of(job: &Job) -> Option<&str> {
         Job::Map { file, .. }
         | Job::Request(
             Request {
-                over: Over::File(file),
+                over: Over::File(file) | Over::Bytes(file) | Over::Records { file, .. },
                 ..
             },
         )
@@ -179,7 +179,7 @@ fn file_of(job: &Job) -> Option<&str> {
 // Whether a job shows how far its file was read.
 fn shows_reads(job: &Job) -> bool {
     match job {
-        Job::Request(request) => request.progress && matches!(request.over, Over::File(_)),
+        Job::Request(request) => request.progress && !matches!(request.over, Over::Files { .. }),
         _ => false,
     }
 }
@@ -221,6 +221,7 @@ fn pickle_of(job: &Job) -> Option<&str> {
         Job::Request(request) => request.subject.pickle(),
         Job::Map { pickle, .. }
         | Job::Bound { pickle, .. }
+        | Job::TightBound { pickle, .. }
         | Job::BoundText { pickle, .. }
         | Job::Check { pickle }
         | Job::Types { pickle }

@@ -46,10 +46,14 @@ use usage_reasons::{put_usage, tell_usage};
 const INPUT_TWICE: &str =
     "error: PICKLE and --files0-from can't both be standard input\n\nFor more information, try '--help'.\n";
 
+/// The usage error for bytes on a terminal, which could take them for commands.
+const BYTES_TO_TERMINAL: &str =
+    "error: --mode raw writes bytes, and standard output is a terminal\n\nFor more information, try '--help'.\n";
+
 /// The environment variable that is 1 if reasons are always requested.
 const WHY_VARIABLE: &str = "POKE_BATCH_WHY";
 
-/// The line that a job prints to standard error. The longest has 68 bytes.
+/// The line that a job prints to standard error. The longest has 76 bytes.
 pub type ErrorLine = ArrayVec<u8, 128>;
 
 fn main(rt: HostRuntime) -> ExitCode {
@@ -130,7 +134,19 @@ fn read_job(rt: &HostRuntime) -> Result<Asked, WordFault> {
         let text = String::from_str(rt.alloc(), INPUT_TWICE)?;
         return Err(WordFault::Usage(text));
     }
+    if writes_bytes(&asked.job) && rt.stdout().is_terminal() {
+        let text = String::from_str(rt.alloc(), BYTES_TO_TERMINAL)?;
+        return Err(WordFault::Usage(text));
+    }
     Ok(asked)
+}
+
+// Whether a job writes the bytes of a part as they are.
+fn writes_bytes(job: &Job) -> bool {
+    match job {
+        Job::Request(request) => matches!(request.over, Over::Bytes(_)),
+        _ => false,
+    }
 }
 
 // How many of the files that arguments name have names that aren't UTF-8. Each of them has its own line.
@@ -215,7 +231,7 @@ fn show_help<E: Write>(alloc: Global, err: &mut E) -> Result<(), AllocError> {
 fn maps(rt: &HostRuntime) -> bool {
     match given_words(rt) {
         Ok(words) => match words.first() {
-            Some(first) => matches!(first.as_str(), "map" | "each" | "identify"),
+            Some(first) => matches!(first.as_str(), "map" | "each" | "records" | "identify"),
             None => false,
         },
         Err(_) => false,

@@ -1,4 +1,4 @@
-use Rattle.jobs.specs.Given.{of_bound, of_check, of_parts, of_text, of_types}
+use Rattle.jobs.specs.Given.{of_bound, of_check, of_parts, of_text, of_tight, of_types}
 use Rattle.jobs.proofs.pickles.question_of.Goals as goal
 
 pub returns-in-Check-clause-some : goal.returns-in-Check-clause-some
@@ -13,6 +13,10 @@ returns-in-Parts-clause-some c = rw c.in-Parts.is (of_parts _ c.deref-in-Parts.e
 pub returns-in-Bound-clause-some : goal.returns-in-Bound-clause-some
 returns-in-Bound-clause-some c =
     rw c.in-Bound.is (of_bound _ c.deref-in-Bound.ensures c.as_bytes-name.ensures.value)
+
+pub returns-in-TightBound-clause-some : goal.returns-in-TightBound-clause-some
+returns-in-TightBound-clause-some c =
+    rw c.in-TightBound.is (of_tight _ c.deref-in-TightBound.ensures c.as_bytes-name-in-TightBound.ensures.value)
 
 pub returns-in-BoundText-clause-some : goal.returns-in-BoundText-clause-some
 returns-in-BoundText-clause-some c =

@@ -6,3 +6,9 @@ returns-in-File g c = rw c.in-File.is (search rules)
 
 pub returns-in-Files : goal.returns-in-Files
 returns-in-Files g c = rw c.in-Files.is c.map_each-ending.ensures
+
+pub returns-in-Records : goal.returns-in-Records
+returns-in-Records g c = rw c.in-Records.is (search rules)
+
+pub returns-in-Bytes : goal.returns-in-Bytes
+returns-in-Bytes g c = rw c.in-Bytes.is (search rules)

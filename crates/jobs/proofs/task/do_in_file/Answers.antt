@@ -1,0 +1,60 @@
+use Rattle.std.proofs.KnownBytes.{Keeps-refl}
+use Rattle.std.proofs.lemmas.Result.{err_from_is_err_and}
+use Rattle.std.proofs.Common.{◌≡◌, Ok, subst}
+use Rattle.bit_space.specs.SpaceView.{HasRisen}
+use Rattle.jobs.specs.Aims.{IsAskOf, aim_of}
+use Rattle.jobs.specs.Due.{Holds}
+use Rattle.jobs.specs.Tasks.{DueSeenIn, does_task, no_pages, no_start, not_opened}
+use Rattle.jobs.specs.declared.ending.Ending.TheVariants.{Run}
+use Rattle.jobs.proofs.Holding.{holds_more, no_text}
+use Rattle.jobs.proofs.Mapped.{risen_more}
+use Rattle.jobs.proofs.Sighted.{fails_seen}
+use Rattle.spool.specs.Window.{cut_at, seen}
+use Rattle.jobs.proofs.task.do_in_file.Goals as goal
+
+pub returns-in_err-bytes : goal.returns-in_err-bytes
+returns-in_err-bytes g c =
+    let p = err_from_is_err_and c.from_residual.result c.from_residual.ensures.1 in
+    rw (p.1, p.2) (no_text _ _ _ _ (not_opened c.in_err-bytes.ensures.err) (Keeps-refl _))
+
+pub returns-in_err-space : goal.returns-in_err-space
+returns-in_err-space g c =
+    let p = err_from_is_err_and c.from_residual-in_err-space.result c.from_residual-in_err-space.ensures.1 in
+    rw (p.1, p.2) (no_text _ _ _ _ no_pages (Keeps-refl _))
+
+pub returns-in_default : goal.returns-in_default
+returns-in_default g c =
+    no_text _ _ _ _
+    (no_start {file = g.P.Bytes.Space.view c.in_ok-bytes.bytes} c.in_ok-bytes.ensures.ok
+    (rw c.in_default.is at c.ask_in.ensures.none))
+    (Keeps-refl _)
+
+pub returns : goal.returns
+returns g c =
+    let gives = g.P.Opener.gives c.args.opener.now in
+    let file = g.P.Bytes.Space.view c.in_ok-bytes.bytes in
+    let window = c.in_ok-space.space in
+    let sight = cut_at window.end (g.P.Bytes.Space.view window.whole) in
+    let last = c.do_in_view-outcome.new.space in
+    let after = g.P.Bytes.Space.view last.whole in
+    let asked : IsAskOf (aim_of c.args.mapping) file.len c.in-Some.ask = rw c.in-Some.is at c.ask_in.ensures.some in
+    let same : sight ≡ seen c.args.mapping.window c.in-Some.ask.start file =
+    rw c.in_ok-space.ensures c.from_start-window.ensures in
+    let does = c.do_in_view-outcome.ensures.does in
+    let failing = λ (risen : HasRisen file.failures does.after.failures).
+    fails_seen c.args.mapping.window c.in-Some.ask.start file sight after last.end (gives.is_failing c.args.path.now)
+    (g.met.P.Bytes.Space.whole c.in_ok-bytes.bytes) same
+    (λ end end' keeps more. g.met.P.Opener.failing c.args.opener.now c.args.path.now c.args.mapping.spool
+    c.in_ok-bytes.bytes last.whole end end' c.in_ok-bytes.ensures.ok keeps more)
+    c.do_in_view-outcome.ensures.keeps
+    (risen_more file.failures does.after.failures after.failures risen does.failures) in
+    holds_more
+    (DueSeenIn c.args.pickle.now.bytes.items c.in-Some.ask c.args.mapping.terms.now c.args.task
+    (seen c.args.mapping.window c.in-Some.ask.start file) does.after)
+    _ (Ok (Run c.do_in_view-outcome.result)) _ _
+    (λ lines end due.
+    does_task {file = file} {after = does.after} c.in-Some.ask c.in_ok-bytes.ensures.ok asked failing due)
+    (subst
+    (λ view. Holds (DueSeenIn c.args.pickle.now.bytes.items c.in-Some.ask c.args.mapping.terms.now c.args.task view
+    does.after) (g.O.Write.contents c.args.out.now) (g.O.Write.contents c.do_in_view-outcome.new.out)
+    (Ok (Run c.do_in_view-outcome.result))) same does.holds)

@@ -1,0 +1,15 @@
+-- Limits of steps that grow with the file.
+use Rattle.std.specs.Prelude.{◌*◌, ◌/◌, ◌^◌, ◌-◌, ℕ, Bool, true, false, max, min}
+use Rattle.command_line.specs.declared.ask.Ask.{Ask}
+
+-- the limit of so many bytes: 256 steps for each if that is more, up to the greatest number of 64 bits
+abbrev pub grown : (grows : Bool) → (bytes limit : ℕ) → ℕ
+grown false bytes limit = limit
+grown true bytes limit = max limit (min (2 ^ 64 - 1) (256 * bytes))
+
+abbrev pub grow_limit : (grows : Bool) → (bytes : ℕ) → Ask → Ask
+grow_limit grows bytes ask = record ask { limit = grown grows bytes ask.limit }
+
+-- the bytes of a file of so many from the byte on that a bit is in
+abbrev pub bytes_from : (bytes start : ℕ) → ℕ
+bytes_from bytes start = bytes - start / 8

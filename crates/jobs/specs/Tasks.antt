@@ -1,0 +1,139 @@
+-- What is due of a task with a file: its records, or the bytes of a part.
+use Rattle.std.specs.Prelude.{◌≡◌, ◌<◌, ◌≤◌, ℕ, true, List, [], ◌∷◌, Option, Some, None, Ok, Err}
+use Rattle.bit_space.specs.SpaceView.{HasRisen, SpaceView}
+use Rattle.command_line.specs.Starts.{start_bit}
+use Rattle.command_line.specs.declared.ask.Ask.{Ask}
+use Rattle.command_line.specs.declared.request.RecordList.{RecordList}
+use Rattle.command_line.specs.declared.terms.Terms.{Terms}
+use Rattle.jobs.specs.Aims.{IsAskOf, Requested}
+use Rattle.jobs.specs.Due.{End, Holds}
+use Rattle.jobs.specs.Gives.{Gives}
+use Rattle.jobs.specs.Growth.{bytes_from, grow_limit}
+use Rattle.jobs.specs.declared.ending.Ending.TheVariants.{Run}
+use Rattle.jobs.specs.declared.fault.FileFault.{FileFault}
+use Rattle.jobs.specs.declared.fault.FileFault.TheVariants as fault
+use Rattle.jobs.specs.declared.task.Task.{Task}
+use Rattle.jobs.specs.declared.task.Task.TheVariants as task
+use Rattle.pickle_meaning.specs.Values.{Value}
+use Rattle.poke_batch.specs.Runs.{IsAsked}
+use Rattle.poke_batch.specs.RunsUnder.{HasNoRun}
+use Rattle.poke_batch.specs.TypeRuns.{run_type}
+use Rattle.poke_batch.specs.declared.type_run.TypeRun.{TypeRun}
+use Rattle.raw_parts.specs.Copied.{AreBytes, Breaks}
+use Rattle.raw_parts.specs.Mapped.{HasNoValue, IsMapped}
+use Rattle.raw_parts.specs.Places.{IsDue, LacksBytes, bytes_end, bytes_from as bytes_start}
+use Rattle.records.specs.Written.{EndsList, Lists}
+use Rattle.records.specs.declared.listing.Listing.{Listing}
+use Rattle.records.specs.declared.listing.Progress.{Progress}
+use Rattle.run_parts.specs.Outcomes.{outcome_saying}
+use Rattle.run_parts.specs.declared.outcome.Failure.{Failure}
+use Rattle.run_parts.specs.declared.outcome.Failure.TheVariants as failure
+use Rattle.run_parts.specs.declared.outcome.Outcome.{Outcome}
+use Rattle.run_parts.specs.declared.outcome.Outcome.TheVariants as outcome
+use Rattle.spool.specs.Window.{seen}
+use Rattle.type_parts.specs.CanHave.{can_have_requested}
+
+-- ---- each task, by a run
+
+-- what the list of a request says of its records
+abbrev pub listing_of : RecordList → Listing
+listing_of list = record { omit = list.omit; count = list.count; any_end = list.any_end; flush = list.flush }
+
+-- of the records from a run's start on, from the view of a space before to its view after: the text of each, and how
+-- the list ends
+pub data DueList (pickle : List ℕ) (run : TypeRun) (list : RecordList) (file after : SpaceView) :
+    (lines : List (List ℕ)) → Option End → Type 0 where
+  all_records : {at : Progress} {lines : List (List ℕ)} {ended : Outcome} → Lists run (listing_of list) file at lines
+      → EndsList pickle run (listing_of list) file after at ended
+      → DueList pickle run list file after lines (Some (Ok (Run ended)))
+  first_records : {at : Progress} {lines : List (List ℕ)} → Lists run (listing_of list) file at lines →
+      DueList pickle run list file after lines None
+
+-- Of the bytes of the requested part of a value: all of them; or those before some place, since a read or the output
+-- failed; nothing if there is no such part or no value, or memory didn't suffice.
+pub data DueCopy (pickle : List ℕ) (run : TypeRun) (file after : SpaceView) : (lines : List (List ℕ)) → Option End →
+    Type 0 where
+  copied : {value part : Value} {text : List ℕ} → IsMapped run file value → IsDue run file.len value part
+      → AreBytes file (bytes_start part) (bytes_end part) text
+      → DueCopy pickle run file after (text ∷ []) (Some (Ok (Run outcome.Done)))
+  copied_some : {value part : Value} {text : List ℕ} {place : ℕ} {why : Failure} → IsMapped run file value
+      → IsDue run file.len value part → bytes_start part ≤ place → place < bytes_end part
+      → AreBytes file (bytes_start part) place text → Breaks file after why
+      → DueCopy pickle run file after (text ∷ []) (Some (Ok (Run (outcome.Failed why))))
+  not_copied : {value : Value} {ended : Outcome} → IsMapped run file value → LacksBytes run file.len value ended →
+      DueCopy pickle run file after [] (Some (Ok (Run ended)))
+  no_value : {ended : Outcome} → HasNoValue pickle run file after (outcome_saying ended) →
+      DueCopy pickle run file after [] (Some (Ok (Run ended)))
+  no_memory : DueCopy pickle run file after [] (Some (Ok (Run (outcome.Failed failure.Memory))))
+
+abbrev pub DueOf : (pickle : List ℕ) → TypeRun → Task → (file after : SpaceView) → (lines : List (List ℕ)) →
+    Option End → Type 0
+DueOf pickle run (task.List list) = DueList pickle run list
+DueOf pickle run task.Copy = DueCopy pickle run
+
+-- a run is of a type that a pickle has under the requested name
+abbrev pub IsRunOf : (pickle : List ℕ) → TypeRun → Type 0
+IsRunOf pickle run = IsAsked pickle run.ask.now.name.now (run_type run)
+
+-- a task is done with a space whose view is so afterwards; the view at the run's end has no more failures
+pub record DoesTask (pickle : List ℕ) (run : TypeRun) (task : Task) (space space' : SpaceView)
+    (out out' : Option (List ℕ)) (ended : Outcome) : Type 0 where
+  pub after : SpaceView
+  pub failures : after.failures ≤ space'.failures
+  pub holds : Holds (DueOf pickle run task space after) out out' (Ok (Run ended))
+
+abbrev pub ListsSpace : (pickle : List ℕ) → TypeRun → RecordList → (space space' : SpaceView) →
+    (out out' : Option (List ℕ)) → Outcome → Type 0
+ListsSpace pickle run list = DoesTask pickle run (task.List list)
+
+abbrev pub CopiesSpace : (pickle : List ℕ) → TypeRun → (space space' : SpaceView) → (out out' : Option (List ℕ)) →
+    Outcome → Type 0
+CopiesSpace pickle run = DoesTask pickle run task.Copy
+
+-- ---- by a pickle
+
+-- a run of the requested type of a pickle, of which values can have the requested parts
+pub record IsTaskRun (pickle : List ℕ) (ask : Ask) (terms : Terms) (run : TypeRun) : Type 0 where
+  pub asked : IsRunOf pickle run
+  pub ask_is : run.ask.now ≡ ask
+  pub terms_are : run.terms.now ≡ terms
+  pub can_have : can_have_requested terms (run_type run) ≡ true
+
+-- of a task with a space; nothing if there is no such type, or no value of it can have a requested part
+pub data DueIn (pickle : List ℕ) (ask : Ask) (terms : Terms) (task : Task) (file after : SpaceView) :
+    (lines : List (List ℕ)) → Option End → Type 0 where
+  not_run : {ended : Outcome} → HasNoRun pickle ask.name.now terms ended →
+      DueIn pickle ask terms task file after [] (Some (Ok (Run ended)))
+  run_due : {run : TypeRun} {lines : List (List ℕ)} {end : Option End} → IsTaskRun pickle ask terms run
+      → DueOf pickle run task file after lines end → DueIn pickle ask terms task file after lines end
+
+pub record DoesTaskIn (pickle : List ℕ) (ask : Ask) (terms : Terms) (task : Task) (space space' : SpaceView)
+    (out out' : Option (List ℕ)) (ended : Outcome) : Type 0 where
+  pub after : SpaceView
+  pub failures : after.failures ≤ space'.failures
+  pub holds : Holds (DueIn pickle ask terms task space after) out out' (Ok (Run ended))
+
+-- what the run of a task is given over what is seen of a file: the limit of steps may grow with it
+abbrev pub task_ask : Task → (seen : SpaceView) → Ask → Ask
+task_ask (task.List list) seen ask = grow_limit list.grows (bytes_from seen.len ask.start) ask
+task_ask task.Copy seen ask = ask
+
+abbrev pub DueSeenIn : (pickle : List ℕ) → Ask → Terms → Task → (seen after : SpaceView) →
+    (lines : List (List ℕ)) → Option End → Type 0
+DueSeenIn pickle ask terms task seen after = DueIn pickle (task_ask task seen ask) terms task seen after
+
+-- of a task with the file at a path: nothing if it would start before the file's first byte, or if the file isn't
+-- opened, or memory for its pages lacks. A read fails only of a file of which one may fail
+pub data DueTask (gives : Gives) (requested : Requested) (task : Task) (path pickle : List ℕ) :
+    (lines : List (List ℕ)) → Option End → Type 0 where
+  no_start : {file : SpaceView} → gives.is_file path requested.spool file
+      → start_bit requested.aim.start file.len ≡ None
+      → DueTask gives requested task path pickle [] (Some (Ok (Run outcome.Offset)))
+  does_task : {file after : SpaceView} {lines : List (List ℕ)} {end : Option End} (ask : Ask)
+      → gives.is_file path requested.spool file → IsAskOf requested.aim file.len ask
+      → (HasRisen file.failures after.failures → gives.is_failing path)
+      → DueSeenIn pickle ask requested.terms task (seen requested.window ask.start file) after lines end
+      → DueTask gives requested task path pickle lines end
+  not_opened : {fault : FileFault} → gives.is_unopened path requested.spool fault →
+      DueTask gives requested task path pickle [] (Some (Err fault))
+  no_pages : DueTask gives requested task path pickle [] (Some (Err fault.Memory))

@@ -1,0 +1,163 @@
+//! What is done with a file beside printing a value of it: its records are listed, or the bytes of a part are written.
+ghost use Rattle.std.specs.Prelude.{◌≡◌};
+ghost use Rattle.bit_space.specs.SpaceView.{Keeps};
+ghost use Rattle.jobs.specs.Aims.{of_mapping};
+ghost use Rattle.jobs.specs.Due.{Holds};
+ghost use Rattle.jobs.specs.Tasks.{DoesTask, DoesTaskIn, DueTask, IsRunOf, task_ask};
+
+use crate::ending::Ending;
+use crate::fault::FileFault;
+use crate::growth::{bytes_from, grow_limit};
+use crate::one_file::{tell_arguments, tell_start};
+use crate::opener::{NamedPickle, Opener};
+use crate::part_copy::copy_part;
+use crate::record_list::list_run;
+use crate::settings::Mapping;
+use crate::why::{Why, explain, explain_parts};
+use bit_space::{Paged, Space};
+use command_line::request::RecordList;
+use poke_batch::ask::Ask;
+use poke_batch::outcome::Outcome;
+use poke_batch::resolve::{refuse_parts, resolve};
+use poke_batch::status::Status;
+use poke_batch::terms::Terms;
+use poke_batch::type_run::TypeRun;
+use spool::Window;
+use std::alloc::Global;
+use std::io::Write;
+
+/// What is done with a file.
+#[derive(Clone, Copy)]
+pub enum Task {
+    /// The records of a list in it are written.
+    List(RecordList),
+    /// The bytes that the requested part of a value takes are written.
+    Copy,
+}
+
+impl Task {
+    /// What its run is given over a space. The limit of steps may grow with the file.
+    fn ask_in<'a, S: Space>(self, ask: Ask<'a>, space: &S) -> Ask<'a>
+        ensures { result ≡ task_ask self (S.view space.now) ask.entry }
+    {
+        let bytes = space.len();
+        match self {
+            Task::List(list) => grow_limit(ask, list.grows, bytes_from(bytes, ask.start)),
+            Task::Copy => ask,
+        }
+    }
+}
+
+/// Does a task with the file at a path, by a type of a pickle that was read.
+#[inline(never)]
+pub fn do_in_file<P: Opener, O: Write>(
+    alloc: Global,
+    opener: &P,
+    mapping: Mapping<'_>,
+    pickle: &NamedPickle,
+    path: &str,
+    task: Task,
+    out: &mut O,
+    why: &mut Why<'_>,
+) -> Result<Ending, FileFault>
+    ensures { let due = DueTask (P.gives opener.now) (of_mapping mapping.entry) task path.now in
+        Holds (due pickle.now.bytes.items) (O.contents out.old) (O.contents out.new) result }
+{
+    let bytes = opener.open(path, mapping.spool, mapping.progress)?;
+    let Some(ask) = mapping.ask_in(&bytes) else {
+        tell_start(alloc, why, mapping.start, bytes.len());
+        return Ok(Ending::Run(Outcome::Offset));
+    };
+    let window = Window::from_start(bytes, ask.start, mapping.window);
+    let mut space = Paged::new(alloc, window)?;
+    let outcome = do_in_view(
+        alloc,
+        pickle,
+        &ask,
+        mapping.terms,
+        task,
+        &mut space,
+        out,
+        why,
+    );
+    if outcome.status() == Status::Fault {
+        tell_arguments(path, ask.order, pickle, why);
+    }
+    Ok(Ending::Run(outcome))
+}
+
+// Does a task with a space, by a type of a pickle. The limit of steps may grow with the space.
+fn do_in_view<S: Space, O: Write>(
+    alloc: Global,
+    pickle: &NamedPickle,
+    ask: &Ask<'_>,
+    terms: &Terms,
+    task: Task,
+    space: &mut S,
+    out: &mut O,
+    why: &mut Why<'_>,
+) -> Outcome
+    ensures does { let ask = task_ask task (S.view space.old) ask.now in
+        DoesTaskIn pickle.now.bytes.items ask terms.now task (S.view space.old) (S.view space.new)
+        (O.contents out.old) (O.contents out.new) result }
+    ensures keeps { Keeps (S.view space.old) (S.view space.new) }
+{
+    let ask = &task.ask_in(*ask, space);
+    do_in_space(alloc, pickle, ask, terms, task, space, out, why)
+}
+
+// Does a task with a space, by a type of a pickle.
+fn do_in_space<S: Space, O: Write>(
+    alloc: Global,
+    pickle: &NamedPickle,
+    ask: &Ask<'_>,
+    terms: &Terms,
+    task: Task,
+    space: &mut S,
+    out: &mut O,
+    why: &mut Why<'_>,
+) -> Outcome
+    ensures does { DoesTaskIn pickle.now.bytes.items ask.now terms.now task (S.view space.old) (S.view space.new)
+        (O.contents out.old) (O.contents out.new) result }
+    ensures keeps { Keeps (S.view space.old) (S.view space.new) }
+{
+    let (table, id) = match resolve(alloc, &pickle.bytes, ask.name) {
+        Ok(found) => found,
+        Err(outcome) => {
+            explain(alloc, why, outcome, pickle, ask.name);
+            return outcome;
+        }
+    };
+    if let Some(outcome) = refuse_parts(alloc, &table, id, terms) {
+        explain_parts(alloc, why, outcome, &table, id, terms);
+        return outcome;
+    }
+    let run = TypeRun {
+        alloc,
+        table: &table,
+        id,
+        ask,
+        terms,
+    };
+    do_run(&run, pickle, task, space, out, why)
+}
+
+// Does a task with a space, by a run of a type.
+fn do_run<S: Space, O: Write>(
+    run: &TypeRun<'_>,
+    pickle: &NamedPickle,
+    task: Task,
+    space: &mut S,
+    out: &mut O,
+    why: &mut Why<'_>,
+) -> Outcome
+    ensures does { IsRunOf pickle.now.bytes.items run.now →
+        DoesTask pickle.now.bytes.items run.now task (S.view space.old) (S.view space.new)
+        (O.contents out.old) (O.contents out.new) result }
+    ensures keeps { Keeps (S.view space.old) (S.view space.new) }
+{
+    match task {
+        Task::List(list) => list_run(run, pickle, list, space, out, why),
+        Task::Copy => copy_part(run, pickle, space, out, why),
+    }
+}
