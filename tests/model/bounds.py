@@ -1,4 +1,6 @@
 """The bounds of a type on the steps and slots of its mappings, from the table in docs/LANGUAGE.md."""
+from dataclasses import dataclass
+
 from meaning import Array, Integral, Named, Scalar, String, Struct, Term, Union
 
 
@@ -45,5 +47,110 @@ def bounds_of(of, bits):
 
 
 def bounds_text(of, bits):
-    told = (it if it < 1 << 128 else "more than 2^128-1" for it in bounds_of(of, bits))
-    return "".join(f"{name} {it}\n" for name, it in zip(("steps", "slots"), told))
+    told = (it if it < KNOWN else "more than 2^128-1" for it in (*bounds_of(of, bits), *tight_bounds_of(of, bits)))
+    return "".join(f"{name} {it}\n" for name, it in zip(("steps", "slots", "tight steps", "tight slots"), told))
+
+
+# ---- the tighter bounds, in grains: a step has 2^32 of them, and a byte of a string takes one step
+
+GRAIN, OCTET, KNOWN = 1 << 32, 1 << 29, 1 << 128
+
+
+@dataclass
+class Grains:
+    """What a mapping of a type takes. The bits of a value at least, and those that are surely of no elements; the grains of a
+    value, and those for each of its other bits; the grains of an attempt, and those of one that a union drops, if there are any."""
+
+    width: int
+    own: int
+    fixed: int
+    rate: int
+    attempt: int
+    missed: int
+
+
+def divided(number, by):
+    return number // by if number < KNOWN else number
+
+
+def before(taken, missed):
+    return taken + missed if missed else 0
+
+
+def array_grains(of, bits):
+    each, weight = grains_of(of.element, bits), nodes_of(of.bound)
+    count = constant_count(of)
+    repeat, entry, run = count or 0, GRAIN + each.fixed, each.rate * bits
+    rate = each.rate
+    if count is None:
+        rate += divided(entry if entry >= KNOWN else max(0, entry - each.rate * each.own), max(1, each.width)) + 1
+    first = GRAIN * (1 + weight) + repeat * entry
+    tried = GRAIN + each.attempt
+    fixed, attempt = (first, first + tried) if of.bound else (first + tried + run, first + tried + run)
+    missed = before(first + GRAIN + rate * bits, each.missed if of.bound else 0)
+    return Grains(repeat * each.width, repeat * each.own, fixed, rate, attempt, missed)
+
+
+def constant_count(of):
+    """The number of elements, if the bound is a number."""
+    return of.bound.of[0].value if of.bound and of.bound.form == "literal" else None
+
+
+def struct_grains(of, bits):
+    inner = [(it, grains_of(it.type, bits)) for it in of.fields]
+    there = [it for field, it in inner if not field.condition]
+    is_over = of.pinned or any(field.label for field, _ in inner)
+    rates, widths = [it.rate for _, it in inner], [it.width for it in there]
+    fixed, attempt, missed = 0, 0, 0
+    for field, it in reversed(inner):
+        first, whole = GRAIN * (1 + sum(map(nodes_of, (field.condition, field.label, field.constraint)))), it.fixed + it.rate * bits
+        own_miss = max(it.missed, whole if field.constraint else 0)
+        missed = max(before(first, own_miss), before(first + whole, missed))
+        attempt = first + max(it.attempt, it.fixed + attempt)
+        fixed += first + it.fixed
+    return Grains(
+        max(widths, default=0) if is_over else sum(widths), 0 if is_over else sum(it.own for it in there), GRAIN + fixed,
+        sum(rates) if is_over else max(rates, default=0), GRAIN + attempt, before(GRAIN, missed))
+
+
+def integral_grains(of, bits):
+    fixed, missed = 0, 0
+    for part in reversed(of.fields):
+        first, it = GRAIN * (1 + nodes_of(part.constraint)), grains_of(part.type, bits)
+        own_miss = max(it.missed, it.fixed if part.constraint else 0)
+        missed = max(before(first, own_miss), before(first + it.fixed, missed))
+        fixed += first + it.fixed
+    return Grains(of.width, of.width, GRAIN + fixed, 0, GRAIN + fixed, before(GRAIN, missed))
+
+
+def union_grains(of, bits):
+    inner = [(it, grains_of(it.type, bits)) for it in of.alternatives]
+    fixed, attempt, missed = 0, 0, 1
+    for part, it in reversed(inner):
+        first = GRAIN * (1 + nodes_of(part.constraint))
+        own_miss = max(it.missed, it.fixed + it.rate * bits if part.constraint else 0)
+        is_last = part is of.alternatives[-1]
+        fixed = first + max(it.fixed, 0 if is_last else before(fixed, own_miss))
+        attempt = first + max(it.attempt, before(attempt, own_miss))
+        missed = before(first, before(missed, own_miss) if missed else 0)
+    least = [min(it.width for _, it in inner), min(it.own for _, it in inner)]
+    return Grains(*least, GRAIN + fixed, max(it.rate for _, it in inner), GRAIN + attempt, before(GRAIN, missed))
+
+
+def grains_of(of, bits):
+    if isinstance(of, Named):
+        return grains_of(of.type, bits)
+    if isinstance(of, Scalar):
+        return Grains(of.width, of.width, GRAIN, 0, GRAIN, 0)
+    if isinstance(of, String):
+        return Grains(8, 0, GRAIN, OCTET, 2 * GRAIN, 0)
+    by_kind = {Array: array_grains, Struct: struct_grains, Integral: integral_grains, Union: union_grains}
+    return by_kind[type(of)](of, bits)
+
+
+def tight_bounds_of(of, bits):
+    """The tighter bounds on steps and slots."""
+    steps, slots = bounds_of(of, bits)
+    grains = grains_of(of, bits)
+    tight = min(steps, divided(grains.attempt + grains.rate * bits, GRAIN))
+    return tight, min(slots, tight)

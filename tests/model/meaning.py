@@ -469,3 +469,27 @@ def mapped(of, order, start, file):
         return True, text_of(mapping.value(of, order, [], start)), mapping.counts.steps
     except Fault as fault:
         return False, f"fault {fault.kind} at {fault.at}#b", mapping.counts.steps
+
+
+def listed(of, order, start, file, limit, omit, most, any_end):
+    """The texts of the records of a type from a bit on, the line of the list's end, where it is then, and how many there were."""
+    bits = "".join(f"{byte:08b}" for byte in file)
+    texts, place, count, left = [], start, 0, limit
+    if start > len(bits):
+        return texts, f"fault End at {start}#b", place, count
+    while (most is None or count < omit + most) and place < len(bits):
+        mapping, fault = Mapping(bits), None
+        try:
+            value = mapping.value(of, order, [], place)
+        except Fault as it:
+            fault = it
+        if mapping.counts.steps + 1 > left:
+            return texts, f"fault Limit at {place}#b", place, count
+        if fault and fault.kind in ("Constraint", "End"):
+            return texts, "" if any_end else f"fault Left at {place}#b", place, count
+        if fault or value.end == place:
+            return texts, f"fault {fault.kind} at {fault.at}#b" if fault else f"fault NoBits at {place}#b", place, count
+        if count >= omit:
+            texts.append(text_of(value))
+        place, count, left = value.end, count + 1, left - mapping.counts.steps - 1
+    return texts, "", place, count

@@ -1,8 +1,7 @@
-//! Runs one public call of the libraries after so many requests for memory, and prints how it ended.
+//! Runs one public call of the libraries, and prints how it ended.
 //!
-//! `.ci/memory` runs it, and has one request of each run refused. Standard input has the name of a call and the number
-//! of requests to make before it. The memory of these requests is freed at once. One build therefore serves for each
-//! place of the refused request. Without input each call runs once, with memory.
+//! `.ci/memory` runs it, and has one request for memory of each run refused. Standard input has the name of a call.
+//! Without input each call runs once, with memory.
 #![tactic(auto)]
 
 mod call_outcome;
@@ -24,19 +23,18 @@ fn main(rt: HostRuntime) -> ExitCode {
     let mut input = [0; 64];
     match rt.reader().read(&mut input) {
         Ok(0) => tell_each(&rt),
-        Ok(count) => match read_words(input.get(..count).unwrap_or(b"")) {
-            Some((name, requests)) => tell(&rt, name, requests),
+        Ok(count) => match read_name(input.get(..count).unwrap_or(b"")) {
+            Some(name) => tell(&rt, name),
             None => ExitCode::from(2),
         },
         Err(_) => ExitCode::from(2),
     }
 }
 
-// A name, a blank and a number, with or without the end of the line.
-fn read_words(line: &[u8]) -> Option<(&[u8], u32)> {
+// The name in a line, with or without the line's end.
+fn read_name(line: &[u8]) -> Option<&[u8]> {
     let text = str::from_utf8(line).ok()?;
-    let (name, requests) = text.trim_end().split_once(' ')?;
-    Some((name.as_bytes(), requests.parse().ok()?))
+    Some(text.trim_end().as_bytes())
 }
 
 fn tell_each(rt: &HostRuntime) -> ExitCode {
@@ -54,8 +52,8 @@ fn tell_each(rt: &HostRuntime) -> ExitCode {
     ExitCode::from(0)
 }
 
-fn tell(rt: &HostRuntime, name: &[u8], requests: u32) -> ExitCode {
-    match put(&mut rt.stdout(), run_after(rt, name, requests).word()) {
+fn tell(rt: &HostRuntime, name: &[u8]) -> ExitCode {
+    match put(&mut rt.stdout(), run_and_request(rt, name).word()) {
         Ok(()) => ExitCode::from(0),
         Err(_) => ExitCode::from(3),
     }
@@ -63,12 +61,7 @@ fn tell(rt: &HostRuntime, name: &[u8], requests: u32) -> ExitCode {
 
 // Makes one request after the call, to see whether the refused request is still to come. If it is this one, the call
 // and its preparation made exactly the requests before it.
-fn run_after(rt: &HostRuntime, name: &[u8], requests: u32) -> CallOutcome {
-    for _ in 0..requests {
-        if is_refused(rt.alloc()) {
-            return CallOutcome::Early;
-        }
-    }
+fn run_and_request(rt: &HostRuntime, name: &[u8]) -> CallOutcome {
     let ended = run_call(rt, name);
     match (ended, is_refused(rt.alloc())) {
         (ended, false) => ended,

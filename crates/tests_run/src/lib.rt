@@ -12,11 +12,16 @@ mod dumps;
 #[cfg(test)]
 mod examples;
 #[cfg(test)]
+#[cfg(test)]
 mod modes;
 #[cfg(test)]
 mod offset_words;
 #[cfg(test)]
+mod part_bytes;
+#[cfg(test)]
 mod pickles;
+#[cfg(test)]
+mod record_lists;
 #[cfg(test)]
 mod twice;
 #[cfg(test)]

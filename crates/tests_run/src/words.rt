@@ -23,6 +23,7 @@ bound p --text T --mode tree 25 ==> BoundText { pickle: "p", name: "T", bits: 25
 bound --text --numbers hex --chars text p T 25 ==> BoundText { pickle: "p", name: "T", bits: 25, mode: None, style: Style { numbers: Hexadecimal, chars: Text, elements: None } }
 bound --text --elements 3 p T 25 ==> BoundText { pickle: "p", name: "T", bits: 25, mode: None, style: Style { numbers: Decimal, chars: Numbers, elements: Some(3) } }
 bound --text --elements all p T 25 ==> BoundText { pickle: "p", name: "T", bits: 25, mode: None, style: Style { numbers: Decimal, chars: Numbers, elements: None } }
+bound --tight p T 25 ==> TightBound { pickle: "p", name: "T", bits: 25 }
 dump f ==> Dump { from: 0, size: 128, ruler: true, file: "f" }
 dump - ==> Dump { from: 0, size: 128, ruler: true, file: "-" }
 dump --from 2#4 --size=16#b --no-ruler f ==> Dump { from: 1, size: 2, ruler: false, file: "f" }
@@ -80,6 +81,11 @@ map --byte -512 p T f ==> Request(Request { start: BytesFromEnd(512), window: No
 map --byte -0x200 p T f ==> Request(Request { start: BytesFromEnd(512), window: None, order: None, limit: 1000000000, spool: None, terms: Terms { whole: false, most_output: None, part: None, most_slots: None, style: Style { numbers: Decimal, chars: Numbers, elements: None }, look: None, selection: None }, form: Printed { mode: Flat, faults: Text }, progress: false, subject: Named { pickle: "p", name: "T" }, over: File("f") })
 map --byte -0 p T f ==> Request(Request { start: BytesFromEnd(0), window: None, order: None, limit: 1000000000, spool: None, terms: Terms { whole: false, most_output: None, part: None, most_slots: None, style: Style { numbers: Decimal, chars: Numbers, elements: None }, look: None, selection: None }, form: Printed { mode: Flat, faults: Text }, progress: false, subject: Named { pickle: "p", name: "T" }, over: File("f") })
 each --flush --byte -1 p T f ==> Request(Request { start: BytesFromEnd(1), window: None, order: None, limit: 1000000000, spool: None, terms: Terms { whole: false, most_output: None, part: None, most_slots: None, style: Style { numbers: Decimal, chars: Numbers, elements: None }, look: None, selection: None }, form: Printed { mode: Flat, faults: Text }, progress: false, subject: Named { pickle: "p", name: "T" }, over: Files { names: Words(["f"]), flush: true } })
+records p T f ==> Request(Request { start: Bit(0), window: None, order: None, limit: 1000000000, spool: None, terms: Terms { whole: false, most_output: None, part: None, most_slots: None, style: Style { numbers: Decimal, chars: Numbers, elements: None }, look: None, selection: None }, form: Printed { mode: Flat, faults: Text }, progress: false, subject: Named { pickle: "p", name: "T" }, over: Records { file: "f", list: RecordList { omit: 0, count: None, any_end: false, flush: false, report_end: false, grows: true } } })
+records --omit 2 --count 0 --any-end --flush --report-end --byte -1 p T f ==> Request(Request { start: BytesFromEnd(1), window: None, order: None, limit: 1000000000, spool: None, terms: Terms { whole: false, most_output: None, part: None, most_slots: None, style: Style { numbers: Decimal, chars: Numbers, elements: None }, look: None, selection: None }, form: Printed { mode: Flat, faults: Text }, progress: false, subject: Named { pickle: "p", name: "T" }, over: Records { file: "f", list: RecordList { omit: 2, count: Some(0), any_end: true, flush: true, report_end: true, grows: true } } })
+records --mode lines +p T f ==> Request(Request { start: Bit(0), window: None, order: None, limit: 1000000000, spool: None, terms: Terms { whole: false, most_output: None, part: None, most_slots: None, style: Style { numbers: Decimal, chars: Numbers, elements: None }, look: None, selection: None }, form: Printed { mode: Lines, faults: Text }, progress: false, subject: Named { pickle: "+p", name: "T" }, over: Records { file: "f", list: RecordList { omit: 0, count: None, any_end: false, flush: false, report_end: false, grows: true } } })
+records --limit 7 p T f ==> Request(Request { start: Bit(0), window: None, order: None, limit: 7, spool: None, terms: Terms { whole: false, most_output: None, part: None, most_slots: None, style: Style { numbers: Decimal, chars: Numbers, elements: None }, look: None, selection: None }, form: Printed { mode: Flat, faults: Text }, progress: false, subject: Named { pickle: "p", name: "T" }, over: Records { file: "f", list: RecordList { omit: 0, count: None, any_end: false, flush: false, report_end: false, grows: false } } })
+map --mode raw p T f ==> Request(Request { start: Bit(0), window: None, order: None, limit: 1000000000, spool: None, terms: Terms { whole: false, most_output: None, part: None, most_slots: None, style: Style { numbers: Decimal, chars: Numbers, elements: None }, look: None, selection: None }, form: Printed { mode: Flat, faults: Text }, progress: false, subject: Named { pickle: "p", name: "T" }, over: Bytes("f") })
 map --faults json p T f ==> Request(Request { start: Bit(0), window: None, order: None, limit: 1000000000, spool: None, terms: Terms { whole: false, most_output: None, part: None, most_slots: None, style: Style { numbers: Decimal, chars: Numbers, elements: None }, look: None, selection: None }, form: Printed { mode: Flat, faults: Json }, progress: false, subject: Named { pickle: "p", name: "T" }, over: File("f") })
 each --faults json p T f ==> Request(Request { start: Bit(0), window: None, order: None, limit: 1000000000, spool: None, terms: Terms { whole: false, most_output: None, part: None, most_slots: None, style: Style { numbers: Decimal, chars: Numbers, elements: None }, look: None, selection: None }, form: Printed { mode: Flat, faults: Json }, progress: false, subject: Named { pickle: "p", name: "T" }, over: Files { names: Words(["f"]), flush: false } })
 show p T f ==> Request(Request { start: Bit(0), window: None, order: None, limit: 1000000000, spool: None, terms: Terms { whole: false, most_output: None, part: None, most_slots: None, style: Style { numbers: Decimal, chars: Text, elements: Some(16) }, look: None, selection: None }, form: Shown { color: Auto, depth: Some(6), numbers: None, beside: Beside { sizes: false, bytes: false } }, progress: false, subject: Named { pickle: "p", name: "T" }, over: File("f") })
@@ -164,6 +170,7 @@ map --byte "" p T f ==> refused offset
 map --byte - p T f ==> refused offset
 map --byte 2305843009213693952 p T f ==> refused offset
 each --byte -2305843009213693952 p T f ==> refused offset
+records --byte 2305843009213693952 p T f ==> refused offset
 dump -s 1#B f ==> refused offset
 map --length 1#B p T f ==> refused offset
 map --length -1 p T f ==> usage
@@ -172,6 +179,12 @@ show --length 2305843009213693952 +p f ==> refused offset
 dump -n -1 f ==> usage
 dump -s 0 --from 0#B f ==> usage
 dump -n 1 --size 1#B f ==> usage
+bound --tight --text p T 25 ==> usage
+records --mode raw p T f ==> usage
+map --mode raw --absent empty --get .a p T f ==> usage
+map --mode raw --get .a --get .b p T f ==> usage
+map --mode raw --get .* p T f ==> usage
+map --mode raw --rows . --get .a p T f ==> usage
 map --at 0#b --byte 0 p T f ==> usage
 map --limit 18446744073709551616 p T f ==> usage
 map --limit ++5 p T f ==> usage
@@ -211,6 +224,15 @@ types --parts T --depth two p ==> usage
 types --parts T --parts U p ==> usage
 types --parts ==> usage
 each --get .a[*] p T f ==> usage
+records p T ==> usage
+records +p f ==> usage
+records +p - f ==> usage
+records p T f g ==> usage
+records --whole p T f ==> usage
+records --count x p T f ==> usage
+records --omit -1 p T f ==> usage
+records --at 1#B --byte 1 p T f ==> usage
+records --inside +p T f ==> usage
 show --rows [*] --get .b p T f ==> usage
 show --numbers x p T f ==> usage
 map --at 1#b --at 1#b p T f ==> usage
@@ -316,7 +338,7 @@ chec p ==> usage
 /// Arguments that request help, and parts of its text.
 const HELP: &str = "\
     --help ==> Exit status: & [default: 1000000000] & Example:\n\
-    -h ==> Usage: & map & dump & --files0-from\n\
+    -h ==> Usage: & map & dump & +NAME\n\
     help --help ==> Exit status: & [default: 1000000000] & Example:\n\
     help bound -h ==> Exit status: & BITS & Example:\n\
     identify --help ==> Usage: poke_batch identify & --all & --in <FOLDER> & Exit status: & Examples:\n\
