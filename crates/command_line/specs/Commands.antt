@@ -5,7 +5,7 @@ use Rattle.std.specs.Prelude.{◌≡◌, true, false, Bool, ℕ, List, [], ◌�
 use Rattle.std.specs.List.{list_any}
 use Rattle.std.specs.Str.{bytes_eq}
 use Rattle.clap.specs.Walk.{Rule, Text, rule_of, texts}
-use Rattle.clap.specs.Simple.{App, app_of, new_rule, new_shape, with_rule}
+use Rattle.clap.specs.Simple.{App, app_of, new_rule, new_shape, with_rule, with_subcommand}
 use Rattle.clap.specs.declared.builder.ArgAction.TheVariants.{Append, SetTrue}
 use Rattle.clap.specs.declared.builder.ValueParser.TheVariants.{Names, Unsigned}
 use Rattle.clap.specs.declared.Arg.{Arg}
@@ -86,12 +86,16 @@ printing = codes "map" ∷ codes "each" ∷ codes "records" ∷ []
 abbrev pub placing : List Text
 placing = codes "map" ∷ codes "show" ∷ codes "each" ∷ codes "records" ∷ []
 
+-- those and the one that tries it at many places
+abbrev pub trying : List Text
+trying = codes "map" ∷ codes "show" ∷ codes "each" ∷ codes "records" ∷ codes "find" ∷ []
+
 -- the commands that read files by types, those of them whose lines are for programs, and those over many files
 abbrev pub reading : List Text
-reading = codes "map" ∷ codes "show" ∷ codes "each" ∷ codes "records" ∷ codes "identify" ∷ []
+reading = codes "map" ∷ codes "show" ∷ codes "each" ∷ codes "records" ∷ codes "find" ∷ codes "identify" ∷ []
 
 abbrev pub reporting : List Text
-reporting = codes "map" ∷ codes "each" ∷ codes "records" ∷ codes "identify" ∷ []
+reporting = codes "map" ∷ codes "each" ∷ codes "records" ∷ codes "find" ∷ codes "identify" ∷ []
 
 abbrev pub over_many : List Text
 over_many = codes "each" ∷ codes "identify" ∷ []
@@ -120,25 +124,33 @@ abbrev pub mapping_options : List Row
 mapping_options =
     defaulted (option placing (codes "at") (codes "OFFSET")) (codes "0#b")
     ∷ option placing (codes "byte") (codes "N")
-    ∷ option placing (codes "length") (codes "BYTES")
+    ∷ defaulted (option (only (codes "find")) (codes "at") (codes "OFFSET")) (codes "0#b")
+    ∷ option (only (codes "find")) (codes "byte") (codes "N")
+    ∷ option trying (codes "length") (codes "BYTES")
     ∷ flag mapping (codes "inside")
-    ∷ choice placing (codes "endian") (codes "ORDER") (codes "big" ∷ codes "little" ∷ [])
+    ∷ choice trying (codes "endian") (codes "ORDER") (codes "big" ∷ codes "little" ∷ [])
     ∷ defaulted (number mapping (codes "limit") (codes "N")) (codes "1000000000")
     ∷ number (only (codes "records")) (codes "limit") (codes "N")
     ∷ flag mapping (codes "whole")
     ∷ number mapping (codes "max-output") (codes "N")
-    ∷ number placing (codes "slots") (codes "N")
+    ∷ number trying (codes "slots") (codes "N")
     ∷ repeated (option (codes "map" ∷ codes "show" ∷ []) (codes "get") (codes "PATH"))
     ∷ repeated (option (codes "each" ∷ codes "records" ∷ []) (codes "get") (codes "PATH"))
+    ∷ repeated (option (only (codes "find")) (codes "get") (codes "PATH"))
     ∷ number reading (codes "spool") (codes "BYTES")
     ∷ flag reading (codes "progress")
     ∷ option (only (codes "map")) (codes "rows") (codes "PATTERN")
     ∷ flag (only (codes "map")) (codes "header")
-    ∷ defaulted (choice placing (codes "absent") (codes "WHAT") (codes "fault" ∷ codes "empty" ∷ [])) (codes "fault")
+    ∷ defaulted (choice trying (codes "absent") (codes "WHAT") (codes "fault" ∷ codes "empty" ∷ [])) (codes "fault")
     ∷ number (only (codes "records")) (codes "count") (codes "N")
     ∷ defaulted (number (only (codes "records")) (codes "omit") (codes "N")) (codes "0")
     ∷ flag (only (codes "records")) (codes "any-end")
     ∷ flag (only (codes "records")) (codes "report-end")
+    ∷ defaulted (option (only (codes "find")) (codes "step") (codes "OFFSET")) (codes "1#B")
+    ∷ flag (only (codes "find")) (codes "apart")
+    ∷ number (only (codes "find")) (codes "count") (codes "N")
+    ∷ defaulted (number (only (codes "find")) (codes "attempt-limit") (codes "N")) (codes "1000000")
+    ∷ number (only (codes "find")) (codes "limit") (codes "N")
     ∷ []
 
 -- those of formats of files
@@ -157,17 +169,19 @@ style_options =
     ∷ flag (only (codes "bound")) (codes "tight")
     ∷ defaulted (choice (only (codes "map")) (codes "mode") (codes "MODE") map_modes) (codes "flat")
     ∷ defaulted (choice (only (codes "records")) (codes "mode") (codes "MODE") modes) (codes "flat")
+    ∷ defaulted (choice (only (codes "find")) (codes "mode") (codes "MODE") (codes "flat" ∷ codes "json" ∷ []))
+    (codes "flat")
     ∷ defaulted (choice (only (codes "each")) (codes "mode") (codes "MODE") (codes "flat" ∷ codes "json" ∷ []))
     (codes "flat")
     ∷ choice (only (codes "bound")) (codes "mode") (codes "MODE") modes
     ∷ defaulted (choice (codes "check" ∷ codes "types" ∷ codes "formats" ∷ []) (codes "mode") (codes "MODE") forms)
     (codes "text")
     ∷ defaulted (choice (only (codes "identify")) (codes "mode") (codes "MODE") forms) (codes "text")
-    ∷ choice placing (codes "numbers") (codes "FORM") numbers
+    ∷ choice trying (codes "numbers") (codes "FORM") numbers
     ∷ choice (only (codes "bound")) (codes "numbers") (codes "FORM") numbers
-    ∷ choice placing (codes "chars") (codes "FORM") chars
+    ∷ choice trying (codes "chars") (codes "FORM") chars
     ∷ choice (only (codes "bound")) (codes "chars") (codes "FORM") chars
-    ∷ option placing (codes "elements") (codes "N")
+    ∷ option trying (codes "elements") (codes "N")
     ∷ option (only (codes "bound")) (codes "elements") (codes "N")
     ∷ defaulted (choice reporting (codes "faults") (codes "FORM") forms) (codes "text")
     ∷ defaulted (option (only (codes "show")) (codes "depth") (codes "N")) (codes "6")
@@ -178,7 +192,7 @@ style_options =
     ∷ defaulted (choice (only (codes "show")) (codes "color") (codes "WHEN")
     (codes "auto" ∷ codes "always" ∷ codes "never" ∷ [])) (codes "auto")
     ∷ flag printing (codes "why")
-    ∷ flag (codes "bound" ∷ codes "types" ∷ []) (codes "why")
+    ∷ flag (codes "find" ∷ codes "bound" ∷ codes "types" ∷ []) (codes "why")
     ∷ flag (only (codes "check")) (codes "why")
     ∷ flag (only (codes "identify")) (codes "why")
     ∷ []
@@ -188,6 +202,7 @@ abbrev pub other_options : List Row
 other_options =
     flag over_many (codes "flush")
     ∷ flag (only (codes "records")) (codes "flush")
+    ∷ flag (only (codes "find")) (codes "flush")
     ∷ option over_many (codes "files0-from") (codes "PATH")
     ∷ defaulted (option (only (codes "dump")) (codes "from") (codes "OFFSET")) (codes "0#B")
     ∷ defaulted (option (only (codes "dump")) (codes "size") (codes "OFFSET")) (codes "128#B")
@@ -201,9 +216,10 @@ positionals =
     positional (codes "map" ∷ codes "each" ∷ codes "records" ∷ codes "bound" ∷ codes "check" ∷ codes "types" ∷ [])
     (codes "PICKLE")
     ∷ omissible (only (codes "show")) (codes "PICKLE")
-    ∷ omissible (codes "map" ∷ codes "show" ∷ codes "each" ∷ codes "bound" ∷ []) (codes "TYPE")
+    ∷ omissible (only (codes "find")) (codes "PICKLE")
+    ∷ omissible (codes "map" ∷ codes "show" ∷ codes "each" ∷ codes "find" ∷ codes "bound" ∷ []) (codes "TYPE")
     ∷ positional (only (codes "records")) (codes "TYPE")
-    ∷ omissible (codes "map" ∷ codes "show" ∷ []) (codes "FILE")
+    ∷ omissible (codes "map" ∷ codes "show" ∷ codes "find" ∷ []) (codes "FILE")
     ∷ positional (codes "records" ∷ codes "dump" ∷ []) (codes "FILE")
     ∷ record (positional over_many (codes "FILE")) { kind = Positionals }
     ∷ record (omissible (only (codes "bound")) (codes "BITS")) { accepted = ANumber }
@@ -313,10 +329,20 @@ without_commands = record {
   subs = [];
 }
 
--- the names of the commands
+-- the names of the commands that read files by types, of the others, and of all
+abbrev pub reading_commands : List Text
+reading_commands = codes "map" ∷ codes "show" ∷ codes "each" ∷ codes "records" ∷ codes "find" ∷ codes "identify" ∷ []
+
+abbrev pub answering_commands : List Text
+answering_commands = codes "bound" ∷ codes "check" ∷ codes "types" ∷ codes "formats" ∷ codes "dump" ∷ []
+
 abbrev pub commands : List Text
-commands = codes "map" ∷ codes "show" ∷ codes "each" ∷ codes "records" ∷ codes "identify" ∷ codes "bound"
-    ∷ codes "check" ∷ codes "types" ∷ codes "formats" ∷ codes "dump" ∷ []
+commands = reading_commands ++ answering_commands
+
+-- a program with the commands of these names, one after the other
+abbrev pub with_commands : App → (names : List Text) → List Argument → App
+with_commands app [] table = app
+with_commands app (name ∷ names) table = with_commands (with_subcommand app (command_of name table).top) names table
 
 -- a program whose commands have these rules, and of which one command must be given
 abbrev pub program_of : (rules_of : (command : Text) → List Rule) → App

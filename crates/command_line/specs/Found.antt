@@ -1,5 +1,5 @@
 -- What the arguments of a command request, by what clap found among them.
-use Rattle.std.specs.Prelude.{◌≡◌, ◌≢◌, ◌⊎◌, ℕ, Bool, true, false, is_none, not, List, [], map, Option, Some, None, option_map, String, string_bytes, codes}
+use Rattle.std.specs.Prelude.{◌≡◌, ◌≢◌, ◌⊎◌, ◌<◌, ◌||◌, ℕ, Bool, true, false, is_none, is_some, not, List, [], map, Option, Some, None, option_map, String, string_bytes, codes}
 use Rattle.std.specs.Option.{unwrap_or, option_map_or}
 use Rattle.std.specs.declared.alloc.Global.{Global}
 use Rattle.std.specs.Str.{bytes_eq}
@@ -15,7 +15,8 @@ use Rattle.text_output.specs.declared.style.Chars.TheVariants.{Text as AsText}
 use Rattle.text_output.specs.declared.style.Numbers.TheVariants.{Decimal}
 use Rattle.command_line.specs.Numerals.{IsNumber, IsNoNumber}
 use Rattle.command_line.specs.Starts.{NamesStart, IsNoStart, NamesByteIfAny, IsNoByteIfAny, NamesBytes, IsNoBytes, NamesWindow, IsNoWindow}
-use Rattle.command_line.specs.Subjects.{HasPart, IsTypeOf, is_file_alone, pickle_of, type_before, word_after}
+use Rattle.command_line.specs.OffsetWord.{IsOffsetWord, IsNoOffset}
+use Rattle.command_line.specs.Subjects.{HasPart, IsSoughtPart, IsTypeOf, is_file_alone, pickle_of, type_before, word_after}
 use Rattle.command_line.specs.Flags.{FlagIn}
 use Rattle.command_line.specs.Selects.{Selects, PartBeside}
 use Rattle.command_line.specs.Styles.{NamesNumbersOr, NamesNumbersIfAny, NamesCharsOr, NamesElementsOr, IsNoElementsIfAny, NamesColor, NamesFaults}
@@ -38,8 +39,9 @@ use Rattle.command_line.specs.declared.fault_form.FaultForm.TheVariants.{Text}
 use Rattle.command_line.specs.declared.request.Form.{Form}
 use Rattle.command_line.specs.declared.request.Form.TheVariants.{Printed, Shown}
 use Rattle.command_line.specs.declared.request.Over.{Over}
-use Rattle.command_line.specs.declared.request.Over.TheVariants.{Bytes, File, Files, Records}
+use Rattle.command_line.specs.declared.request.Over.TheVariants.{Bytes, File, Files, Records, Search}
 use Rattle.command_line.specs.declared.request.RecordList.{RecordList}
+use Rattle.command_line.specs.declared.request.ValueSearch.{ValueSearch}
 use Rattle.command_line.specs.declared.request.FileNames.{FileNames}
 use Rattle.command_line.specs.declared.request.FileNames.TheVariants.{Words, EndedByZero}
 
@@ -116,6 +118,25 @@ pub record AsksSubject (found : Found) (type : Option (List ℕ)) (subject : Sub
   pub typed : IsTypeOf (word_in found (codes "PICKLE")) type subject
   pub part : HasPart (one_text found (codes "inside")) subject
 
+-- one argument alone is the file, to show by the format that it has or to search
+abbrev pub shows_file_alone : Found → Bool
+shows_file_alone found = is_file_alone (first_value found (codes "PICKLE")) (first_value found (codes "TYPE"))
+    (first_value found (codes "FILE"))
+
+-- the same of what is looked for
+pub record AsksSought (found : Found) (type : Option (List ℕ)) (subject : Subject) : Type 0 where
+  pub read_from : pickle_of subject ≡ Some (word_in found (codes "PICKLE"))
+  pub typed : IsTypeOf (word_in found (codes "PICKLE")) type subject
+  pub part : IsSoughtPart subject
+
+-- the same where one argument alone is the file to search, for all formats
+abbrev pub SeeksBy : (alone : Bool) → (found : Found) → (type : Option (List ℕ)) → Subject → Type 0
+SeeksBy true found type subject = subject ≡ Identified
+SeeksBy false found type subject = AsksSought found type subject
+
+abbrev pub SeeksSubject : (found : Found) → (type : Option (List ℕ)) → Subject → Type 0
+SeeksSubject found type subject = SeeksBy (shows_file_alone found) found type subject
+
 -- where a mapping starts, after how many bytes from there its file ends, and its limit of steps
 pub record AsksMapping (found : Found) (start : Start) (window : Option ℕ) (limit : ℕ) : Type 0 where
   pub starts : StartsAt found start
@@ -125,11 +146,6 @@ pub record AsksMapping (found : Found) (start : Start) (window : Option ℕ) (li
 -- its byte order, if one is named
 abbrev pub AsksOrder : Found → Option Order → Type 0
 AsksOrder found order = NamesOrderIfAny (first_value found (codes "endian")) order
-
--- one argument alone is the file to show, by the format that it has
-abbrev pub shows_file_alone : Found → Bool
-shows_file_alone found = is_file_alone (first_value found (codes "PICKLE")) (first_value found (codes "TYPE"))
-    (first_value found (codes "FILE"))
 
 -- what is shown, by whether the file is alone and by the argument for the type
 abbrev pub ShowsBy : (alone : Bool) → (found : Found) → (type : Option (List ℕ)) → Subject → Type 0
@@ -194,6 +210,7 @@ IsPrintedOver found (File file) = is_raw found ≡ false
 IsPrintedOver found (Bytes file) = is_raw found ≡ true
 IsPrintedOver found (Files names flush) = Unit {0}
 IsPrintedOver found (Records file list) = Unit {0}
+IsPrintedOver found (Search file search) = Unit {0}
 
 -- how a value is written: printed in a mode, beside the form of refusals and faults, or shown with colors and with so
 -- many levels of parts, 6 by default
@@ -228,13 +245,27 @@ pub record AsksList (found : Found) (list : RecordList) : Type 0 where
   pub report_end : FlagIn (one_text found (codes "report-end")) list.report_end
   pub grows : GrowsLimit found list.grows
 
+-- the offset that an argument is, of at least a bit
+abbrev pub NamesStep : List ℕ → ℕ → Type 0
+NamesStep word step = IsOffsetWord word step × (0 < step)
+
+-- at which places a type is tried, and which values are printed
+pub record AsksSearch (found : Found) (search : ValueSearch) : Type 0 where
+  pub steps : NamesStep (word_in found (codes "step")) search.step
+  pub attempts : NumberIn (first_value found (codes "attempt-limit")) 1000000 search.attempt_limit
+  pub counts : NumberIfAny (first_value found (codes "count")) search.count
+  pub apart : FlagIn (one_text found (codes "apart")) search.apart
+  pub flush : FlagIn (one_text found (codes "flush")) search.flush
+  pub grows : GrowsLimit found search.grows
+
 -- what a type is mapped over: the one file that an argument names, or many, of which each line may be written at once,
--- or the records in one
+-- or the records in one, or the places in one
 abbrev pub IsOver : Found → Over → Type 0
 IsOver found (File file) = string_bytes file ≡ file_in found
 IsOver found (Bytes file) = string_bytes file ≡ file_in found
 IsOver found (Files names flush) = NamesFiles found names × FlagIn (one_text found (codes "flush")) flush
 IsOver found (Records file list) = (string_bytes file ≡ word_in found (codes "FILE")) × AsksList found list
+IsOver found (Search file search) = (string_bytes file ≡ file_in found) × AsksSearch found search
 
 -- the argument for the type; before many files it is left out only if their names are in a list
 abbrev pub type_over : Found → Over → Option (List ℕ)
@@ -242,6 +273,7 @@ type_over found (File file) = type_in found (codes "FILE")
 type_over found (Bytes file) = type_in found (codes "FILE")
 type_over found (Files names flush) = first_value found (codes "TYPE")
 type_over found (Records file list) = first_value found (codes "TYPE")
+type_over found (Search file search) = type_in found (codes "FILE")
 
 -- what a request maps that writes in a form
 abbrev pub AsksSubjectIn : (found : Found) → (type : Option (List ℕ)) → Form → Over → Subject → Type 0
@@ -249,6 +281,7 @@ AsksSubjectIn found type (Printed mode faults) (File file) subject = AsksSubject
 AsksSubjectIn found type (Printed mode faults) (Bytes file) subject = AsksSubject found type subject
 AsksSubjectIn found type (Printed mode faults) (Files names flush) subject = AsksSubject found type subject
 AsksSubjectIn found type (Printed mode faults) (Records file list) subject = AsksSubject found type subject
+AsksSubjectIn found type (Printed mode faults) (Search file search) subject = SeeksSubject found type subject
 AsksSubjectIn found type (Shown color depth numbers beside) over subject = ShowsSubject found type subject
 
 -- whether how much is done is shown
@@ -262,6 +295,7 @@ choice_of (Printed mode faults) (File file) = Parts
 choice_of (Printed mode faults) (Bytes file) = Parts
 choice_of (Printed mode faults) (Files names flush) = Columns
 choice_of (Printed mode faults) (Records file list) = Columns
+choice_of (Printed mode faults) (Search file search) = Columns
 
 -- bytes are those of one part
 abbrev pub SelectsOne : Over → Terms → Type 0
@@ -269,6 +303,7 @@ SelectsOne (Bytes file) terms = terms.selection ≡ None
 SelectsOne (File file) terms = Unit {0}
 SelectsOne (Files names flush) terms = Unit {0}
 SelectsOne (Records file list) terms = Unit {0}
+SelectsOne (Search file search) terms = Unit {0}
 
 -- a request is what arguments request
 pub record AsksRequest (found : Found) (request : Request) : Type 0 where
@@ -334,7 +369,7 @@ Asks found (Dump from size ruler file) = DumpsFrom found from × DumpsBytes foun
 abbrev pub IsOther : Option (List ℕ) → List ℕ → Type 0
 IsOther command name = command ≢ Some name
 
--- the command that writes in a form, over one file, many or a list; only one file is shown to the eye
+-- the command that writes in a form, over one file, many, a list or places; only one file is shown to the eye
 abbrev pub IsRequestOf : Option (List ℕ) → Form → Over → Type 0
 IsRequestOf command (Printed mode faults) (File file) = command ≡ Some (codes "map")
 IsRequestOf command (Shown color depth numbers beside) (File file) = command ≡ Some (codes "show")
@@ -344,6 +379,8 @@ IsRequestOf command (Printed mode faults) (Files names flush) = command ≡ Some
 IsRequestOf command (Shown color depth numbers beside) (Files names flush) = ⊥
 IsRequestOf command (Printed mode faults) (Records file list) = command ≡ Some (codes "records")
 IsRequestOf command (Shown color depth numbers beside) (Records file list) = ⊥
+IsRequestOf command (Printed mode faults) (Search file search) = command ≡ Some (codes "find")
+IsRequestOf command (Shown color depth numbers beside) (Search file search) = ⊥
 
 -- a job is of the command of a name
 abbrev pub IsJobOf : Option (List ℕ) → Job → Type 0
@@ -359,8 +396,9 @@ IsJobOf command Formats = command ≡ Some (codes "formats")
 IsJobOf command (Dump from size ruler file) = command ≡ Some (codes "dump")
 IsJobOf command (Check pickle) =
     IsOther command (codes "map") × IsOther command (codes "show") × IsOther command (codes "each")
-    × IsOther command (codes "records") × IsOther command (codes "identify") × IsOther command (codes "bound")
-    × IsOther command (codes "types") × IsOther command (codes "formats") × IsOther command (codes "dump")
+    × IsOther command (codes "records") × IsOther command (codes "find") × IsOther command (codes "identify")
+    × IsOther command (codes "bound") × IsOther command (codes "types") × IsOther command (codes "formats")
+    × IsOther command (codes "dump")
 
 -- the arguments of a mapping name no start, or no number of bytes from there on
 abbrev pub IsNoExtent : Found → Type 0
@@ -386,3 +424,23 @@ IsNoBound found =
 abbrev pub IsNoList : Found → Type 0
 IsNoList found =
     IsNoNumberIfAny (first_value found (codes "omit")) ⊎ IsNoNumberIfAny (first_value found (codes "count"))
+
+-- the distance of places isn't an offset
+abbrev pub IsNoStep : Found → Type 0
+IsNoStep found = IsNoOffset (word_in found (codes "step"))
+
+-- the arguments for a search have something else than a number where one belongs, or places that don't move
+abbrev pub IsNoSearch : Found → Type 0
+IsNoSearch found = IsNoNumberIfAny (first_value found (codes "attempt-limit"))
+    ⊎ (IsNoNumberIfAny (first_value found (codes "count")) ⊎ IsOffsetWord (word_in found (codes "step")) 0)
+
+-- whether parts of values are requested
+abbrev pub asks_parts : Terms → Bool
+asks_parts terms = is_some terms.part || is_some terms.selection
+
+-- parts are requested of values of all formats
+pub record SeeksParts (found : Found) : Type 0 where
+  pub alone : shows_file_alone found ≡ true
+  pub terms : Terms
+  pub has : HasTerms found Columns plain terms
+  pub parts : asks_parts terms ≡ true

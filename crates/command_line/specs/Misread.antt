@@ -8,7 +8,7 @@ use Rattle.command_line.specs.declared.selection.Choice.TheVariants as choice
 use Rattle.command_line.specs.declared.words.WordFault.{WordFault}
 use Rattle.command_line.specs.declared.words.WordFault.TheVariants.{Usage, Help, Offset, Memory}
 use Rattle.command_line.specs.Flags.{FlagIn}
-use Rattle.command_line.specs.Found.{is_raw, IsNoBound, IsNoByteExtent, IsNoExtent, IsNoList, IsNoNumberIfAny, IsNoRange}
+use Rattle.command_line.specs.Found.{is_raw, IsNoBound, IsNoByteExtent, IsNoExtent, IsNoList, IsNoNumberIfAny, IsNoRange, IsNoSearch, IsNoStep, SeeksParts}
 use Rattle.command_line.specs.Paths.{PathStep, IsPath}
 use Rattle.command_line.specs.Patterns.{PatternPart, IsPattern}
 use Rattle.command_line.specs.Selects.{ArePatterns, HasRows, Selects, is_one_path, words_in}
@@ -87,6 +87,8 @@ pub data Misread (command : List ℕ) (found : Found) : Type 0 where
   each_wrong : command ≡ codes "each" → MisreadRequest found choice.Columns → Misread command found
   records_wrong : command ≡ codes "records" → MisreadRequest found choice.Columns ⊎ IsNoList found →
       Misread command found
+  find_wrong : command ≡ codes "find" → MisreadRequest found choice.Columns ⊎ (IsNoSearch found ⊎ SeeksParts found)
+      → Misread command found
   identify_wrong : command ≡ codes "identify" → IsNoNumberIfAny (first_value found (codes "spool")) →
       Misread command found
   bound_wrong : command ≡ codes "bound" → IsNoBound found → Misread command found
@@ -98,5 +100,6 @@ pub data Misplaced (command : List ℕ) (found : Found) : Type 0 where
   show_nowhere : command ≡ codes "show" → IsNoExtent found → Misplaced command found
   each_nowhere : command ≡ codes "each" → IsNoExtent found → Misplaced command found
   records_nowhere : command ≡ codes "records" → IsNoExtent found → Misplaced command found
+  find_nowhere : command ≡ codes "find" → IsNoExtent found ⊎ IsNoStep found → Misplaced command found
   identify_nowhere : command ≡ codes "identify" → IsNoByteExtent found → Misplaced command found
   dump_nowhere : command ≡ codes "dump" → IsNoRange found → Misplaced command found

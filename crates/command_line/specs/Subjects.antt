@@ -71,3 +71,9 @@ abbrev pub HasPart : (inside : Option (List ℕ)) → Subject → Type 0
 HasPart inside (Named _ _) = Unit {0}
 HasPart inside (ByHead _ part) = FlagIn inside (is_inside part)
 HasPart inside Identified = Unit {0}
+
+-- what is looked for is the type inside other bytes
+abbrev pub IsSoughtPart : Subject → Type 0
+IsSoughtPart (Named _ _) = Unit {0}
+IsSoughtPart (ByHead _ part) = is_inside part ≡ true
+IsSoughtPart Identified = Unit {0}

@@ -66,6 +66,10 @@ abbrev pub keeps_records_ties : Found → Bool
 keeps_records_ties found = are_apart found (codes "byte") (codes "at")
     && not (is_by_head (word_in found (codes "PICKLE")) (first_value found (codes "TYPE")))
 
+abbrev pub keeps_find_ties : Found → Bool
+keeps_find_ties found = are_apart found (codes "byte") (codes "at")
+    && (shows_file_alone found || has_words found (codes "FILE"))
+
 abbrev pub keeps_identify_ties : Found → Bool
 keeps_identify_ties found = is_either_given found (codes "FILE") (codes "files0-from")
 
@@ -90,6 +94,7 @@ keeps_ties command found =
     else if bytes_eq command (codes "show") then keeps_show_ties found
     else if bytes_eq command (codes "each") then keeps_each_ties found
     else if bytes_eq command (codes "records") then keeps_records_ties found
+    else if bytes_eq command (codes "find") then keeps_find_ties found
     else if bytes_eq command (codes "identify") then keeps_identify_ties found
     else if bytes_eq command (codes "bound") then keeps_bound_ties found
     else if bytes_eq command (codes "types") then keeps_types_ties found

@@ -80,6 +80,8 @@ pub enum Over {
     Files { names: FileNames, flush: bool },
     /// The records of a list in the file of this name, one after another.
     Records { file: String, list: RecordList },
+    /// The places in the file of this name at which the type has a value.
+    Search { file: String, search: ValueSearch },
 }
 
 /// Which records of a list are printed, and how the list may end.
@@ -96,6 +98,23 @@ pub struct RecordList {
     /// Whether a line says at last where the list is then, and how many records there were.
     pub report_end: bool,
     /// Whether the limit of steps, that of all records together, grows with the file, since none is given.
+    pub grows: bool,
+}
+
+/// At which places a type is tried, and which values are printed.
+#[derive(Clone, Copy, Debug, Drop, PartialEq, Eq)]
+pub struct ValueSearch {
+    /// How many bits lie between two places.
+    pub step: u64,
+    /// The most steps of the attempt at one place.
+    pub attempt_limit: u64,
+    /// After how many printed values the search stops. `None` goes on to the file's end.
+    pub count: Option<u64>,
+    /// Whether the next place after a value is at or after its end.
+    pub apart: bool,
+    /// Whether each line is written at once.
+    pub flush: bool,
+    /// Whether the limit of steps, that of all attempts together, grows with the number of places, since none is given.
     pub grows: bool,
 }
 

@@ -20,7 +20,8 @@ pub enum Subject {
         pickle: String,
         part: HeadType,
     },
-    /// The type of whole files of the format that the file has, among those that are installed. No pickle is named.
+    /// The type of whole files of the format that the file has, among those that are installed; of a search the types of all
+    /// of them inside other bytes. No pickle is named.
     Identified,
 }
 

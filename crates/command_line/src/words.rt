@@ -22,28 +22,30 @@ ghost use Rattle.command_line.specs.Lines.{command_line};
 ghost use Rattle.command_line.specs.Selects.{Selects};
 ghost use Rattle.command_line.specs.Words.{IsCheckOf, IsBareCheckOf, NamesMode, NamesModeIfAny};
 ghost use Rattle.command_line.specs.Found.{word_in, NumberIfAny, NumberIn, HasTerms, no_terms, NamesFiles, IsNoExtent, NamesOrderIfAny, NamesOrderOrBig, after_type_in, file_in};
-ghost use Rattle.command_line.specs.Found.{Asks, AsksList, is_raw, over_file, IsJobOf, IsNoList, IsNoRange, IsNoBound, IsNoNumberIfAny, IsNoByteExtent};
+ghost use Rattle.command_line.specs.Found.{Asks, AsksList, AsksSearch, NamesStep, SeeksParts, SeeksSubject, asks_parts, type_in, is_raw, over_file, IsJobOf, IsNoList, IsNoRange, IsNoSearch, IsNoStep, IsNoBound, IsNoNumberIfAny, IsNoByteExtent};
+ghost use Rattle.command_line.specs.OffsetWord.{IsOffsetWord};
 ghost use Rattle.command_line.specs.Styles.{IsNoElementsIfAny};
+ghost use Rattle.text_output.specs.Styles.{plain};
 ghost use Rattle.command_line.specs.declared.words.WordFault.TheVariants.{Memory};
 
 use crate::answer_form::AnswerForm;
 use crate::fault_form::FaultForm;
 use crate::identification::Identification;
 use crate::numerals::whole_number;
-use crate::request::{FileNames, Form, Over, RecordList, Request};
+use crate::request::{FileNames, Form, Over, RecordList, Request, ValueSearch};
 use crate::selection::{Choice, Selection};
 use crate::start::Start;
 use crate::subject::{BY_HEAD, Subject, has_type, is_by_head};
 use crate::terms::Terms;
 use arguments::arguments;
 use bit_space::Order;
-use bytes::{byte_of, bytes_in, window_of};
+use bytes::{bits_of, byte_of, bytes_in, window_of};
 use clap::ArgMatches;
 use clap::error::ErrorKind;
-use commands::{PROGRAM, SHOWN_LEVELS, program};
+use commands::{ATTEMPT_LIMIT, PROGRAM, SHOWN_LEVELS, program};
 use found::{after_type, flag_of, number_if_any, number_of, type_word, word, word_if_any, word_of};
 use line::{command_line, without_help_of_help};
-use mapping::{mapping_words, shown_subject, subject_of};
+use mapping::{mapping_words, shown_subject, sought_subject, subject_of};
 use parser::Ties;
 use selected::{part_beside, selection_of};
 use shown::shown_words;
@@ -64,6 +66,13 @@ const WRONG_WORD: &str = "error: an argument has bytes that aren't printed\n";
 /// The usage error for a list of records whose type is that of a head.
 const NO_RECORD_TYPE: &str =
     "error: records needs the TYPE of a record: - is that of a whole file\n\nFor more information, try '--help'.\n";
+
+/// The usage error for places that don't move.
+const NO_STEP: &str = "error: --step is at least 1#b\n\nFor more information, try '--help'.\n";
+
+/// The usage error for parts of values of all formats.
+const NO_PARTS: &str =
+    "error: --get needs a PICKLE, whose TYPE has the part\n\nFor more information, try '--help'.\n";
 
 /// The usage error for bytes of more than one part.
 const NO_RAW: &str =
@@ -281,13 +290,13 @@ fn names_whole_type(command: &str, found: &ArgMatches<'_>) -> bool {
 
 // Whether the pickle and TYPE are left out among the arguments of a command.
 fn leaves_pickle_out(command: &str, found: &ArgMatches<'_>) -> bool {
-    command == "show" && (shows_file_alone(found) || !is_given(found, "PICKLE"))
+    matches!(command, "show" | "find") && (shows_file_alone(found) || !is_given(found, "PICKLE"))
 }
 
 // Whether TYPE is left out among the arguments of a command, which are enough without it.
 fn leaves_type_out(command: &str, found: &ArgMatches<'_>) -> bool {
     match command {
-        "map" | "show" => has_words(found, "FILE") && !is_given(found, "FILE"),
+        "map" | "show" | "find" => has_words(found, "FILE") && !is_given(found, "FILE"),
         "bound" => has_words(found, "BITS") && !is_given(found, "BITS"),
         "each" => !is_given(found, "TYPE") && has_type(word(found, "PICKLE"), None),
         _ => false,
@@ -405,6 +414,7 @@ fn read_command(
         "show" => read_show(alloc, found),
         "each" => read_each(alloc, found),
         "records" => read_records(alloc, found),
+        "find" => read_find(alloc, found),
         "identify" => read_identify(alloc, found),
         "bound" => read_bound(alloc, found, words),
         "types" => read_types(alloc, found),
@@ -616,6 +626,96 @@ fn list_of(alloc: Global, found: &ArgMatches<'_>) -> Result<RecordList, WordFaul
         report_end: flag_of(found, "report-end"),
         grows: found.get_str("limit").is_none(),
     })
+}
+
+fn read_find(alloc: Global, found: &ArgMatches<'_>) -> Result<Job, WordFault>
+    ensures asks { IfOk result (Asks (found_of found.now)) }
+    ensures command { IfOk result (IsJobOf (Some (codes "find"))) }
+    ensures offset { IfErr result (λ fault. fault ≡ WordFault.Offset →
+        IsNoExtent (found_of found.now) ⊎ IsNoStep (found_of found.now)) }
+    ensures misread { IfErr result (FailsFor (MisreadRequest (found_of found.now) Choice.Columns
+        ⊎ (IsNoSearch (found_of found.now) ⊎ SeeksParts (found_of found.now)))
+        (IsNoExtent (found_of found.now) ⊎ IsNoStep (found_of found.now))) }
+{
+    let spool = spool_of(alloc, found)?;
+    let terms = terms_of(alloc, found, Choice::Columns, Style::plain())?;
+    let search = search_of(alloc, found)?;
+    let file = file_of(alloc, found)?;
+    let subject = found_subject(alloc, found, &terms)?;
+    let mapping = mapping_words(alloc, found)?;
+    Ok(Job::Request(Request {
+        start: mapping.start,
+        window: mapping.window,
+        order: mapping.order,
+        limit: mapping.limit,
+        spool,
+        terms,
+        form: Form::Printed {
+            mode: mode_of(word(found, "mode")),
+            faults: faults_of(word(found, "faults")),
+        },
+        progress: flag_of(found, "progress"),
+        subject,
+        over: Over::Search { file, search },
+    }))
+}
+
+// What is looked for: a type, or if one argument alone is the file, all formats, whose values have no parts in common.
+fn found_subject(alloc: Global, found: &ArgMatches<'_>, terms: &Terms) -> Result<Subject, WordFault>
+    ensures ok { IfOk result (SeeksSubject (found_of found.now) (type_in (found_of found.now) (codes "FILE"))) }
+    ensures fault { IfErr result (λ fault. fault ≢ WordFault.Offset) }
+    ensures misread { HasTerms (found_of found.now) Choice.Columns plain terms.now →
+        IfErr result (FailsFor (SeeksParts (found_of found.now)) ⊥) }
+{
+    if !shows_file_alone(found) {
+        return Ok(sought_subject(alloc, found, type_word(found, "FILE"))?);
+    }
+    if asks_parts(terms) {
+        return Err(WordFault::Usage(String::from_str(alloc, NO_PARTS)?));
+    }
+    Ok(Subject::Identified)
+}
+
+// Whether parts of values are requested.
+fn asks_parts(terms: &Terms) -> bool
+    ensures { result ≡ asks_parts terms.now }
+{
+    terms.part.is_some() || terms.selection.is_some()
+}
+
+// At which places a type is tried, and which values are printed.
+fn search_of(alloc: Global, found: &ArgMatches<'_>) -> Result<ValueSearch, WordFault>
+    ensures ok { IfOk result (AsksSearch (found_of found.now)) }
+    ensures offset { IfErr result (λ fault. fault ≡ WordFault.Offset → IsNoStep (found_of found.now)) }
+    ensures misread { IfErr result (FailsFor (IsNoSearch (found_of found.now)) (IsNoStep (found_of found.now))) }
+{
+    Ok(ValueSearch {
+        step: step_of(alloc, found)?,
+        attempt_limit: number_of(
+            alloc,
+            found,
+            "attempt-limit",
+            "--attempt-limit <N>",
+            ATTEMPT_LIMIT,
+        )?,
+        count: number_if_any(alloc, found, "count", "--count <N>")?,
+        apart: flag_of(found, "apart"),
+        flush: flag_of(found, "flush"),
+        grows: found.get_str("limit").is_none(),
+    })
+}
+
+// How many bits lie between two places.
+fn step_of(alloc: Global, found: &ArgMatches<'_>) -> Result<u64, WordFault>
+    ensures ok { IfOk result (NamesStep (word_in (found_of found.now) (codes "step"))) }
+    ensures offset { IfErr result (λ fault. fault ≡ WordFault.Offset → IsNoStep (found_of found.now)) }
+    ensures misread { IfErr result (FailsFor (IsOffsetWord (word_in (found_of found.now) (codes "step")) 0)
+        (IsNoStep (found_of found.now))) }
+{
+    match bits_of(word(found, "step"))? {
+        0 => Err(WordFault::Usage(String::from_str(alloc, NO_STEP)?)),
+        step => Ok(step),
+    }
 }
 
 fn read_identify(alloc: Global, found: &ArgMatches<'_>) -> Result<Job, WordFault>

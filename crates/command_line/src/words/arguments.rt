@@ -141,10 +141,31 @@ const MAPPING: &[Argument] = &[
         help: "The byte where the value begins, as 446, 0x1be or, from the end of FILE, -512 [default: 0]",
         ..OPTION
     },
+    // TYPE is tried this far from the start of FILE first.
+    Argument {
+        of: &["find"],
+        name: "at",
+        value: "OFFSET",
+        accepts: Accepts::Offset,
+        default: Some("0#b"),
+        help: "Where the search begins in FILE",
+        ..OPTION
+    },
+    // The same in bytes, below 2^61: `446`, `0x1be` or, counted from the end of FILE, `-512`. A place before the first
+    // byte of FILE is `refused offset`.
+    Argument {
+        of: &["find"],
+        name: "byte",
+        value: "N",
+        accepts: Accepts::Place,
+        tie: Tie::Apart("at"),
+        help: "The byte where the search begins, as 446, 0x1be or, from the end of FILE, -512 [default: 0]",
+        ..OPTION
+    },
     // FILE ends for the mapping BYTES bytes after the byte that the value begins in, or where it ends anyway. The number is
     // `446` or `0x1be`. Places are still those in the whole FILE.
     Argument {
-        of: &["map", "show", "each", "records"],
+        of: &["map", "show", "each", "records", "find"],
         name: "length",
         value: "BYTES",
         is_rare: true,
@@ -163,7 +184,7 @@ const MAPPING: &[Argument] = &[
     // The byte order of numbers whose field has neither `big` nor `little` before its type. Without the option it is the
     // one that the head of +NAME says, if TYPE is left out or `-`, and else big-endian.
     Argument {
-        of: &["map", "show", "each", "records"],
+        of: &["map", "show", "each", "records", "find"],
         name: "endian",
         value: "ORDER",
         accepts: Accepts::OneOf(&["big", "little"]),
@@ -213,7 +234,7 @@ const MAPPING: &[Argument] = &[
     // [stores a part of a value](OPERATORS.md#memory): a node, a link to a part, a part of a value that isn't finished, or
     // a byte of a string. A mapping that needs more ends with `fault Slots`.
     Argument {
-        of: &["map", "show", "each", "records"],
+        of: &["map", "show", "each", "records", "find"],
         name: "slots",
         value: "N",
         accepts: Accepts::Number,
@@ -242,10 +263,21 @@ const MAPPING: &[Argument] = &[
         help: "Print a part of the value, or many as columns: . or steps of .name, .place, [place] [default: .]",
         ..OPTION
     },
+    // Print the [part](#paths-and-parts) of the value at PATH after its place and size. If the option is given
+    // [many times](#many-parts-and-tables), each part is a column, with tabs between them. In mode `json` it is the member
+    // `value`.
+    Argument {
+        of: &["find"],
+        name: "get",
+        kind: Kind::Repeated,
+        value: "PATH",
+        help: "Print a part of the value after its place and size: . or steps of .name, .place, [place] [default: none]",
+        ..OPTION
+    },
     // Read a FILE that has no length, such as a pipe, [into memory](#a-file-without-a-length) before it is mapped. If it
     // has more than BYTES bytes the run ends with `fault TooLong`. Without the option such a FILE is `fault Open`.
     Argument {
-        of: &["map", "show", "each", "records", "identify"],
+        of: &["map", "show", "each", "records", "find", "identify"],
         name: "spool",
         value: "BYTES",
         accepts: Accepts::Number,
@@ -256,7 +288,7 @@ const MAPPING: &[Argument] = &[
     // Show on standard error [how far](#progress) FILE was read, or of `each` and `identify` how many files are done, if
     // that is a terminal.
     Argument {
-        of: &["map", "show", "each", "records", "identify"],
+        of: &["map", "show", "each", "records", "find", "identify"],
         name: "progress",
         is_rare: true,
         help: "Show how much is done, if standard error is a terminal [default: no]",
@@ -284,7 +316,7 @@ const MAPPING: &[Argument] = &[
     },
     // What a part that isn't there is: `fault NoSuchPart`, or with `empty` an empty column or line, in JSON `null`.
     Argument {
-        of: &["map", "show", "each", "records"],
+        of: &["map", "show", "each", "records", "find"],
         name: "absent",
         value: "WHAT",
         accepts: Accepts::OneOf(&["fault", "empty"]),
@@ -328,6 +360,55 @@ const MAPPING: &[Argument] = &[
         is_rare: true,
         help: "Print at last where the next record would begin, and how many there were [default: no]",
         ..FLAG
+    },
+    // How far each start is from the one before: at least `1#b`.
+    Argument {
+        of: &["find"],
+        name: "step",
+        value: "OFFSET",
+        accepts: Accepts::Offset,
+        default: Some("1#B"),
+        help: "How far each start is from the one before",
+        ..OPTION
+    },
+    // After a value go on at the first start that is at or after its end.
+    Argument {
+        of: &["find"],
+        name: "apart",
+        help: "After a value go on at or after its end [default: at the next start]",
+        ..FLAG
+    },
+    // Stop after N lines.
+    Argument {
+        of: &["find"],
+        name: "count",
+        value: "N",
+        accepts: Accepts::Number,
+        help: "Stop after the lines of N values [default: at the end of FILE]",
+        ..OPTION
+    },
+    // The attempt at one start takes at most N steps. One that needs more is given up, and the search goes on. At the end
+    // the run then ends with `fault Attempts`, which says where the first of them began and how many there were.
+    Argument {
+        of: &["find"],
+        name: "attempt-limit",
+        value: "N",
+        accepts: Accepts::Number,
+        default: Some("1000000"),
+        help: "The most steps of the attempt at one start",
+        ..OPTION
+    },
+    // All attempts together take at most N steps. If they need more the search ends with `fault Limit` at the start where
+    // the steps end, and `--at` goes on from there. Without the option it is 1,000,000,000, or 256 for each start if that is
+    // more.
+    Argument {
+        of: &["find"],
+        name: "limit",
+        value: "N",
+        accepts: Accepts::Number,
+        is_rare: true,
+        help: "The most steps of all attempts together [default: 1000000000, or 256 a start if that is more]",
+        ..OPTION
     },
 ];
 
@@ -411,6 +492,17 @@ const STYLE: &[Argument] = &[
         help: "How each value is printed",
         ..OPTION
     },
+    // How the line of a value is printed. `flat` prints its start, its size and the columns, with tabs between them. `json`
+    // prints an object, with the start and the size in bits.
+    Argument {
+        of: &["find"],
+        name: "mode",
+        value: "MODE",
+        accepts: Accepts::OneOf(&["flat", "json"]),
+        default: Some("flat"),
+        help: "How the line of a value is printed",
+        ..OPTION
+    },
     // How the value is printed. `flat` prints it in the line of its file. `json` prints an object for each file instead.
     Argument {
         of: &["each"],
@@ -459,7 +551,7 @@ const STYLE: &[Argument] = &[
     // How numbers are printed. `digits` prints decimal digits without the type and the unit. `show` prints numbers in this
     // form alone, always without the type.
     Argument {
-        of: &["map", "show", "each", "records"],
+        of: &["map", "show", "each", "records", "find"],
         name: "numbers",
         value: "FORM",
         accepts: Accepts::OneOf(&["decimal", "hex", "digits"]),
@@ -479,7 +571,7 @@ const STYLE: &[Argument] = &[
     // How an array of `char` is printed. `text` prints it as a string, without the zero bytes at its end. With `numbers`
     // `show` prints a dump of its bytes.
     Argument {
-        of: &["map", "show", "each", "records"],
+        of: &["map", "show", "each", "records", "find"],
         name: "chars",
         value: "FORM",
         accepts: Accepts::OneOf(&["numbers", "text"]),
@@ -498,7 +590,7 @@ const STYLE: &[Argument] = &[
     },
     // Print at most N elements of each array, or `all`. Of an array of bytes `show` prints at most N lines.
     Argument {
-        of: &["map", "show", "each", "records"],
+        of: &["map", "show", "each", "records", "find"],
         name: "elements",
         value: "N",
         help: "The most elements that are printed of an array, or all [default: all, in show 16]",
@@ -516,7 +608,7 @@ const STYLE: &[Argument] = &[
     // How a refusal or a fault is [printed](#streams-and-exit-statuses). `json` prints it as a JSON object, such as
     // `{"fault":"End","at":32}`.
     Argument {
-        of: &["map", "each", "records", "identify"],
+        of: &["map", "each", "records", "find", "identify"],
         name: "faults",
         value: "FORM",
         accepts: Accepts::OneOf(&["text", "json"]),
@@ -589,7 +681,7 @@ const STYLE: &[Argument] = &[
     },
     // Print more lines on standard error: [why](WHY.md#why-a-pickle-is-refused) the pickle or TYPE is refused.
     Argument {
-        of: &["bound", "types"],
+        of: &["find", "bound", "types"],
         name: "why",
         help: "Explain why the pickle or TYPE is refused [default: no]",
         ..FLAG
@@ -624,7 +716,16 @@ const OTHERS: &[Argument] = &[
     Argument {
         of: &["records"],
         name: "flush",
+        is_rare: true,
         help: "Write each record before the next one is mapped [default: no]",
+        ..FLAG
+    },
+    // Write each line before the search goes on.
+    Argument {
+        of: &["find"],
+        name: "flush",
+        is_rare: true,
+        help: "Write each line before the search goes on [default: no]",
         ..FLAG
     },
     // Read the names of the files from PATH, or from standard input for `-`. A byte 0 ends each name, as `find -print0`
@@ -703,7 +804,14 @@ const POSITIONALS: &[Argument] = &[
         ..POSITIONAL
     },
     Argument {
-        of: &["map", "show", "each", "bound"],
+        of: &["find"],
+        name: "PICKLE",
+        kind: Kind::Omissible,
+        help: "The file of the pickle, - or +NAME. Left out with TYPE, all installed formats are looked for",
+        ..POSITIONAL
+    },
+    Argument {
+        of: &["map", "show", "each", "find", "bound"],
         name: "TYPE",
         kind: Kind::Omissible,
         help: "The type to map. Left out or - after +NAME, it is that of the pickle's head",
@@ -716,7 +824,7 @@ const POSITIONALS: &[Argument] = &[
         ..POSITIONAL
     },
     Argument {
-        of: &["map", "show"],
+        of: &["map", "show", "find"],
         name: "FILE",
         kind: Kind::Omissible,
         help: "The file of the bytes",

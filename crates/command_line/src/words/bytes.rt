@@ -78,8 +78,8 @@ fn plain_bytes(word: &str) -> Result<u64, WordFault>
     }
 }
 
-// The number of bits that an argument names.
-fn bits_of(word: &str) -> Result<u64, WordFault>
+/// The number of bits that an argument names.
+pub fn bits_of(word: &str) -> Result<u64, WordFault>
     ensures ok { IfOk result (IsOffsetWord word.now) }
     ensures err { IfErr result (λ fault. fault ≡ Offset) }
     ensures refused { OnErr result (IsNoOffset word.now) }

@@ -1,7 +1,8 @@
 //! The commands, and the texts of their help.
 ghost use Rattle.std.specs.Prelude.{◌≡◌, IfOk};
 ghost use Rattle.clap.specs.Simple.{new_app};
-ghost use Rattle.command_line.specs.Commands.{IsApp, command_of, table_of, the_program, without_commands};
+ghost use Rattle.clap.specs.Simple.{App};
+ghost use Rattle.command_line.specs.Commands.{IsApp, answering_commands, command_of, reading_commands, table_of, the_program, with_commands, without_commands};
 
 use crate::words::arguments::Groups;
 use crate::words::overview::PROGRAM_HELP;
@@ -17,6 +18,9 @@ pub const VERSION: &str = "0.1.0";
 
 /// The most steps that a mapping may take if no limit is given.
 pub const DEFAULT_LIMIT: u64 = 1_000_000_000;
+
+/// The most steps of the attempt at one place if nothing else is requested.
+pub const ATTEMPT_LIMIT: u64 = 1_000_000;
 
 /// The most elements that are shown of an array if nothing else is requested.
 pub const SHOWN_ELEMENTS: u64 = 16;
@@ -120,6 +124,32 @@ Example:
 Exit status:
   0  the list ends where FILE does, or as --count or --any-end say
   1  the list ends before that, or a record has a fault, which is reported with its place
+  2  refused: the arguments, an offset, the pickle or the type's name
+  3  memory, a file, standard input or an output failed",
+};
+
+const FIND: Verb = Verb {
+    name: "find",
+    about: "Tries a type at each byte of a file, and prints where it has a value",
+    usage: Some("poke_batch find [OPTIONS] [PICKLE [TYPE]] <FILE>"),
+    help: "\
+Each place at which TYPE has a value has a line: the place, a tab, and the size of the value, both in bytes, as 0x1be, or where
+they aren't whole bytes in bits, as 2228#b. With --get the parts of the value follow. Without TYPE, or for -, it is the type of
++NAME for the format inside other bytes. A FILE alone is searched for all installed formats that have a signature and such a
+type, and each line also has the format and the byte order. An attempt that needs more than --attempt-limit steps is given up, and the search goes
+on; the run then ends with fault Attempts.
+
+With --mode json each line is an object, with the place and the size in bits:
+  {\"at\":3568,\"bits\":128}
+
+Examples:
+  poke_batch find image.bin
+  poke_batch find +png image.bin
+  poke_batch show --byte 0x1be --inside +png image.bin
+
+Exit status:
+  0  the lines were printed
+  1  no place has a value, which is fault NotFound, or steps didn't suffice
   2  refused: the arguments, an offset, the pickle or the type's name
   3  memory, a file, standard input or an output failed",
 };
@@ -245,12 +275,40 @@ Exit status:
 pub fn program<'a>(alloc: Global, table: Groups, ties: Ties) -> Result<Command<'a>, AllocError>
     ensures { IfOk result (λ program. ties ≡ Ties.Without → IsApp (the_program (table_of table)) program) }
 {
-    without_commands(alloc)
+    let program = with_reading(alloc, without_commands(alloc), table, ties)?;
+    with_answering(alloc, program, table, ties)
+}
+
+// The program with the commands that read files by types.
+fn with_reading<'a>(
+    alloc: Global,
+    program: Command<'a>,
+    table: Groups,
+    ties: Ties,
+) -> Result<Command<'a>, AllocError>
+    ensures { (app : App) → (ties ≡ Ties.Without → IsApp app program.entry) → IfOk result (λ made. ties ≡ Ties.Without →
+        IsApp (with_commands app reading_commands (table_of table)) made) }
+{
+    program
         .subcommand(command(alloc, MAP, table, ties)?)?
         .subcommand(command(alloc, SHOW, table, ties)?)?
         .subcommand(command(alloc, EACH, table, ties)?)?
         .subcommand(command(alloc, RECORDS, table, ties)?)?
-        .subcommand(command(alloc, IDENTIFY, table, ties)?)?
+        .subcommand(command(alloc, FIND, table, ties)?)?
+        .subcommand(command(alloc, IDENTIFY, table, ties)?)
+}
+
+// The program with the other commands.
+fn with_answering<'a>(
+    alloc: Global,
+    program: Command<'a>,
+    table: Groups,
+    ties: Ties,
+) -> Result<Command<'a>, AllocError>
+    ensures { (app : App) → (ties ≡ Ties.Without → IsApp app program.entry) → IfOk result (λ made. ties ≡ Ties.Without →
+        IsApp (with_commands app answering_commands (table_of table)) made) }
+{
+    program
         .subcommand(command(alloc, BOUND, table, ties)?)?
         .subcommand(command(alloc, CHECK, table, ties)?)?
         .subcommand(command(alloc, TYPES, table, ties)?)?

@@ -11,6 +11,21 @@ OFFSET is a number, # and a unit: b for bits, B for bytes, or a number of bits, 
 Options of map, show, each and records:
   --at OFFSET      where the value begins in FILE [default: 0#b]
   --byte N         the byte where the value begins, as 446, 0x1be or, from the end of FILE, -512 [default: 0]
+
+Options of find:
+  --at OFFSET      where the search begins in FILE [default: 0#b]
+  --byte N         the byte where the search begins, as 446, 0x1be or, from the end of FILE, -512 [default: 0]
+  --get PATH       print a part of the value after its place and size: . or steps of .name, .place, [place]
+                   [default: none]
+  --step OFFSET    how far each start is from the one before [default: 1#B]
+  --apart          after a value go on at or after its end [default: at the next start]
+  --count N        stop after the lines of N values [default: at the end of FILE]
+  --attempt-limit N  the most steps of the attempt at one start [default: 1000000]
+  --limit N        the most steps of all attempts together [default: 1000000000, or 256 a start if that is more]
+  --mode MODE      how the line of a value is printed (flat or json) [default: flat]
+  --flush          write each line before the search goes on [default: no]
+
+Options of map, show, each, records and find:
   --length BYTES   after how many bytes from there FILE ends, as 446 or 0x1be [default: where it does]
   --endian ORDER   the byte order (big or little) [default: big, without TYPE that of the head]
   --slots N        the most slots of each kind, reserved before the mapping [default: any number]
@@ -42,7 +57,7 @@ Options of map and show:
 Options of each and records:
   --get PATH       print a part of the value, or many as columns: . or steps of .name, .place, [place] [default: .]
 
-Options of map, show, each, records and identify:
+Options of map, show, each, records, find and identify:
   --spool BYTES    read a FILE without a length, as a pipe, up to so many bytes [default: it isn't opened]
   --progress       show how much is done, if standard error is a terminal [default: no]
 
@@ -74,7 +89,7 @@ Options of each:
 Options of check, types and formats:
   --mode MODE      how the answer is printed (text or json) [default: text]
 
-Options of map, each, records and identify:
+Options of map, each, records, find and identify:
   --faults FORM    how a refusal or a fault is printed (text or json) [default: text]
 
 Options of show:
@@ -90,7 +105,7 @@ Options of types:
 Options of map, each and records:
   --why            explain why the pickle or TYPE is refused, or what stops a mapping [default: no]
 
-Options of bound and types:
+Options of find, bound and types:
   --why            explain why the pickle or TYPE is refused [default: no]
 
 Options of check:

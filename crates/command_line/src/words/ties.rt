@@ -2,7 +2,7 @@
 ghost use Rattle.std.specs.Prelude.{◌≡◌, codes, option_map};
 ghost use Rattle.clap.specs.Matches.{found_of, first_value};
 ghost use Rattle.command_line.specs.Found.{shows_file_alone};
-ghost use Rattle.command_line.specs.Ties.{is_given, are_apart, needs, is_either_given, is_typed, has_words, keeps_inside, keeps_file_ties, keeps_map_ties, keeps_show_ties, keeps_each_ties, keeps_records_ties, keeps_identify_ties, keeps_text_ties, keeps_bound_ties, keeps_types_ties, keeps_dump_ties, keeps_ties};
+ghost use Rattle.command_line.specs.Ties.{is_given, are_apart, needs, is_either_given, is_typed, has_words, keeps_inside, keeps_file_ties, keeps_map_ties, keeps_show_ties, keeps_each_ties, keeps_records_ties, keeps_find_ties, keeps_identify_ties, keeps_text_ties, keeps_bound_ties, keeps_types_ties, keeps_dump_ties, keeps_ties};
 
 use crate::subject::{has_type, is_by_head, is_file_alone};
 use crate::words::found::{after_type, type_word, word};
@@ -18,6 +18,7 @@ pub fn keeps_ties(command: &str, found: &ArgMatches<'_>) -> bool
         "show" => keeps_show_ties(found),
         "each" => keeps_each_ties(found),
         "records" => keeps_records_ties(found),
+        "find" => keeps_find_ties(found),
         "identify" => keeps_identify_ties(found),
         "bound" => keeps_bound_ties(found),
         "types" => keeps_types_ties(found),
@@ -63,6 +64,12 @@ fn keeps_records_ties(found: &ArgMatches<'_>) -> bool
     are_apart(found, "byte", "at") && !is_by_head(word(found, "PICKLE"), found.get_str("TYPE"))
 }
 
+fn keeps_find_ties(found: &ArgMatches<'_>) -> bool
+    ensures { result ≡ keeps_find_ties (found_of found.now) }
+{
+    are_apart(found, "byte", "at") && (shows_file_alone(found) || has_words(found, "FILE"))
+}
+
 fn keeps_identify_ties(found: &ArgMatches<'_>) -> bool
     ensures { result ≡ keeps_identify_ties (found_of found.now) }
 {
@@ -103,7 +110,7 @@ pub fn has_words(found: &ArgMatches<'_>, after: &str) -> bool
     after_type(found, after).is_some() && is_typed(found, type_word(found, after))
 }
 
-/// Whether one argument alone is the file to show.
+/// Whether one argument alone is the file to show or to search.
 pub fn shows_file_alone(found: &ArgMatches<'_>) -> bool
     ensures { result ≡ shows_file_alone (found_of found.now) }
 {

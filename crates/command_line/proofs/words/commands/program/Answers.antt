@@ -1,18 +1,4 @@
-use Rattle.std.proofs.lemmas.Result.{IfOk-weaker}
-use Rattle.command_line.proofs.Declared.{joined}
 use Rattle.command_line.proofs.words.commands.program.Goals as goal
 
 pub returns : goal.returns
-returns c =
-    let start = c.without_commands.ensures in
-    IfOk-weaker c.subcommand-10.result _ _ (λ made last without.
-    let s1 = joined _ _ _ _ _ c.in_ok-subcommand.ensures start (c.in_ok-command.ensures without) in
-    let s2 = joined _ _ _ _ _ c.in_ok-subcommand-2.ensures s1 (c.in_ok-command-2.ensures without) in
-    let s3 = joined _ _ _ _ _ c.in_ok-subcommand-3.ensures s2 (c.in_ok-command-3.ensures without) in
-    let s4 = joined _ _ _ _ _ c.in_ok-subcommand-4.ensures s3 (c.in_ok-command-4.ensures without) in
-    let s5 = joined _ _ _ _ _ c.in_ok-subcommand-5.ensures s4 (c.in_ok-command-5.ensures without) in
-    let s6 = joined _ _ _ _ _ c.in_ok-subcommand-6.ensures s5 (c.in_ok-command-6.ensures without) in
-    let s7 = joined _ _ _ _ _ c.in_ok-subcommand-7.ensures s6 (c.in_ok-command-7.ensures without) in
-    let s8 = joined _ _ _ _ _ c.in_ok-subcommand-8.ensures s7 (c.in_ok-command-8.ensures without) in
-    let s9 = joined _ _ _ _ _ c.in_ok-subcommand-9.ensures s8 (c.in_ok-command-9.ensures without) in
-    joined _ _ _ _ _ last s9 (c.in_ok-command-10.ensures without)) c.subcommand-10.ensures
+returns c = c.with_answering.ensures _ (c.in_ok-program.ensures _ (λ without. c.without_commands.ensures))
