@@ -6,9 +6,10 @@ use Rattle.bit_space.specs.SpaceView.{SpaceView}
 use Rattle.bit_space.specs.declared.meter.Meter.{Meter}
 use Rattle.bit_space.specs.declared.order.Order.{Order}
 use Rattle.mapping_plans.proofs.Fitting.{fits_inside}
-use Rattle.pickle_map.specs.Mapped.{Gives}
+use Rattle.pickle_map.specs.Mapped.{FaultMeans, Gives}
 use Rattle.pickle_meaning.specs.Answer.{Answer}
 use Rattle.pickle_meaning.specs.Values.{Value, no_values, value_at}
+use Rattle.pickle_meaning.specs.declared.faults.MapFaultKind.{MapFaultKind}
 use Rattle.pickle_types.specs.Types.{PokeType}
 use Rattle.pickle_types.specs.declared.node.Node.{Node}
 use Rattle.poke_batch.specs.TypeRuns.{run_type}
@@ -39,6 +40,22 @@ value_meant type order start limit steps meter meter' known nodes store v same n
     (subst (λ (v : Value).
     Answer (bits_of bytes) type order start (meter.limit - meter.steps) (Ok v) (meter'.steps - meter.steps)
     (meter'.made - meter.made)) e m.holds))
+
+-- and its fault
+pub fault_meant : (type : PokeType) (order : Order) (start limit steps : ℕ) (meter meter' : Meter)
+    (known : Option (List ℕ)) (kind : MapFaultKind) (at : ℕ)
+    → meter.limit ≡ limit → meter.steps ≡ 0 → meter'.steps ≡ steps
+    → ((bytes : List ℕ) → known ≡ Some bytes →
+    FaultMeans (bits_of bytes) type order start (meter.limit - meter.steps) kind at (meter'.steps - meter.steps)
+    (meter'.made - meter.made))
+    → (bytes : List ℕ) → known ≡ Some bytes
+    → FaultMeans (bits_of bytes) type order start limit kind at steps (meter'.made - meter.made)
+fault_meant type order start limit steps meter meter' known kind at same none taken means bytes is =
+    let left : meter.limit - meter.steps ≡ limit = omega (arith, same, none) in
+    let took : meter'.steps - meter.steps ≡ steps = omega (arith, taken, none) in
+    subst (λ (n : ℕ). FaultMeans (bits_of bytes) type order start n kind at steps (meter'.made - meter.made)) left
+    (subst (λ (n : ℕ). FaultMeans (bits_of bytes) type order start (meter.limit - meter.steps) kind at n
+    (meter'.made - meter.made)) took (means bytes is))
 
 -- a value in a file that a space can have ends at a bit that has a number
 pub is_held : (run : TypeRun) (space : SpaceView) (store : Held) (steps : ℕ) → space.len < 2 ^ 60

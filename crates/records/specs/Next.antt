@@ -3,24 +3,29 @@ use Rattle.std.specs.Prelude.{◌≡◌, ◌≢◌, ◌<◌, ◌≤◌, ◌*◌,
 use Rattle.std.specs.List.{concat}
 use Rattle.std.specs.Io.KnownBytes.{Appends, Keeps as KeepsBytes}
 use Rattle.bit_space.specs.Bits.{bits_of}
-use Rattle.bit_space.specs.SpaceView.{SpaceView}
+use Rattle.bit_space.specs.SpaceView.{HasRisen, SpaceView}
+use Rattle.command_line.specs.declared.ask.Ask.{Ask}
 use Rattle.pickle_map.specs.Findings.{AreFound}
+use Rattle.pickle_map.specs.Mapped.{EndsRun, FaultMeans, RunsToFault}
 use Rattle.pickle_meaning.specs.Answer.{Answer}
 use Rattle.pickle_meaning.specs.Fits.{Fits}
 use Rattle.pickle_meaning.specs.Values.{Value, end_of, no_values, start_of, value_at}
 use Rattle.pickle_meaning.specs.declared.faults.MapFault.{MapFault}
 use Rattle.pickle_meaning.specs.declared.faults.MapFaultKind.TheVariants as fault
+use Rattle.pickle_types.specs.Bounds.{cost, room}
 use Rattle.pickle_types.specs.TypeTable.{nodes_of}
+use Rattle.pickle_types.specs.Types.{PokeType}
 use Rattle.poke_batch.specs.FileLine.{in_memory}
 use Rattle.poke_batch.specs.Runs.{IsAsked}
-use Rattle.poke_batch.specs.RunsUnder.{IsStoreOf, MapsUnder, end_saying}
+use Rattle.poke_batch.specs.RunsUnder.{AreTooFew, IsStoreOf, MapsUnder, end_saying}
 use Rattle.poke_batch.specs.TypeRuns.{run_type}
 use Rattle.poke_batch.specs.declared.type_run.TypeRun.{TypeRun}
 use Rattle.records.specs.Records.{is_written}
 use Rattle.records.specs.Written.{Adds, EndsList, Gathers}
 use Rattle.records.specs.declared.listing.Listing.{Listing}
 use Rattle.records.specs.declared.listing.Progress.{Progress}
-use Rattle.records.specs.declared.next.Kept.{Kept}
+use Rattle.records.specs.declared.attempt.Kept.{Kept}
+use Rattle.records.specs.declared.attempt.Stopped.{Stopped}
 use Rattle.run_parts.specs.Told.{AppendsUpTo}
 use Rattle.run_parts.specs.declared.outcome.Failure.TheVariants as failure
 use Rattle.run_parts.specs.declared.outcome.Outcome.{Outcome}
@@ -63,6 +68,30 @@ pub record HasFault (run : TypeRun) (begun done : SpaceView) (why : MapFault) : 
   pub says : (pickle : List ℕ) → IsAsked pickle run.ask.now.name.now (run_type run)
       → MapsUnder pickle run.ask.now run.terms.now begun done
       (end_saying run.terms.now.most_slots run.ask.now.start why.kind why.at)
+
+-- so many slots of each kind are fewer than a mapping's bound, and too few for what it stores, if the bytes are known
+pub record LacksSlots (most : ℕ) (type : PokeType) (ask : Ask) (space : SpaceView) : Type 0 where
+  pub bound : most < room type (8 * space.len)
+  pub few : AreTooFew most type ask space
+
+-- A run was stopped after so many steps. Where the bytes are known, its fault is what the type means there, or what
+-- broke it off. Whatever the space gives, it is the fault of a run on the numbers that were read. A fault that ends a
+-- run is at its start. Limit: all steps were taken, which are fewer than the type's bound. Device: a read failed.
+-- Memory: a store of the most slots has too few.
+pub record IsStopped (run : TypeRun) (begun done : SpaceView) (stopped : Stopped) : Type 0 where
+  pub few : stopped.steps ≤ run.ask.now.limit
+  pub made : ℕ
+  pub means : (bytes : List ℕ) → begun.bytes ≡ Some bytes →
+      FaultMeans (bits_of bytes) (run_type run) run.ask.now.order run.ask.now.start run.ask.now.limit
+      stopped.fault.kind stopped.fault.at stopped.steps made
+  pub runs : RunsToFault begun (run_type run) run.ask.now.order run.ask.now.start run.ask.now.limit stopped.fault.kind
+      stopped.fault.at
+  pub limit : stopped.fault.kind ≡ fault.Limit → stopped.steps ≡ run.ask.now.limit
+  pub costs : stopped.fault.kind ≡ fault.Limit → run.ask.now.limit < cost (run_type run) (8 * begun.len)
+  pub device : stopped.fault.kind ≡ fault.Device → HasRisen begun.failures done.failures
+  pub slots : stopped.fault.kind ≡ fault.Memory → (most : ℕ) → run.terms.now.most_slots ≡ Some most →
+      LacksSlots most (run_type run) run.ask.now begun
+  pub place : EndsRun stopped.fault.kind → stopped.fault.at ≡ run.ask.now.start
 
 -- memory didn't suffice
 abbrev pub IsNoMemory : Outcome → Type 0

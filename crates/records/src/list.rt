@@ -6,8 +6,9 @@ ghost use Rattle.poke_batch.specs.Runs.{IsAsked};
 ghost use Rattle.poke_batch.specs.TypeRuns.{run_type};
 ghost use Rattle.records.specs.Written.{WritesList};
 
+use crate::attempt::{Kept, fault_at};
 use crate::listing::{Listing, Progress};
-use crate::next::{Kept, fault_at, next_record};
+use crate::next::next_record;
 use bit_space::Space;
 use pickle_map::MapFaultKind;
 use poke_batch::type_run::TypeRun;

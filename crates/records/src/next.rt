@@ -1,6 +1,6 @@
 //! The next record of a list.
 
-ghost use Rattle.std.specs.Prelude.{◌≡◌, ◌≤◌, ◌<◌, ◌∷◌, ◌*◌, [], if◌then◌else◌, ℕ, List, Some, false, true, IfOk, IfErr, OnOk, OnErr};
+ghost use Rattle.std.specs.Prelude.{◌≡◌, ◌≤◌, ◌<◌, ◌∷◌, ◌*◌, [], if◌then◌else◌, ℕ, List, Some, false, true, IfOk, IfErr, OnOk};
 ghost use Rattle.std.specs.Io.KnownBytes.{Appends};
 ghost use Rattle.bit_space.specs.SpaceView.{Keeps, SpaceView};
 ghost use Rattle.pickle_meaning.specs.Clauses.{ends_array};
@@ -8,47 +8,24 @@ ghost use Rattle.pickle_meaning.specs.Values.{Value, end_of, start_of};
 ghost use Rattle.poke_batch.specs.Runs.{IsAsked};
 ghost use Rattle.poke_batch.specs.RunsUnder.{end_saying};
 ghost use Rattle.poke_batch.specs.TypeRuns.{run_type};
-ghost use Rattle.records.specs.Next.{EndsHere, GoesOn, HasFault, HoldsValue, IsHeld, IsNoMemory, IsNotPut, IsPlaced, IsPut, IsReady, IsUnput, IsUntold, PutsHeld, held_value};
+ghost use Rattle.records.specs.Next.{EndsHere, GoesOn, IsHeld, IsNoMemory, IsNotPut, IsPlaced, IsPut, IsReady, IsUnput, IsUntold, PutsHeld, held_value};
 ghost use Rattle.records.specs.Records.{goes_on};
 ghost use Rattle.records.specs.Written.{Gathers, left_at};
 ghost use Rattle.run_parts.specs.Outcomes.{outcome_saying};
-ghost use Rattle.run_parts.specs.Told.{AppendsUpTo};
-ghost use Rattle.run_parts.specs.declared.outcome.Outcome.TheVariants.{Done, Fault};
+ghost use Rattle.run_parts.specs.declared.outcome.Outcome.TheVariants.{Done};
 ghost use Rattle.value_store.specs.Refs.{value_shown};
 
+use crate::attempt::{Kept, attempt, fault_at};
 use crate::listing::{Listing, Progress};
-use bit_space::{Memory, Meter, Space};
-use pickle_map::mapper::findings::Findings;
-use pickle_map::mapper::map_with;
-use pickle_map::mapper::watch::Unwatched;
+use crate::put_whole::put_whole;
+use bit_space::Space;
 use pickle_map::{MapFault, MapFaultKind, Store, ValueRef};
 use poke_batch::each::in_memory;
-use poke_batch::run::{end_outcome, store_of};
+use poke_batch::run::end_outcome;
 use poke_batch::type_run::TypeRun;
-use poke_batch::write::{WriteFault, put};
+use poke_batch::write::WriteFault;
 use run_parts::outcome::{Failure, Outcome};
 use std::io::Write;
-
-/// What is stored from record to record. The next record uses the same memory.
-#[derive(Drop)]
-pub struct Kept {
-    store: Store,
-    findings: Findings,
-    text: Vec<u8>,
-}
-
-impl Kept {
-    /// Nothing yet.
-    pub fn new(run: &TypeRun<'_>) -> Result<Kept, Memory>
-        ensures { IfOk result (IsReady run.now) }
-    {
-        Ok(Kept {
-            store: store_of(run.alloc, run.terms.most_slots)?,
-            findings: Findings::new(),
-            text: Vec::new(run.alloc),
-        })
-    }
-}
 
 /// Maps the next record of a list, and writes it unless it is omitted. Returns how far the list is then, or how it ends.
 pub fn next_record<S: Space, O: Write>(
@@ -83,7 +60,7 @@ pub fn next_record<S: Space, O: Write>(
         ask: &ask,
         terms: run.terms,
     };
-    match map_next(&next, kept, space) {
+    match attempt(&next, kept, space) {
         Ok(steps) => {
             let end = write_held(
                 &next,
@@ -100,44 +77,7 @@ pub fn next_record<S: Space, O: Write>(
                 left: at.left - 1 - steps,
             })
         }
-        Err(fault) => Err(list_end(fault, run.terms.most_slots, listing, at.place)),
-    }
-}
-
-/// A fault at a bit of the file.
-pub fn fault_at(kind: MapFaultKind, place: u64) -> Outcome
-    ensures { result ≡ Fault (record { kind = kind; at = place }) }
-{
-    Outcome::Fault(MapFault {
-        kind,
-        at: u128::from(place),
-    })
-}
-
-// Maps the type of a run into a store, which is emptied first. Returns how many steps that took.
-fn map_next<S: Space>(run: &TypeRun<'_>, kept: &mut Kept, space: &mut S) -> Result<u64, MapFault>
-    requires { IsReady run.now kept.old }
-    ensures ready { IsReady run.now kept.new }
-    ensures ok { IfOk result (HoldsValue run.now (S.view space.old) kept.new.store) }
-    ensures err { IfErr result (HasFault run.now (S.view space.old) (S.view space.new)) }
-    ensures keeps { Keeps (S.view space.old) (S.view space.new) }
-{
-    let TypeRun { table, id, ask, .. } = *run;
-    kept.store.clear();
-    let mut meter = Meter::new(ask.limit);
-    match map_with(
-        table,
-        id,
-        ask.order,
-        ask.start,
-        space,
-        &mut meter,
-        &mut kept.store,
-        &mut Unwatched,
-        &mut kept.findings,
-    ) {
-        Ok(()) => Ok(meter.steps()),
-        Err(fault) => Err(fault),
+        Err(stopped) => Err(list_end(stopped.fault, run.terms.most_slots, listing, at.place)),
     }
 }
 
@@ -243,24 +183,9 @@ fn write_value<S: Space, O: Write>(
     ensures keeps { Keeps (S.view space.old) (S.view space.new) }
 {
     gather(run, listing, before, value, text, space)?;
-    match put_record(out, text, listing.flush) {
+    match put_whole(out, text, listing.flush) {
         Ok(()) => Ok(()),
         Err(WriteFault) => Err(Outcome::Failed(Failure::Write)),
-    }
-}
-
-// Writes a text, and what waits to be written if that is due at once.
-fn put_record<O: Write>(out: &mut O, text: &[u8], flush: bool) -> Result<(), WriteFault>
-    ensures ok { OnOk result (Appends (O.contents out.old) (O.contents out.new) text.now) }
-    ensures err { OnErr result (AppendsUpTo (O.contents out.old) (O.contents out.new) text.now) }
-{
-    put(out, text)?;
-    if !flush {
-        return Ok(());
-    }
-    match out.flush() {
-        Ok(()) => Ok(()),
-        Err(_) => Err(WriteFault),
     }
 }
 

@@ -26,28 +26,28 @@ returns-in_err-end-in-Ok-clause-err g c = λ first pickle since asked.
     let h = c.in-Ok.ensures.ok in
     let paid : 0 < c.args.at.left = omega (arith, c.if-at-eq0.false) in
     rw (p.1, p.2)
-    (next_not_put c.args.run.now c.args.listing first c.args.at h (g.S.Space.view c.map_next.new.space)
+    (next_not_put c.args.run.now c.args.listing first c.args.at h (g.S.Space.view c.attempt.new.space)
     (g.S.Space.view c.write_held.new.space)
     (record { table = refl; id = refl; terms = refl; ask = c.ask_for-ask.ensures })
-    since c.map_next.ensures.keeps c.write_held.ensures.keeps paid c.requires.on pickle _ _ _
+    since c.attempt.ensures.keeps c.write_held.ensures.keeps paid c.requires.on pickle _ _ _
     (c.in_err-end-in-Ok.ensures.err h.value h.there))
 
 pub returns-in_ok-end-in-Ok-clause-ok : goal.returns-in_ok-end-in-Ok-clause-ok
 returns-in_ok-end-in-Ok-clause-ok g c = λ first since.
     let h = c.in-Ok.ensures.ok in
     let paid : 0 < c.args.at.left = omega (arith, c.if-at-eq0.false) in
-    next_goes c.args.run.now c.args.listing first c.args.at h (g.S.Space.view c.map_next.new.space)
+    next_goes c.args.run.now c.args.listing first c.args.at h (g.S.Space.view c.attempt.new.space)
     (g.S.Space.view c.write_held.new.space)
     (record { table = refl; id = refl; terms = refl; ask = c.ask_for-ask.ensures })
-    since c.map_next.ensures.keeps c.write_held.ensures.keeps paid c.requires.on _ _ c.in_ok-end-in-Ok.end
+    since c.attempt.ensures.keeps c.write_held.ensures.keeps paid c.requires.on _ _ c.in_ok-end-in-Ok.end
     (c.in_ok-end-in-Ok.ensures.ok h.value h.there)
 
 pub returns-in-Err-clause-err : goal.returns-in-Err-clause-err
 returns-in-Err-clause-err g c = λ first pickle since asked.
     let paid : 0 < c.args.at.left = omega (arith, c.if-at-eq0.false) in
     no_more
-    (next_faulty c.args.run.now c.args.listing first c.args.at c.in-Err.ensures.err
+    (next_faulty c.args.run.now c.args.listing first c.args.at c.in-Err.ensures.fault
     (record { table = refl; id = refl; terms = refl; ask = c.ask_for-ask.ensures })
-    since c.map_next.ensures.keeps paid c.requires.on pickle asked c.list_end.result
+    since c.attempt.ensures.keeps paid c.requires.on pickle asked c.list_end.result
     c.list_end.ensures.dropped c.list_end.ensures.stopped)
     (Keeps-refl _)

@@ -1,5 +1,5 @@
 use Rattle.pickle_types.specs.TypeTable.{nodes_of}
-use Rattle.records.proofs.next.Kept.new.Goals as goal
+use Rattle.records.proofs.attempt.Kept.new.Goals as goal
 
 pub returns : goal.returns
 returns c =
