@@ -1,0 +1,5 @@
+pub mod Hunts
+pub mod Probes
+pub mod Reached
+pub mod Stocks
+pub mod Trials

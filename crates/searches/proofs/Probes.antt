@@ -1,0 +1,122 @@
+-- The attempts at the types that are looked for.
+use Rattle.std.proofs.Common.{◌≡◌, ℕ, Option, Result, Some, Ok, Err, IfOk, IfErr, refl, sym, subst}
+use Rattle.bit_space.proofs.Failures.{risen_later}
+use Rattle.bit_space.specs.SpaceView.{Keeps, SpaceView}
+use Rattle.command_line.specs.declared.ask.Ask.{Ask}
+use Rattle.pickle_meaning.specs.Values.{end_of}
+use Rattle.pickle_types.specs.declared.table.TypeId.{TypeId}
+use Rattle.poke_batch.specs.declared.type_run.TypeRun.{TypeRun}
+use Rattle.records.specs.Next.{HoldsValue, IsStopped}
+use Rattle.records.specs.declared.attempt.Stopped.{Stopped}
+use Rattle.run_parts.specs.declared.outcome.Outcome.{Outcome}
+use Rattle.searches.proofs.Trials.{is_hit, is_miss}
+use Rattle.searches.specs.Round.{GoesWithout, HasHit, HasMiss, StopsHunt}
+use Rattle.searches.specs.Sought.{IsAttempt, StopsAt, StopsType, TriesType, TriesValue, meant, past_value, signed, spent, stops_signature, stops_value, unmeant, unsigned}
+use Rattle.searches.specs.Starts.{ask_at}
+use Rattle.searches.specs.Written.{IsRunAt}
+use Rattle.searches.specs.declared.hunt.Hunt.{Hunt}
+use Rattle.searches.specs.declared.hunt.Tried.{Tried}
+use Rattle.searches.specs.declared.probe.Hit.{Hit}
+use Rattle.searches.specs.declared.search.Reach.{Reach}
+use Rattle.searches.specs.declared.sought.Sought.{Sought}
+use Rattle.value_store.specs.Slots.{Held}
+
+-- what a run stored is what an attempt found
+module _ (hunt : Hunt) (first before : SpaceView) (at : Reach) (sought : Sought) (id : TypeId) (run : TypeRun)
+    (is_run : IsAttempt hunt at sought id run) (since : Keeps first before) where
+  run_at : IsRunAt run hunt.search at run
+  run_at = record {
+    table = refl;
+    id = refl;
+    terms = refl;
+    ask = subst (λ (ask : Ask). ask ≡ ask_at hunt.search at ask) (sym is_run.ask) refl;
+  }
+
+  pub has_hit : (store : Held) (steps end : ℕ) (h : HoldsValue run before store steps) → end ≡ end_of h.value
+      → HasHit hunt first at sought id (record { end = end; steps = steps })
+  has_hit store steps end h is_end = record {
+    value = h.value;
+    hits = record {
+      run = run;
+      is_run = is_run;
+      hit = is_hit run run hunt.search first before at run_at since store steps h;
+    };
+    is_end = is_end;
+  }
+
+  pub has_miss : (last : SpaceView) (stop : Stopped) → Keeps before last → IsStopped run before last stop
+      → HasMiss hunt first last at sought id stop
+  has_miss last stop during h = record {
+    misses = record {
+      run = run;
+      is_run = is_run;
+      miss = is_miss run run hunt.search first before at run_at since last stop h;
+    };
+    device = λ kind.
+        risen_later first.failures before.failures last.failures since.failures during.failures (h.device kind);
+  }
+
+module _ (hunt : Hunt) (first last : SpaceView) (at : Reach) (sought : Sought) where
+  -- an attempt was stopped, and the search goes on
+  pub goes_unmeant : (stop : Stopped) → HasMiss hunt first last at sought sought.id stop
+      → (result : Result Tried Outcome) → IfOk result (GoesWithout hunt.search at stop)
+      → IfOk result (TriesValue hunt first at sought)
+  goes_unmeant stop miss (Ok tried) goes =
+      subst (λ (end : Option ℕ). TriesValue hunt first at sought (record { reach = tried.reach; end = end }))
+      (sym goes.none) (unmeant miss.misses goes.on)
+  goes_unmeant stop miss (Err ended) goes = tt
+
+  pub goes_unsigned : (stop : Stopped) → HasMiss hunt first last at sought sought.signature stop
+      → (result : Result Tried Outcome) → IfOk result (GoesWithout hunt.search at stop)
+      → IfOk result (TriesType hunt first at sought)
+  goes_unsigned stop miss (Ok tried) goes =
+      subst (λ (end : Option ℕ). TriesType hunt first at sought (record { reach = tried.reach; end = end }))
+      (sym goes.none) (unsigned miss.misses goes.on)
+  goes_unsigned stop miss (Err ended) goes = tt
+
+  -- it was stopped, and the search ends
+  pub stops_at : (id : TypeId) (stop : Stopped) → HasMiss hunt first last at sought id stop
+      → (result : Result Tried Outcome) → IfErr result (StopsHunt hunt.terms.now.most_slots hunt.search at stop)
+      → IfErr result (StopsAt hunt first last at sought id)
+  stops_at id stop miss (Ok tried) ends = tt
+  stops_at id stop miss (Err ended) ends = record {
+    kind = stop.fault.kind;
+    place = stop.fault.at;
+    steps = stop.steps;
+    miss = miss.misses;
+    ends = ends.ends;
+    device = miss.device;
+    says = ends.says;
+  }
+
+  pub stops_unsigned : (result : Result Tried Outcome)
+      → IfErr result (StopsAt hunt first last at sought sought.signature)
+      → IfErr result (StopsType hunt first last at sought)
+  stops_unsigned (Ok tried) ends = tt
+  stops_unsigned (Err ended) ends = stops_signature ends
+
+  -- the type's value was found
+  pub goes_meant : (hit : Hit) (next : Reach) → HasHit hunt first at sought sought.id hit
+      → next ≡ past_value at hit.steps → TriesValue hunt first at sought (record { reach = next; end = Some hit.end })
+  goes_meant hit next found is =
+      subst (λ (reach : Reach). TriesValue hunt first at sought (record { reach = reach; end = Some hit.end })) (sym is)
+      (subst (λ (end : ℕ). TriesValue hunt first at sought (record {
+        reach = past_value at hit.steps;
+        end = Some end;
+      })) (sym found.is_end) (meant found.hits))
+
+  -- the signature has a value, and the type was tried after it
+  pub goes_signed : (hit : Hit) (next : Reach) → HasHit hunt first at sought sought.signature hit
+      → next ≡ spent at hit.steps → (result : Result Tried Outcome) → IfOk result (TriesValue hunt first next sought)
+      → IfOk result (TriesType hunt first at sought)
+  goes_signed hit next found is (Ok tried) tries =
+      signed found.hits (subst (λ (next : Reach). TriesValue hunt first next sought tried) is tries)
+  goes_signed hit next found is (Err ended) tries = tt
+
+  pub stops_signed : (hit : Hit) (next : Reach) → HasHit hunt first at sought sought.signature hit
+      → next ≡ spent at hit.steps → (result : Result Tried Outcome)
+      → IfErr result (StopsAt hunt first last next sought sought.id)
+      → IfErr result (StopsType hunt first last at sought)
+  stops_signed hit next found is (Ok tried) ends = tt
+  stops_signed hit next found is (Err ended) ends =
+      stops_value found.hits (subst (λ (next : Reach). StopsAt hunt first last next sought sought.id ended) is ends)

@@ -1,0 +1,18 @@
+//! Tries types at one start after another, and writes a line for each value that they mean.
+#![tactic(auto)]
+
+mod found;
+pub mod hunt;
+mod line;
+mod probe;
+mod round;
+pub mod search;
+pub mod sought;
+mod trial;
+pub mod types;
+pub mod values;
+
+pub use search::{GivenUp, Reach, Search};
+pub use sought::Sought;
+pub use types::search_types;
+pub use values::{Searched, search_values};
