@@ -7,8 +7,10 @@ use Rattle.std.specs.Str.{bytes_eq}
 use Rattle.std.specs.declared.cmp.Ordering.TheVariants.{Less}
 use Rattle.bit_space.specs.declared.order.Order.{Order}
 use Rattle.bit_space.specs.declared.order.Order.TheVariants.{Big, Little}
-use Rattle.pickle_heads.specs.Heads.{sentence_of, main_of, options_of, identified_of, form_of, fault_of, orders_for}
+use Rattle.pickle_heads.specs.Heads.{sentence_of, main_of, options_of, identified_of, form_of, inside_of}
+use Rattle.pickle_heads.specs.Heads.{fault_of, orders_for}
 use Rattle.pickle_heads.specs.Identified.{Signature, by_nothing, by_type}
+use Rattle.pickle_heads.specs.Inside.{Among, no_type, by_type as by_inner}
 use Rattle.pickle_heads.specs.Options.{given_or_none}
 use Rattle.pickle_types.specs.declared.table.Table.{Table}
 use Rattle.pickle_types.specs.declared.table.TypeId.{TypeId}
@@ -33,6 +35,12 @@ type_in (Some (by_type name orders)) = Some name
 type_in (Some by_nothing) = None
 type_in None = None
 
+-- the name of the type inside other bytes, if a head says one
+abbrev pub inside_name : Option Among → Option (List ℕ)
+inside_name (Some (by_inner name)) = Some name
+inside_name (Some (no_type reason)) = None
+inside_name None = None
+
 -- a name has a type in a table
 abbrev pub HasType : Table → (name : List ℕ) → TypeId → Type 0
 HasType table name id = find_type name (types_of table) ≡ Some (type_named table id)
@@ -45,6 +53,12 @@ abbrev pub IsIdentifying : Table → (name : Option (List ℕ)) → Option TypeI
 IsIdentifying table None found = found ≡ None
 IsIdentifying table (Some name) None = ⊥
 IsIdentifying table (Some name) (Some id) = HasType table name id
+
+-- the type of a name, if there is a name, and the table has a type of it
+abbrev pub IsInside : Table → (name : Option (List ℕ)) → Option TypeId → Type 0
+IsInside table None found = found ≡ None
+IsInside table (Some name) None = HasNoType table name
+IsInside table (Some name) (Some id) = HasType table name id
 
 abbrev pub IsDocumented : Table → (name : Option (List ℕ)) → (options : List ℕ) → Option Documented → Type 0
 IsDocumented table None options found = found ≡ None
@@ -78,6 +92,7 @@ pub record IsFormatOf (name pickle : List ℕ) (format : Format) : Type 0 where
   pub orders : format.orders ≡ orders_of pickle
   pub documented : IsDocumented format.table (main_of pickle) (options_of pickle) format.documented
   pub form : option_map (λ name. name.items) format.form_of ≡ form_of pickle
+  pub inside : IsInside format.table (inside_name (inside_of pickle)) format.inside
 
 -- ---- many pickles
 

@@ -40,8 +40,12 @@ pub struct Format {
     pub documented: Option<Documented>,
     /// The name of the format of which it is a closer form.
     pub form_of: Option<Vec<u8>>,
+    /// The type of the format inside other bytes; None if the head of the pickle names none, or the pickle has no type of
+    /// that name.
+    pub inside: Option<TypeId>,
     pub ghost known: { ForSome identifying (λ id. IsInTable table id) },
     pub ghost mapped: { ForSome documented (λ type. IsInTable table type.id) },
+    pub ghost inner: { ForSome inside (λ id. IsInTable table id) },
 }
 
 /// The places of the formats that a format is a form of, the nearest first.

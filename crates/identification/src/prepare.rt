@@ -4,13 +4,14 @@ ghost use Rattle.std.specs.Prelude.{◌≡◌, ◌+◌, ◌<◌, ◌++◌, ◌�
 ghost use Rattle.std.specs.List.{AllAdjacentBelow, list_any};
 ghost use Rattle.std.specs.Option.{option_copied, option_map, ForSome};
 ghost use Rattle.pickle_heads.specs.Identified.{identified_said};
+ghost use Rattle.pickle_heads.specs.Inside.{inside_said};
 ghost use Rattle.pickle_heads.specs.Options.{given_or_none};
 ghost use Rattle.pickle_types.specs.TypeTable.{IsInTable};
-ghost use Rattle.identification.specs.Prepared.{AddsFormat, AreFormats, AreLines, AreRead, HasNoParent, IsDocumented, IsFormatOf, IsIdentifying, IsLine, IsMisplaced, IsNamedBefore, IsParent, IsUnfit, LacksIdentifying, MissesMain, TellsLine, TellsUnfit, TellsUnprepared, is_big, is_little, orders_among, place_named, type_in};
+ghost use Rattle.identification.specs.Prepared.{AddsFormat, AreFormats, AreLines, AreRead, HasNoParent, IsDocumented, IsFormatOf, IsIdentifying, IsInside, IsLine, IsMisplaced, IsNamedBefore, IsParent, IsUnfit, LacksIdentifying, MissesMain, TellsLine, TellsUnfit, TellsUnprepared, inside_name, is_big, is_little, orders_among, place_named, type_in};
 
 use crate::format::{Documented, Format, Formats, Line, Orders};
 use bit_space::Order;
-use pickle_heads::{Head, HeadFault, Identified, Options, head_of};
+use pickle_heads::{Head, HeadFault, Identified, Inside, Options, head_of};
 use pickle_types::table::{Table, TypeId};
 use run_parts::accept::{Refusal, accept};
 use std::alloc::Global;
@@ -133,6 +134,7 @@ pub fn format_of(alloc: Global, source: Source<'_>) -> Result<Format, Unfit>
     }
     let identifying = identifying_type(&table, head.identified)?;
     let documented = documented_type(alloc, &table, head.main, head.options, head.identified)?;
+    let inside = inside_type(&table, head.inside);
     Ok(Format {
         name: copied(alloc, source.name)?,
         sentence: copied(alloc, head.sentence)?,
@@ -141,6 +143,7 @@ pub fn format_of(alloc: Global, source: Source<'_>) -> Result<Format, Unfit>
         orders: orders_among(head.orders()),
         documented,
         form_of: copied_name(alloc, head.form_of)?,
+        inside,
     })
 }
 
@@ -160,6 +163,17 @@ fn identifying_type(
             None => Err(Unfit::NoIdentifyingType),
         },
         Some(Identified::Nothing) | None => Ok(None),
+    }
+}
+
+// The type of a format inside other bytes.
+fn inside_type(table: &Table, inside: Option<Inside<'_>>) -> Option<TypeId>
+    ensures found { IsInside table.now (inside_name (option_map inside_said inside.entry)) result }
+    ensures known { ForSome result (λ id. IsInTable table.now id) }
+{
+    match inside {
+        Some(Inside::Type(name)) => table.find(name),
+        Some(Inside::Nothing(_)) | None => None,
     }
 }
 
