@@ -13,5 +13,7 @@ mod Readable
 mod Listed
 mod Explained
 pub mod Recorded
+pub mod Searched
+pub mod Hunts
 pub mod Copied
 pub mod Tasked

@@ -11,7 +11,7 @@ use Rattle.command_line.specs.declared.ask.Ask.{Ask}
 use Rattle.command_line.specs.declared.identification.Identification.{Identification}
 use Rattle.command_line.specs.declared.request.FileNames.{FileNames}
 use Rattle.command_line.specs.declared.request.Over.{Over}
-use Rattle.command_line.specs.declared.request.Over.TheVariants.{Bytes, File, Files, Records}
+use Rattle.command_line.specs.declared.request.Over.TheVariants.{Bytes, File, Files, Records, Search}
 use Rattle.command_line.specs.declared.request.Request.{Request}
 use Rattle.command_line.specs.declared.terms.Terms.{Terms}
 use Rattle.command_line.specs.declared.words.Asked.{Asked}
@@ -27,6 +27,7 @@ use Rattle.jobs.specs.Gives.{Gives}
 use Rattle.jobs.specs.Installed.{DueAmong, folder_of}
 use Rattle.jobs.specs.Tasks.{DueTask}
 use Rattle.jobs.specs.declared.task.Task.TheVariants as task
+use Rattle.jobs.specs.Hunted.{DueHuntedFile}
 use Rattle.jobs.specs.Identified.{DueIdentifiedFile}
 use Rattle.jobs.specs.Spaces.{DueSpace}
 use Rattle.jobs.specs.Names.{AreFirstOf, AreNamesOf, StopsNames}
@@ -204,12 +205,22 @@ module _ (gives : Gives) (why : Bool) where
   DueMapping requested (Files files flush) = DueEach requested files
   DueMapping requested (Records file list) = DueTask gives requested (task.List list) (string_bytes file)
   DueMapping requested (Bytes file) = DueTask gives requested task.Copy (string_bytes file)
+  DueMapping requested (Search file search) =
+      DueTask gives requested (task.Search search requested.faults) (string_bytes file)
 
-  -- of a request: once its pickle says which type is mapped, or of the file's own format
+  -- of a request without a pickle: by the file's own format, or by all formats
+  abbrev pub DueUnnamed : Request → Over → (lines : List (List ℕ)) → Option End → Type 0
+  DueUnnamed request (Search file search) = DueHuntedFile gives request search (string_bytes file)
+  DueUnnamed request (File file) = DueIdentifiedFile gives why request
+  DueUnnamed request (Bytes file) = DueIdentifiedFile gives why request
+  DueUnnamed request (Files files flush) = DueIdentifiedFile gives why request
+  DueUnnamed request (Records file list) = DueIdentifiedFile gives why request
+
+  -- of a request: once its pickle says which type is mapped, or without one
   abbrev pub DueSubject : Request → Option (List ℕ) → (lines : List (List ℕ)) → Option End → Type 0
   DueSubject request (Some word) = DueOver gives word (λ pickle.
       DueIfAny (λ requested. DueMapping requested request.over pickle) (of_request request pickle))
-  DueSubject request None = DueIdentifiedFile gives why request
+  DueSubject request None = DueUnnamed request request.over
 
   abbrev pub DueRequest : Request → (lines : List (List ℕ)) → Option End → Type 0
   DueRequest request = DueSubject request (pickle_of request.subject)

@@ -12,6 +12,7 @@ pub mod Formats
 pub mod Spaces
 pub mod Growth
 pub mod Tasks
+pub mod Hunted
 pub mod Identified
 pub mod Files
 pub mod Every

@@ -1,14 +1,16 @@
--- What is due of a task with a file: its records, or the bytes of a part.
-use Rattle.std.specs.Prelude.{◌≡◌, ◌<◌, ◌≤◌, ℕ, true, List, [], ◌∷◌, Option, Some, None, Ok, Err}
+-- What is due of a task with a file: its records, the bytes of a part, or the places of values.
+use Rattle.std.specs.Prelude.{◌≡◌, ◌<◌, ◌≤◌, ◌*◌, ◌-◌, ℕ, true, List, [], ◌∷◌, max, Option, Some, None, Ok, Err}
 use Rattle.bit_space.specs.SpaceView.{HasRisen, SpaceView}
 use Rattle.command_line.specs.Starts.{start_bit}
 use Rattle.command_line.specs.declared.ask.Ask.{Ask}
+use Rattle.command_line.specs.declared.fault_form.FaultForm.{FaultForm}
 use Rattle.command_line.specs.declared.request.RecordList.{RecordList}
+use Rattle.command_line.specs.declared.request.ValueSearch.{ValueSearch}
 use Rattle.command_line.specs.declared.terms.Terms.{Terms}
 use Rattle.jobs.specs.Aims.{IsAskOf, Requested}
 use Rattle.jobs.specs.Due.{End, Holds}
 use Rattle.jobs.specs.Gives.{Gives}
-use Rattle.jobs.specs.Growth.{bytes_from, grow_limit}
+use Rattle.jobs.specs.Growth.{bytes_from, grow_limit, places_in}
 use Rattle.jobs.specs.declared.ending.Ending.TheVariants.{Run}
 use Rattle.jobs.specs.declared.fault.FileFault.{FileFault}
 use Rattle.jobs.specs.declared.fault.FileFault.TheVariants as fault
@@ -25,6 +27,9 @@ use Rattle.raw_parts.specs.Places.{IsDue, LacksBytes, bytes_end, bytes_from as b
 use Rattle.records.specs.Written.{EndsList, Lists}
 use Rattle.records.specs.declared.listing.Listing.{Listing}
 use Rattle.records.specs.declared.listing.Progress.{Progress}
+use Rattle.searches.specs.Written.{EndsSearch, Searches}
+use Rattle.searches.specs.declared.search.Reach.{Reach}
+use Rattle.searches.specs.declared.search.Search.{Search}
 use Rattle.run_parts.specs.Outcomes.{outcome_saying}
 use Rattle.run_parts.specs.declared.outcome.Failure.{Failure}
 use Rattle.run_parts.specs.declared.outcome.Failure.TheVariants as failure
@@ -66,10 +71,30 @@ pub data DueCopy (pickle : List ℕ) (run : TypeRun) (file after : SpaceView) : 
       DueCopy pickle run file after [] (Some (Ok (Run ended)))
   no_memory : DueCopy pickle run file after [] (Some (Ok (Run (outcome.Failed failure.Memory))))
 
+-- what the search of a request says of its places, of which two never are the same
+abbrev pub search_of : ValueSearch → Search
+search_of search = record {
+  step = max 1 search.step;
+  attempt_limit = search.attempt_limit;
+  count = search.count;
+  apart = search.apart;
+  flush = search.flush;
+}
+
+-- of the places at which a run's type has a value, from the run's start on: the line of each, and how the search ends
+pub data DueSearch (run : TypeRun) (search : ValueSearch) (file after : SpaceView) : (lines : List (List ℕ)) →
+    Option End → Type 0 where
+  all_values : {at : Reach} {lines : List (List ℕ)} {ended : Outcome} → Searches run (search_of search) file at lines
+      → EndsSearch run (search_of search) file after at ended
+      → DueSearch run search file after lines (Some (Ok (Run ended)))
+  first_values : {at : Reach} {lines : List (List ℕ)} → Searches run (search_of search) file at lines →
+      DueSearch run search file after lines None
+
 abbrev pub DueOf : (pickle : List ℕ) → TypeRun → Task → (file after : SpaceView) → (lines : List (List ℕ)) →
     Option End → Type 0
 DueOf pickle run (task.List list) = DueList pickle run list
 DueOf pickle run task.Copy = DueCopy pickle run
+DueOf pickle run (task.Search search faults) = DueSearch run search
 
 -- a run is of a type that a pickle has under the requested name
 abbrev pub IsRunOf : (pickle : List ℕ) → TypeRun → Type 0
@@ -89,6 +114,10 @@ ListsSpace pickle run list = DoesTask pickle run (task.List list)
 abbrev pub CopiesSpace : (pickle : List ℕ) → TypeRun → (space space' : SpaceView) → (out out' : Option (List ℕ)) →
     Outcome → Type 0
 CopiesSpace pickle run = DoesTask pickle run task.Copy
+
+abbrev pub SearchesSpace : (pickle : List ℕ) → TypeRun → ValueSearch → FaultForm → (space space' : SpaceView) →
+    (out out' : Option (List ℕ)) → Outcome → Type 0
+SearchesSpace pickle run search faults = DoesTask pickle run (task.Search search faults)
 
 -- ---- by a pickle
 
@@ -117,6 +146,8 @@ pub record DoesTaskIn (pickle : List ℕ) (ask : Ask) (terms : Terms) (task : Ta
 abbrev pub task_ask : Task → (seen : SpaceView) → Ask → Ask
 task_ask (task.List list) seen ask = grow_limit list.grows (bytes_from seen.len ask.start) ask
 task_ask task.Copy seen ask = ask
+task_ask (task.Search search faults) seen ask =
+    grow_limit search.grows (places_in (8 * seen.len - ask.start) (max 1 search.step)) ask
 
 abbrev pub DueSeenIn : (pickle : List ℕ) → Ask → Terms → Task → (seen after : SpaceView) →
     (lines : List (List ℕ)) → Option End → Type 0

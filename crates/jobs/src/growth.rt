@@ -1,18 +1,18 @@
 //! Limits of steps that grow with the file.
-ghost use Rattle.std.specs.Prelude.{◌≡◌};
-ghost use Rattle.jobs.specs.Growth.{bytes_from, grow_limit};
+ghost use Rattle.std.specs.Prelude.{◌≡◌, ◌<◌};
+ghost use Rattle.jobs.specs.Growth.{bytes_from, grow_limit, places_in};
 
 use poke_batch::ask::Ask;
 
-/// The steps for each byte of a list.
-const STEPS_FOR_BYTE: u64 = 256;
+/// The steps for each byte of a list, and for each place of a search.
+const STEPS_FOR_EACH: u64 = 256;
 
-/// The same request, with the limit of so many bytes if it grows: 256 steps for each, if that is more.
-pub fn grow_limit<'a>(ask: Ask<'a>, grows: bool, bytes: u64) -> Ask<'a>
-    ensures { result ≡ grow_limit grows bytes ask.entry }
+/// The same request, with the limit of so many bytes or places if it grows: 256 steps for each, if that is more.
+pub fn grow_limit<'a>(ask: Ask<'a>, grows: bool, count: u64) -> Ask<'a>
+    ensures { result ≡ grow_limit grows count ask.entry }
 {
     let limit = if grows {
-        ask.limit.max(STEPS_FOR_BYTE.saturating_mul(bytes))
+        ask.limit.max(STEPS_FOR_EACH.saturating_mul(count))
     } else {
         ask.limit
     };
@@ -24,4 +24,15 @@ pub fn bytes_from(bytes: u64, start: u64) -> u64
     ensures { result ≡ bytes_from bytes start }
 {
     bytes.saturating_sub(start / 8)
+}
+
+/// How many places there are from one on in so many bits, with `step` bits between two.
+pub fn places_in(bits: u64, step: u64) -> u64
+    requires { 0 < step }
+    ensures { result ≡ places_in bits step }
+{
+    match bits % step {
+        0 => bits / step,
+        _ => bits / step + 1,
+    }
 }

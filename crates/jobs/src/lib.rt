@@ -14,6 +14,7 @@ pub mod fault;
 pub mod file_run;
 mod formats;
 mod growth;
+mod hunted;
 pub mod identified;
 pub mod identify;
 pub mod installed;
@@ -28,6 +29,7 @@ pub mod run;
 pub mod settings;
 mod task;
 mod usage;
+mod value_search;
 pub mod why;
 
 pub use answers::report_in_json;

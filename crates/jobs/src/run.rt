@@ -3,7 +3,7 @@ ghost use Rattle.std.specs.Prelude.{◌≡◌, ◌≢◌};
 ghost use Rattle.jobs.specs.Aims.{of_mapping};
 ghost use Rattle.jobs.specs.Due.{DueOver, Holds};
 ghost use Rattle.jobs.specs.Given.{DueSettled, IsOverFiles};
-ghost use Rattle.jobs.specs.Jobs.{DueFile, DueMapping, DueRequest, HoldsJob};
+ghost use Rattle.jobs.specs.Jobs.{DueFile, DueMapping, DueRequest, DueUnnamed, HoldsJob};
 
 use crate::aside::Aside;
 use crate::by_head::{Chosen, choose, first_order};
@@ -12,6 +12,7 @@ use crate::each::map_each;
 use crate::ending::Ending;
 use crate::fault::FileFault;
 use crate::formats::list_formats;
+use crate::hunted::search_identified;
 use crate::identified::show_identified;
 use crate::identify::identify_each;
 use crate::one_file::map_file;
@@ -151,7 +152,7 @@ fn run_request<P: Opener, O: Write, A: Aside>(
         (O.contents out.old) (O.contents out.new) result }
 {
     let Some(word) = request.subject.pickle() else {
-        return show_identified(alloc, opener, request, out, why);
+        return run_unnamed(alloc, opener, request, out, why);
     };
     let pickle = opener.read_pickle(word)?;
     match choose(&request.subject, &pickle.bytes) {
@@ -160,6 +161,26 @@ fn run_request<P: Opener, O: Write, A: Aside>(
             run_settled(alloc, opener, request, &pickle, out, aside, why)
         }
         Err(missing) => Ok(refuse(why, word_of(&request.subject), missing)),
+    }
+}
+
+// Does what a request says that names no pickle.
+fn run_unnamed<P: Opener, O: Write>(
+    alloc: Global,
+    opener: &P,
+    request: &mut Request,
+    out: &mut O,
+    why: &mut Why<'_>,
+) -> Result<Ending, FileFault>
+    ensures { Holds (DueUnnamed (P.gives opener.now) why.old.asked request.old request.old.over)
+        (O.contents out.old) (O.contents out.new) result }
+{
+    match &request.over {
+        Over::Search { file, search } => {
+            let search = *search;
+            search_identified(alloc, opener, request, search, file, out, why)
+        }
+        _ => show_identified(alloc, opener, request, out, why),
     }
 }
 
@@ -226,6 +247,10 @@ fn map_over<P: Opener, O: Write, A: Aside>(
         }
         Over::Bytes(file) => {
             let task = Task::Copy;
+            do_in_file(alloc, opener, mapping, pickle, file, task, out, why)
+        }
+        Over::Search { file, search } => {
+            let task = Task::Search(*search, mapping.faults);
             do_in_file(alloc, opener, mapping, pickle, file, task, out, why)
         }
     }

@@ -1,4 +1,5 @@
-//! What is done with a file beside printing a value of it: its records are listed, or the bytes of a part are written.
+//! What is done with a file beside printing a value of it: its records are listed, the bytes of a part are written, or values
+//! are looked for.
 ghost use Rattle.std.specs.Prelude.{◌≡◌};
 ghost use Rattle.bit_space.specs.SpaceView.{Keeps};
 ghost use Rattle.jobs.specs.Aims.{of_mapping};
@@ -7,15 +8,17 @@ ghost use Rattle.jobs.specs.Tasks.{DoesTask, DoesTaskIn, DueTask, IsRunOf, task_
 
 use crate::ending::Ending;
 use crate::fault::FileFault;
-use crate::growth::{bytes_from, grow_limit};
+use crate::growth::{bytes_from, grow_limit, places_in};
 use crate::one_file::{tell_arguments, tell_start};
 use crate::opener::{NamedPickle, Opener};
 use crate::part_copy::copy_part;
 use crate::record_list::list_run;
 use crate::settings::Mapping;
+use crate::value_search::search_run;
 use crate::why::{Why, explain, explain_parts};
 use bit_space::{Paged, Space};
-use command_line::request::RecordList;
+use command_line::fault_form::FaultForm;
+use command_line::request::{RecordList, ValueSearch};
 use poke_batch::ask::Ask;
 use poke_batch::outcome::Outcome;
 use poke_batch::resolve::{refuse_parts, resolve};
@@ -33,6 +36,8 @@ pub enum Task {
     List(RecordList),
     /// The bytes that the requested part of a value takes are written.
     Copy,
+    /// The places in it at which the type has a value are written. Attempts that were given up are told in a form.
+    Search(ValueSearch, FaultForm),
 }
 
 impl Task {
@@ -44,6 +49,10 @@ impl Task {
         match self {
             Task::List(list) => grow_limit(ask, list.grows, bytes_from(bytes, ask.start)),
             Task::Copy => ask,
+            Task::Search(search, _) => {
+                let bits = (8 * bytes).saturating_sub(ask.start);
+                grow_limit(ask, search.grows, places_in(bits, search.step.max(1)))
+            }
         }
     }
 }
@@ -159,5 +168,6 @@ fn do_run<S: Space, O: Write>(
     match task {
         Task::List(list) => list_run(run, pickle, list, space, out, why),
         Task::Copy => copy_part(run, pickle, space, out, why),
+        Task::Search(search, faults) => search_run(run, search, faults, space, out, why),
     }
 }

@@ -38,7 +38,7 @@ pub fn explained_endings(asked: &Asked) -> Explained {
     };
     match (&request.over, &request.form) {
         (
-            Over::File(_) | Over::Bytes(_) | Over::Records { .. },
+            Over::File(_) | Over::Bytes(_) | Over::Records { .. } | Over::Search { .. },
             Form::Printed {
                 faults: FaultForm::Text,
                 ..

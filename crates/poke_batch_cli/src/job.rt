@@ -167,7 +167,10 @@ fn file_of(job: &Job) -> Option<&str> {
         Job::Map { file, .. }
         | Job::Request(
             Request {
-                over: Over::File(file) | Over::Bytes(file) | Over::Records { file, .. },
+                over: Over::File(file)
+                | Over::Bytes(file)
+                | Over::Records { file, .. }
+                | Over::Search { file, .. },
                 ..
             },
         )

@@ -231,7 +231,10 @@ fn show_help<E: Write>(alloc: Global, err: &mut E) -> Result<(), AllocError> {
 fn maps(rt: &HostRuntime) -> bool {
     match given_words(rt) {
         Ok(words) => match words.first() {
-            Some(first) => matches!(first.as_str(), "map" | "each" | "records" | "identify"),
+            Some(first) => matches!(
+                first.as_str(),
+                "map" | "each" | "records" | "find" | "identify"
+            ),
             None => false,
         },
         Err(_) => false,

@@ -12,3 +12,6 @@ returns-in-Records g c = rw c.in-Records.is (search rules)
 
 pub returns-in-Bytes : goal.returns-in-Bytes
 returns-in-Bytes g c = rw c.in-Bytes.is (search rules)
+
+pub returns-in-Search : goal.returns-in-Search
+returns-in-Search g c = rw c.in-Search.is (search rules)

@@ -15,8 +15,8 @@ returns-in_default g c =
     let none : pickle_of c.args.request.now.subject ≡ None =
     sym c.pickle.ensures ∙ ap (option_map (λ word. word.now)) c.in_default.is in
     subst (λ word. Holds (DueSubject (g.P.Opener.gives c.args.opener.now) c.args.why.now.asked c.args.request.now word)
-    (g.O.Write.contents c.args.out.now) (g.O.Write.contents c.show_identified.new.out) c.show_identified.result)
-    (sym none) c.show_identified.ensures
+    (g.O.Write.contents c.args.out.now) (g.O.Write.contents c.run_unnamed.new.out) c.run_unnamed.result)
+    (sym none) c.run_unnamed.ensures
 
 pub returns-in_err-pickle : goal.returns-in_err-pickle
 returns-in_err-pickle g c =

@@ -1,0 +1,42 @@
+use Rattle.std.proofs.Common.{◌≡◌, ◌∙◌, ◌*◌, ℕ, List, length, map, refl, sym, subst, arith}
+use Rattle.std.proofs.KnownBytes.{Keeps-refl}
+use Rattle.std.specs.List.{flat_map}
+use Rattle.jobs.specs.Hunted.{IsHuntAsk, no_list, quarries_in, quarry_of}
+use Rattle.jobs.proofs.Holding.{no_text}
+use Rattle.jobs.proofs.Hunts.{hunt_holds}
+use Rattle.searches.specs.declared.sought.Sought.{Sought}
+use Rattle.jobs.proofs.hunted.hunt_space.Goals as goal
+
+pub returns-in_default-clause-hunts : goal.returns-in_default-clause-hunts
+returns-in_default-clause-hunts g c = record {
+  after = g.S.Space.view c.args.space.now;
+  failures = omega arith;
+  holds = no_text _ _ _ _ no_list (Keeps-refl _);
+}
+
+pub returns-clause-hunts : goal.returns-clause-hunts
+returns-clause-hunts g c =
+    let request = c.args.request.now in
+    let file = g.S.Space.view c.args.space.now in
+    let same : c.len.result ≡ length c.deref.result.now =
+    c.len.ensures ∙ sym c.deref.ensures.len in
+    record {
+      after = g.S.Space.view c.search_types-searched.new.space;
+      failures = omega arith;
+      holds = hunt_holds request c.args.search c.args.formats.now c.args.start file _ _ _ _ _ _
+          (record {
+            types = subst
+                (λ (items : List Sought). map quarry_of items
+                ≡ flat_map (quarries_in request.order) c.args.formats.now.list.items)
+                (sym c.deref.ensures.value) c.in-Ok.ensures;
+            asks = subst
+                (λ (count : ℕ). IsHuntAsk request c.args.search count c.args.start (8 * file.len) c.hunt_ask.result)
+                same
+                (subst
+                (λ (len : ℕ). IsHuntAsk request c.args.search c.len.result c.args.start (8 * len) c.hunt_ask.result)
+                c.len-2.ensures c.hunt_ask.ensures);
+            terms = refl;
+            searches = c.search_of.ensures;
+          })
+          c.search_types-searched.ensures.writes;
+    }
