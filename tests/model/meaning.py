@@ -1,6 +1,7 @@
 """What a mapping means: the rules of docs/LANGUAGE.md once more, without the program's code or its definitions.
 
-`mapped` returns the printed value or fault that a type has at a bit of a file, and its steps.
+`mapped` returns the printed value or fault that a type has at a bit of a file, and its steps. `listed` returns the records of a
+type, and `searched` the places at which it has a value.
 """
 from dataclasses import dataclass, field
 from math import gcd
@@ -462,6 +463,32 @@ def text_of(value):
     return f"{value.name or value.kind} {{{','.join(parts)}}}"
 
 
+def json_of(value):
+    if value.kind == "number":
+        number = value.content
+        return f'{{"magnitude":{number.value},"unit":{number.unit}}}' if number.unit else str(number.value)
+    if value.kind == "string":
+        plain_or_not = (ESCAPES.get(it) or (chr(it) if 0x20 <= it <= 0x7E else f"\\u{it:04x}") for it in value.content)
+        return f'"{"".join(plain_or_not)}"'
+    if value.kind == "array":
+        return f"[{','.join(map(json_of, value.content))}]"
+    parts = (f'"{name or place}":{json_of(it)}' for place, (name, it) in enumerate(value.content) if it)
+    return f"{{{','.join(parts)}}}"
+
+
+def part_of(value, steps):
+    """The part to which steps lead: the name or the place of a field, or the place of an element. None if there is none."""
+    for step in steps:
+        if value.kind == "array":
+            value = value.content[step] if step < len(value.content) else None
+        else:
+            found = (it for place, (name, it) in enumerate(value.content) if step in (name, place))
+            value = next(found, None)
+        if value is None:
+            return None
+    return value
+
+
 def mapped(of, order, start, file):
     """Whether the type has a value there, the printed value or the fault's line, and its steps."""
     mapping = Mapping("".join(f"{byte:08b}" for byte in file))
@@ -493,3 +520,75 @@ def listed(of, order, start, file, limit, omit, most, any_end):
             texts.append(text_of(value))
         place, count, left = value.end, count + 1, left - mapping.counts.steps - 1
     return texts, "", place, count
+
+
+@dataclass
+class Search:
+    """How a type is looked for: the bits from one start to the next, the steps of an attempt and of all, and how many values."""
+
+    step: int
+    attempt_limit: int
+    limit: int
+    count: int | None
+    apart: bool
+
+
+@dataclass
+class Attempts:
+    """The attempts to map a type over a file: the value or None, the fault's kind, and the steps, by their starts."""
+
+    of: object
+    order: str
+    bits: str
+    known: dict = field(default_factory=dict)
+
+    def at(self, start):
+        if start not in self.known:
+            mapping = Mapping(self.bits)
+            try:
+                value, kind = mapping.value(self.of, self.order, [], start), ""
+            except Fault as fault:
+                value, kind = None, fault.kind
+            self.known[start] = value, kind, mapping.counts.steps
+        return self.known[start]
+
+
+@dataclass
+class Found:
+    """What a search found: the values, the line of its end, the attempts that were given up, and the steps of all."""
+
+    values: list = field(default_factory=list)
+    line: str = ""
+    given_up: list = field(default_factory=list)
+    steps: int = 0
+
+    def ended(self, line):
+        self.line = line
+        return self
+
+
+def searched(attempts, start, search, is_printed):
+    """Looks for values from a bit on, up to one that can't be printed."""
+    found, end = Found(), len(attempts.bits)
+    if start > end:
+        return found.ended(f"fault End at {start}#b")
+    while start < end and len(found.values) != search.count:
+        value, _, steps = attempts.at(start)
+        left = search.limit - found.steps
+        if steps > min(left, search.attempt_limit):
+            if search.attempt_limit > left:
+                return found.ended(f"fault Limit at {start}#b")
+            value, steps = None, search.attempt_limit
+            found.given_up.append(start)
+        if value and not is_printed(value):
+            return found.ended("fault NoSuchPart")
+        found.values += [value] if value else []
+        found.steps += steps
+        goal = value.end if value and search.apart else start
+        while True:
+            start += search.step
+            if start >= goal:
+                break
+    if found.given_up:
+        return found.ended(f"fault Attempts at {found.given_up[0]}#b count {len(found.given_up)}")
+    return found.ended("fault NotFound" if not found.values and search.count != 0 else "")

@@ -25,4 +25,6 @@ mod record_lists;
 #[cfg(test)]
 mod twice;
 #[cfg(test)]
+mod value_searches;
+#[cfg(test)]
 mod words;
