@@ -9,6 +9,7 @@ _poke_batch_options_of() {
         show) echo '--at --byte --length --inside --endian --limit --whole --max-output --slots --get --spool --progress --absent --numbers --chars --elements --depth --sizes --bytes --color --help' ;;
         each) echo '--at --byte --length --inside --endian --limit --whole --max-output --slots --get --spool --progress --absent --mode --numbers --chars --elements --faults --why --flush --files0-from --help' ;;
         records) echo '--at --byte --length --endian --limit --slots --get --spool --progress --absent --count --omit --any-end --report-end --mode --numbers --chars --elements --faults --why --flush --help' ;;
+        find) echo '--at --byte --length --endian --slots --get --spool --progress --absent --step --apart --count --attempt-limit --limit --mode --numbers --chars --elements --faults --why --flush --help' ;;
         identify) echo '--spool --progress --all --in --byte --length --mode --faults --why --flush --files0-from --help' ;;
         bound) echo '--text --tight --mode --numbers --chars --elements --why --help' ;;
         check) echo '--mode --why --help' ;;
@@ -21,20 +22,20 @@ _poke_batch_options_of() {
 
 # Whether an option has a value.
 _poke_batch_takes_value_of() {
-    [[ $1 =~ ^(--(at|byte|length|endian|limit|max-output|slots|get|spool|rows|absent|count|omit|in|mode|numbers|chars|elements|faults|depth|parts|color|files0-from|from|size|skip)|-[sn])$ ]]
+    [[ $1 =~ ^(--(at|byte|length|endian|limit|max-output|slots|get|spool|rows|absent|count|omit|step|attempt-limit|in|mode|numbers|chars|elements|faults|depth|parts|color|files0-from|from|size|skip)|-[sn])$ ]]
 }
 
 # The words that an option of a command accepts, if it is a choice.
 _poke_batch_words_of() {
     case $1/$2 in
-        map/--endian | show/--endian | each/--endian | records/--endian) echo 'big little' ;;
-        map/--absent | show/--absent | each/--absent | records/--absent) echo 'fault empty' ;;
+        map/--endian | show/--endian | each/--endian | records/--endian | find/--endian) echo 'big little' ;;
+        map/--absent | show/--absent | each/--absent | records/--absent | find/--absent) echo 'fault empty' ;;
         map/--mode) echo 'flat tree json lines raw' ;;
         records/--mode | bound/--mode) echo 'flat tree json lines' ;;
-        each/--mode) echo 'flat json' ;;
-        check/--mode | types/--mode | formats/--mode | identify/--mode | map/--faults | each/--faults | records/--faults | identify/--faults) echo 'text json' ;;
-        map/--numbers | show/--numbers | each/--numbers | records/--numbers | bound/--numbers) echo 'decimal hex digits' ;;
-        map/--chars | show/--chars | each/--chars | records/--chars | bound/--chars) echo 'numbers text' ;;
+        find/--mode | each/--mode) echo 'flat json' ;;
+        check/--mode | types/--mode | formats/--mode | identify/--mode | map/--faults | each/--faults | records/--faults | find/--faults | identify/--faults) echo 'text json' ;;
+        map/--numbers | show/--numbers | each/--numbers | records/--numbers | find/--numbers | bound/--numbers) echo 'decimal hex digits' ;;
+        map/--chars | show/--chars | each/--chars | records/--chars | find/--chars | bound/--chars) echo 'numbers text' ;;
         show/--color) echo 'auto always never' ;;
     esac
 }
@@ -42,7 +43,7 @@ _poke_batch_words_of() {
 # What the value of another option is.
 _poke_batch_kind_of() {
     case $1 in
-        --at | --from | --size) echo 'offset' ;;
+        --at | --step | --from | --size) echo 'offset' ;;
         --in | --files0-from) echo 'file' ;;
     esac
 }
@@ -51,16 +52,16 @@ _poke_batch_kind_of() {
 _poke_batch_place_of() {
     case $1/$2 in
         map/0 | each/0 | records/0 | bound/0 | check/0 | types/0) echo 'pickle' ;;
-        map/1 | show/1 | each/1 | records/1 | bound/1) echo 'type' ;;
-        map/2 | show/2 | each/* | records/2 | identify/* | dump/0) echo 'file' ;;
-        show/0) echo 'pickle_or_file' ;;
+        map/1 | show/1 | each/1 | records/1 | find/1 | bound/1) echo 'type' ;;
+        map/2 | show/2 | each/* | records/2 | find/2 | identify/* | dump/0) echo 'file' ;;
+        show/0 | find/0) echo 'pickle_or_file' ;;
         bound/2) echo 'bits' ;;
     esac
 }
 
 # The commands.
 _poke_batch_commands_of() {
-    echo 'map show each records identify bound check types formats dump help'
+    echo 'map show each records find identify bound check types formats dump help'
 }
 # tools/options: end
 
