@@ -1,6 +1,6 @@
 //! Searches for the values of a type, row by row.
 
-use bit_space::{MemSpace, Order};
+use bit_space::{MemSpace, Order, Space};
 use command_line::path::read_path;
 use command_line::terms::Terms;
 use pickle_types::Table;
@@ -10,6 +10,7 @@ use poke_batch::{Ask, Mode};
 use searches::{Search, Searched, search_values};
 use std::alloc::{AllocError, Global};
 use std::test::Fail;
+use tests_kit::devices::Failing;
 
 const PICKLE: &str = "type One = struct { byte v : v != 0; };\n\
     type Text = struct { byte n : n < 9; byte[n] letters; };\n\
@@ -107,6 +108,17 @@ fn bytes_in(alloc: Global, word: &str) -> Result<Vec<u8>, AllocError> {
 
 // Searches as a row says, and returns what is printed and how the search ends.
 fn search(alloc: Global, table: &Table, row: &Row<'_>) -> Result<(Vec<u8>, Searched), Fail> {
+    let mut space = MemSpace::new(bytes_in(alloc, row.bytes)?)?;
+    search_in(alloc, table, row, &mut space)
+}
+
+// The same in a space.
+fn search_in<S: Space>(
+    alloc: Global,
+    table: &Table,
+    row: &Row<'_>,
+    space: &mut S,
+) -> Result<(Vec<u8>, Searched), Fail> {
     let id = table.find(row.name.as_bytes()).ok_or("no type")?;
     let ask = Ask {
         name: row.name.as_bytes(),
@@ -126,12 +138,11 @@ fn search(alloc: Global, table: &Table, row: &Row<'_>) -> Result<(Vec<u8>, Searc
         ask: &ask,
         terms: &terms,
     };
-    let mut space = MemSpace::new(bytes_in(alloc, row.bytes)?)?;
     let mut out = Vec::new(alloc);
     if row.search.step == 0 {
         return Err(Fail::from("no step"));
     }
-    let ended = search_values(&run, row.search, &mut space, &mut out);
+    let ended = search_values(&run, row.search, space, &mut out);
     Ok((out, ended))
 }
 
@@ -153,13 +164,36 @@ fn answer(alloc: Global, out: &[u8], ended: Searched) -> Result<String, Fail> {
     )?)
 }
 
+fn table_of(alloc: Global) -> Result<Table, Fail> {
+    match accept(alloc, PICKLE.as_bytes()) {
+        Ok(table) => Ok(table),
+        Err(refusal) => Err(Fail::from(refusal)),
+    }
+}
+
+#[test]
+fn keeps_its_lines_at_a_failing_read(rt: HostRuntime) -> Result<(), Fail> {
+    let alloc = rt.alloc();
+    let table = table_of(alloc)?;
+    let row = row_of("One 1,2,3 0 100 8 50 - no - flat").ok_or("no row")?;
+    let file = bytes_in(alloc, row.bytes)?;
+    for (failing, wanted) in [
+        (1, "fault Device 0 0 100 None"),
+        (2, "0x0\t0x1;fault Device 8 1 94 None"),
+        (3, "0x0\t0x1;0x1\t0x1;fault Device 16 2 88 None"),
+        (4, "0x0\t0x1;0x1\t0x1;0x2\t0x1;done 24 3 82 None"),
+    ] {
+        let mut space = Failing::new(&file, failing)?;
+        let (out, ended) = search_in(alloc, &table, &row, &mut space)?;
+        assert_eq!(rt; answer(alloc, &out, ended)?.as_str(), wanted, "{failing}");
+    }
+    Ok(())
+}
+
 #[test]
 fn searches_values(rt: HostRuntime) -> Result<(), Fail> {
     let alloc = rt.alloc();
-    let table = match accept(alloc, PICKLE.as_bytes()) {
-        Ok(table) => table,
-        Err(refusal) => return Err(Fail::from(refusal)),
-    };
+    let table = table_of(alloc)?;
     for line in ROWS.lines() {
         let (given, wanted) = line.split_once(" | ").ok_or("no end")?;
         let row = row_of(given).ok_or("no row")?;
