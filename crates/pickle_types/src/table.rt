@@ -20,7 +20,7 @@ use crate::predeclared::PREDECLARED;
 use pickle_tree::tree::Pickle;
 use std::alloc::Global;
 
-/// A type of a table. `Table::find` alone makes one.
+/// A type of a table. `Table::find` and `Table::type_at` alone make one.
 #[derive(Clone, Copy, PartialEq, Eq, Debug)]
 pub struct TypeId {
     pub(crate) node: usize,
@@ -97,6 +97,20 @@ impl Table {
                 node: declared.node,
             }),
             None => None,
+        }
+    }
+
+    /// The type whose node is at a place, such as that of a field or of an array's elements. None where the table has no
+    /// node there.
+    pub fn type_at(&self, node: usize) -> Option<TypeId>
+        ensures node { IfSome result (λ (id : TypeId). id.node ≡ node) }
+        ensures inside { IfSome result (IsInTable self.now) }
+        ensures none { result ≡ None → length self.now.nodes.items ≤ node }
+    {
+        if node < self.nodes.len() {
+            Some(TypeId { node })
+        } else {
+            None
         }
     }
 
