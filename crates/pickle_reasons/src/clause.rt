@@ -50,12 +50,12 @@ pub struct Declared<'a, 't> {
 
 impl Declared<'_, '_> {
     /// What is wrong with the declaration.
-    pub fn kind(self) -> FaultKind {
+    pub fn kind(&self) -> FaultKind {
         self.refused.fault.kind
     }
 
     /// The name that is declared.
-    pub fn name(self) -> TokenRange {
+    pub fn name(&self) -> TokenRange {
         TokenRange::single(self.whole.first.saturating_add(1))
     }
 }
@@ -63,7 +63,7 @@ impl Declared<'_, '_> {
 /// An expression that is refused, the types of its operands, and the clause that it is in.
 #[derive(Clone, Copy)]
 pub struct IllTypedExpression<'a, 't> {
-    pub declared: Declared<'a, 't>,
+    pub declared: &'a Declared<'a, 't>,
     pub clause: TokenRange,
     pub part: TokenRange,
     pub types: OperandTypes,
@@ -71,7 +71,7 @@ pub struct IllTypedExpression<'a, 't> {
 
 /// What is wrong with the expression of a clause. `clause` has its tokens.
 pub fn clause_finding(
-    declared: Declared<'_, '_>,
+    declared: &Declared<'_, '_>,
     purpose: Purpose,
     clause: TokenRange,
     expression: &Expression<'_>,
@@ -98,7 +98,7 @@ pub fn clause_finding(
 
 /// The finding for a whole expression that doesn't serve its purpose.
 fn whole(
-    declared: Declared<'_, '_>,
+    declared: &Declared<'_, '_>,
     purpose: Purpose,
     part: TokenRange,
     found: OperandType,
@@ -200,7 +200,7 @@ pub struct Operands {
 
 impl<'a, 't> IllTypedExpression<'a, 't> {
     /// What is wrong with an expression whose operands have no fault.
-    fn of_node(self, node: PlacedExpression<'_, '_>) -> Result<Finding, AllocError> {
+    fn of_node(&self, node: PlacedExpression<'_, '_>) -> Result<Finding, AllocError> {
         match node.expression {
             Expression::Name(word) => self.unknown_name(word),
             Expression::Infix(operation) => self.infix(operation),
@@ -224,28 +224,28 @@ impl<'a, 't> IllTypedExpression<'a, 't> {
     }
 
     /// An empty text.
-    pub fn text(self) -> Text {
+    pub fn text(&self) -> Text {
         Text::new(self.declared.alloc)
     }
 
     /// The tokens of the pickle.
-    pub fn script(self) -> &'a Script<'t> {
+    pub fn script(&self) -> &'a Script<'t> {
         self.declared.script
     }
 
     /// What is wrong with the expression.
-    fn kind(self) -> FaultKind {
+    fn kind(&self) -> FaultKind {
         self.declared.kind()
     }
 
     /// The type of the only operand, or of the first one.
-    pub fn operand_type(self) -> Option<OperandType> {
+    pub fn operand_type(&self) -> Option<OperandType> {
         self.types.first
     }
 
     /// A sentence about some tokens.
     pub fn finding(
-        self,
+        &self,
         part: TokenRange,
         text: Text,
         help: Option<Text>,
@@ -254,22 +254,22 @@ impl<'a, 't> IllTypedExpression<'a, 't> {
     }
 
     /// A sentence of these words. In them `$0` to `$9` represent the parts.
-    pub fn sentence(self, words: &[u8], parts: &[Part<'_>]) -> Result<Text, AllocError> {
+    pub fn sentence(&self, words: &[u8], parts: &[Part<'_>]) -> Result<Text, AllocError> {
         sentence(self.declared.alloc, words, parts)
     }
 
     /// Some tokens as the pickle has them, in a sentence.
-    pub fn word(self, part: TokenRange) -> Part<'t> {
+    pub fn word(&self, part: TokenRange) -> Part<'t> {
         Part::Word(self.script().slice(part))
     }
 
     /// All of some tokens as the pickle has them, in a sentence.
-    pub fn whole(self, part: TokenRange) -> Part<'t> {
+    pub fn whole(&self, part: TokenRange) -> Part<'t> {
         Part::Whole(self.script().slice(part))
     }
 
     /// `count` tokens, the first of them `behind` tokens after this expression's first.
-    fn tokens(self, behind: usize, count: usize) -> TokenRange {
+    fn tokens(&self, behind: usize, count: usize) -> TokenRange {
         let first = self.part.first.saturating_add(behind);
         TokenRange {
             first,
@@ -278,7 +278,7 @@ impl<'a, 't> IllTypedExpression<'a, 't> {
     }
 
     /// The tokens from the one `behind` tokens after the first on, up to the expression's end.
-    fn rest(self, behind: usize) -> TokenRange {
+    fn rest(&self, behind: usize) -> TokenRange {
         TokenRange {
             first: self.part.first.saturating_add(behind),
             end: self.part.end,
@@ -286,7 +286,7 @@ impl<'a, 't> IllTypedExpression<'a, 't> {
     }
 
     /// The finding for an operator between two operands that it rejects.
-    fn infix(self, operation: &Operation<'_>) -> Result<Finding, AllocError> {
+    fn infix(&self, operation: &Operation<'_>) -> Result<Finding, AllocError> {
         let count = token_count(&operation.left);
         let sign = self.tokens(count, 1);
         let OperandTypes { first, second, .. } = self.types;
@@ -304,7 +304,7 @@ impl<'a, 't> IllTypedExpression<'a, 't> {
 
     /// What to write instead of an operator between two operands that it rejects.
     fn infix_help(
-        self,
+        &self,
         operands: Operands,
         operation: &Operation<'_>,
     ) -> Result<Option<Text>, AllocError> {
@@ -353,7 +353,7 @@ impl<'a, 't> IllTypedExpression<'a, 't> {
     }
 
     /// The help for a struct where its size is meant.
-    fn size_help(self, operands: Operands) -> Result<Text, AllocError> {
+    fn size_help(&self, operands: Operands) -> Result<Text, AllocError> {
         let left = match self.operand_type() {
             Some(OperandType::Integer(_)) => {
                 with_unit(self.declared.alloc, self.script(), operands.left)?
@@ -370,7 +370,7 @@ impl<'a, 't> IllTypedExpression<'a, 't> {
         )
     }
 
-    fn prefix(self) -> Result<Finding, AllocError> {
+    fn prefix(&self) -> Result<Finding, AllocError> {
         let sign = self.tokens(0, 1);
         let found = Part::Type(self.operand_type());
         let text = self.sentence(b"`$0` before $1", &[self.word(sign), found])?;
@@ -380,7 +380,7 @@ impl<'a, 't> IllTypedExpression<'a, 't> {
         self.finding(sign, text, Some(help))
     }
 
-    fn index(self, operand: &Expression<'_>) -> Result<Finding, AllocError> {
+    fn index(&self, operand: &Expression<'_>) -> Result<Finding, AllocError> {
         let count = token_count(operand);
         let OperandTypes {
             first: array,
@@ -403,7 +403,7 @@ impl<'a, 't> IllTypedExpression<'a, 't> {
         self.finding(self.rest(count), text, self.element_help()?)
     }
 
-    fn choice(self, condition: &Expression<'_>) -> Result<Finding, AllocError> {
+    fn choice(&self, condition: &Expression<'_>) -> Result<Finding, AllocError> {
         let OperandTypes {
             first: found,
             second: yes,
@@ -425,7 +425,7 @@ impl<'a, 't> IllTypedExpression<'a, 't> {
         self.finding(self.part, text, Some(help))
     }
 
-    fn after(self, inner: &Expression<'_>, suffix: &Suffix<'_>) -> Result<Finding, AllocError> {
+    fn after(&self, inner: &Expression<'_>, suffix: &Suffix<'_>) -> Result<Finding, AllocError> {
         let count = token_count(inner);
         let operand = self.tokens(0, count);
         match suffix {
@@ -450,7 +450,7 @@ impl<'a, 't> IllTypedExpression<'a, 't> {
 
     /// The finding for a suffix of an operand. `words` have the operand, and what it is.
     fn operand_is(
-        self,
+        &self,
         words: &[u8],
         operand: TokenRange,
         help: Option<Text>,
@@ -464,7 +464,7 @@ impl<'a, 't> IllTypedExpression<'a, 't> {
         self.finding(suffix, text, help)
     }
 
-    fn conversion(self, operand: TokenRange) -> Result<Finding, AllocError> {
+    fn conversion(&self, operand: TokenRange) -> Result<Finding, AllocError> {
         let target = TokenRange {
             first: operand.end.saturating_add(1),
             end: self.part.end,

@@ -14,7 +14,7 @@ const MOST_LETTERS: usize = 8;
 impl<'a, 't> IllTypedExpression<'a, 't> {
     /// What to write instead of a text after `==` or `!=`, where an array or a number of as many bytes is before it.
     /// `None` for other operands, and for a long text or one with escapes.
-    pub fn letters_help(self, operands: Operands) -> Result<Option<Text>, AllocError> {
+    pub fn letters_help(&self, operands: Operands) -> Result<Option<Text>, AllocError> {
         let OperandTypes { first, second, .. } = self.types;
         let joint: &[u8] = match self.script().slice(operands.sign) {
             b"==" => b" && ",
@@ -42,7 +42,7 @@ impl<'a, 't> IllTypedExpression<'a, 't> {
 
     /// The help for an array: the comparisons of its elements.
     fn elements_help(
-        self,
+        &self,
         operands: Operands,
         letters: &[u8],
         joint: &[u8],
@@ -66,7 +66,7 @@ impl<'a, 't> IllTypedExpression<'a, 't> {
     }
 
     /// Whether the field of a name is an array of strings.
-    fn has_strings(self, array: TokenRange) -> bool {
+    fn has_strings(&self, array: TokenRange) -> bool {
         let script = self.script();
         let word = script.slice(array);
         (self.declared.whole.first..self.clause.first).any(|token| script.text(token) == word
@@ -75,7 +75,7 @@ impl<'a, 't> IllTypedExpression<'a, 't> {
     }
 
     /// The help for an array of strings: the comparison of its first element.
-    fn strings_help(self, operands: Operands) -> Result<Text, AllocError> {
+    fn strings_help(&self, operands: Operands) -> Result<Text, AllocError> {
         self.sentence(
             b"its elements are strings: write `$0[0] $1 $2`, or for one string `string $0`",
             &[
@@ -87,7 +87,7 @@ impl<'a, 't> IllTypedExpression<'a, 't> {
     }
 
     /// The help for an integer: a character, or the number of so many bytes.
-    fn number_help(self, letters: &[u8]) -> Result<Text, AllocError> {
+    fn number_help(&self, letters: &[u8]) -> Result<Text, AllocError> {
         match letters {
             [_] => {
                 let words = b"one byte is a character: write `'$0'`";

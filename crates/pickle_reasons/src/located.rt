@@ -41,7 +41,7 @@ impl<'p, 't> Located<'p, 't> {
         Some(located)
     }
 
-    fn part(self, script: &Script<'_>, step: TypeStep) -> Option<Located<'p, 't>> {
+    fn part(&self, script: &Script<'_>, step: TypeStep) -> Option<Located<'p, 't>> {
         match (step, self.form) {
             (TypeStep::Element, Form::Array(element, _)) => Some(Located {
                 form: element,
@@ -57,7 +57,7 @@ impl<'p, 't> Located<'p, 't> {
     }
 
     fn field_at(
-        self,
+        &self,
         script: &Script<'_>,
         field: &'p Field<'t>,
         place: usize,
@@ -78,7 +78,7 @@ impl<'p, 't> Located<'p, 't> {
 
     /// The tokens of the refused expression, and the expression. `None` where no expression is refused.
     pub fn expression(
-        self,
+        &self,
         script: &Script<'_>,
         part: RefusedPart,
     ) -> Option<(TokenRange, &'p Expression<'t>)> {

@@ -15,7 +15,7 @@ const MOST_TYPES: usize = 16;
 impl<'a, 't> IllTypedExpression<'a, 't> {
     /// The help for a name that a field of an earlier field has: its path. `visible` has the names of the fields that are
     /// seen. Each type is looked at once.
-    pub fn member_help(self, word: &[u8], visible: &[&[u8]]) -> Result<Option<Text>, AllocError> {
+    pub fn member_help(&self, word: &[u8], visible: &[&[u8]]) -> Result<Option<Text>, AllocError> {
         let script = self.script();
         let mut looked: Vec<usize> = Vec::new(self.declared.alloc);
         for token in self.declared.whole.first..self.part.first {

@@ -49,7 +49,7 @@ fn ends_type(script: &Script<'_>, token: usize) -> bool {
 
 impl<'a, 't> IllTypedExpression<'a, 't> {
     /// The finding for a name that no visible field has.
-    pub fn unknown_name(self, word: &[u8]) -> Result<Finding, AllocError> {
+    pub fn unknown_name(&self, word: &[u8]) -> Result<Finding, AllocError> {
         let alloc = self.declared.alloc;
         let visible = self.declared.refused.visible_names(alloc)?;
         let text = self.sentence(b"no field `$0` is seen here", &[Part::Word(word)])?;
@@ -63,7 +63,7 @@ impl<'a, 't> IllTypedExpression<'a, 't> {
 
     /// The finding for a name that no field of an operand has. `path` says whether the operand is a path.
     pub fn unknown_field(
-        self,
+        &self,
         operand: TokenRange,
         path: bool,
         word: &[u8],
@@ -92,7 +92,7 @@ impl<'a, 't> IllTypedExpression<'a, 't> {
 
     /// The help for `.length` of an array and `.size` of a path.
     fn attribute_help(
-        self,
+        &self,
         operand: TokenRange,
         path: bool,
         word: &[u8],
@@ -109,7 +109,7 @@ impl<'a, 't> IllTypedExpression<'a, 't> {
     }
 
     /// The tokens of the declaration before the expression.
-    fn before(self) -> TokenRange {
+    fn before(&self) -> TokenRange {
         TokenRange {
             first: self.declared.whole.first,
             end: self.part.first,
@@ -118,7 +118,7 @@ impl<'a, 't> IllTypedExpression<'a, 't> {
 
     /// Adds to the text the nearest of some names or, if none is near, the first of them.
     fn say_names(
-        self,
+        &self,
         text: Text,
         word: &[u8],
         seen: &[&[u8]],
@@ -138,7 +138,7 @@ impl<'a, 't> IllTypedExpression<'a, 't> {
     }
 
     /// The help for a name that is later in the declaration, or that is the field's own.
-    fn later_help(self, word: &[u8], visible: &[&[u8]]) -> Result<Option<Text>, AllocError> {
+    fn later_help(&self, word: &[u8], visible: &[&[u8]]) -> Result<Option<Text>, AllocError> {
         if self.is_own(word) {
             return Ok(Some(
                 self.text().say(
@@ -163,7 +163,7 @@ impl<'a, 't> IllTypedExpression<'a, 't> {
     }
 
     /// The help for a field inside an earlier field, which is among the visible ones if it has a name.
-    fn closed_help(self, word: &[u8], visible: &[&[u8]]) -> Result<Option<Text>, AllocError> {
+    fn closed_help(&self, word: &[u8], visible: &[&[u8]]) -> Result<Option<Text>, AllocError> {
         let before = self.before();
         let Some(token) = (before.first..before.end).find(|token| self.script().text(*token) == word
             && is_field(self.script(), *token)) else {
@@ -185,7 +185,7 @@ impl<'a, 't> IllTypedExpression<'a, 't> {
     }
 
     /// The help for a field of a type that uses this one. `end` is the end of this declaration.
-    fn user_help(self, word: &[u8], end: usize) -> Result<Option<Text>, AllocError> {
+    fn user_help(&self, word: &[u8], end: usize) -> Result<Option<Text>, AllocError> {
         let own = self.before().first.saturating_add(1);
         let Some(token) = (end..self.script().len()).find(|token| self.script().text(*token) == word
             && is_field(self.script(), *token)) else {
@@ -204,7 +204,7 @@ impl<'a, 't> IllTypedExpression<'a, 't> {
     }
 
     /// Whether a name is that of the field with the expression: it is before a sign of the field, or after the bound.
-    fn is_own(self, word: &[u8]) -> bool {
+    fn is_own(&self, word: &[u8]) -> bool {
         let first = opening(self.script(), self.clause.first);
         let behind = self.clause.end.saturating_add(1);
         let bracket = self.script().text(self.clause.end) == b"]".as_slice();
@@ -213,13 +213,13 @@ impl<'a, 't> IllTypedExpression<'a, 't> {
     }
 
     /// Whether a token is a name before a sign of its field.
-    fn is_named(self, token: usize, word: &[u8]) -> bool {
+    fn is_named(&self, token: usize, word: &[u8]) -> bool {
         let next = self.script().text(token.saturating_add(1));
         self.script().text(token) == word && matches!(next, b":" | b"@" | b"if")
     }
 
     /// Adds to the text what the type of an operand is called: the name of its field's type, or the operand itself.
-    fn say_type_name(self, text: Text, operand: TokenRange) -> Result<Text, AllocError> {
+    fn say_type_name(&self, text: Text, operand: TokenRange) -> Result<Text, AllocError> {
         match self.type_name(operand) {
             Some(name) => text.show(name),
             None => text.quote(self.script().slice(operand)),
@@ -227,7 +227,7 @@ impl<'a, 't> IllTypedExpression<'a, 't> {
     }
 
     /// The name of the type of the field that an operand names, if it has one.
-    fn type_name(self, operand: TokenRange) -> Option<&'t [u8]> {
+    fn type_name(&self, operand: TokenRange) -> Option<&'t [u8]> {
         let word = self.script().slice(operand);
         for back in 1..self.part.first {
             let token = self.part.first - back;

@@ -67,7 +67,7 @@ fn multiple_of(mask: u64) -> Option<usize> {
 
 impl<'a, 't> IllTypedExpression<'a, 't> {
     /// What to write for an offset beside an integer.
-    pub fn mixed_help(self, mixed: Mixed<'_, '_>) -> Result<Text, AllocError> {
+    pub fn mixed_help(&self, mixed: Mixed<'_, '_>) -> Result<Text, AllocError> {
         match self.script().slice(mixed.sign) {
             b"&&" | b"||" => self.truth_of_offset(mixed),
             b"&" => match Mask::of(mixed.number) {
@@ -83,7 +83,7 @@ impl<'a, 't> IllTypedExpression<'a, 't> {
     }
 
     /// The offset and the mask in `n & 3 == 0#B`, where the mask alone is compared. `None` for other operands.
-    fn masked_offset(self, mixed: Mixed<'_, '_>, sign: &[u8]) -> Option<(TokenRange, Mask)> {
+    fn masked_offset(&self, mixed: Mixed<'_, '_>, sign: &[u8]) -> Option<(TokenRange, Mask)> {
         let compares = matches!(sign, b"==" | b"!=") && mixed.integer.first == self.part.first;
         if !compares || self.script().text_before(self.part.first) != b"&".as_slice() {
             return None;
@@ -101,7 +101,7 @@ impl<'a, 't> IllTypedExpression<'a, 't> {
 
     /// The help for an offset whose lowest bits are wanted.
     fn multiple_help(
-        self,
+        &self,
         mixed: Mixed<'_, '_>,
         offset: TokenRange,
         mask: Mask,
@@ -124,7 +124,7 @@ impl<'a, 't> IllTypedExpression<'a, 't> {
     }
 
     /// The help for an offset whose number of bytes is wanted.
-    fn number_of_bytes(self, mixed: Mixed<'_, '_>) -> Result<Text, AllocError> {
+    fn number_of_bytes(&self, mixed: Mixed<'_, '_>) -> Result<Text, AllocError> {
         let offset = group_operand(self.declared.alloc, self.script(), mixed.offset)?;
         self.sentence(
             b"`$0` works on integers: write `$1 / 1#B` for the number of bytes",
@@ -133,13 +133,13 @@ impl<'a, 't> IllTypedExpression<'a, 't> {
     }
 
     /// The help for an offset as a condition.
-    fn truth_of_offset(self, mixed: Mixed<'_, '_>) -> Result<Text, AllocError> {
+    fn truth_of_offset(&self, mixed: Mixed<'_, '_>) -> Result<Text, AllocError> {
         let words = b"`$0` works on integers: write `$1 != 0#B`";
         self.sentence(words, &[self.word(mixed.sign), self.whole(mixed.offset)])
     }
 
     /// The help for an integer that should be an offset.
-    fn unit_help(self, integer: TokenRange) -> Result<Text, AllocError> {
+    fn unit_help(&self, integer: TokenRange) -> Result<Text, AllocError> {
         let written = with_unit(self.declared.alloc, self.script(), integer)?;
         let words = b"an integer has no unit: write `$0` for bytes";
         self.sentence(words, &[Part::Word(written.as_slice())])

@@ -8,7 +8,7 @@ use std::alloc::AllocError;
 
 impl<'a, 't> IllTypedExpression<'a, 't> {
     /// The help for the length of a string: its bytes without the final 0.
-    pub fn length_help(self, operand: TokenRange) -> Result<Option<Text>, AllocError> {
+    pub fn length_help(&self, operand: TokenRange) -> Result<Option<Text>, AllocError> {
         if self.operand_type() != Some(OperandType::String) {
             return Ok(None);
         }
@@ -19,7 +19,7 @@ impl<'a, 't> IllTypedExpression<'a, 't> {
     }
 
     /// The help for an element of a string.
-    pub fn element_help(self) -> Result<Option<Text>, AllocError> {
+    pub fn element_help(&self) -> Result<Option<Text>, AllocError> {
         if self.operand_type() != Some(OperandType::String) {
             return Ok(None);
         }

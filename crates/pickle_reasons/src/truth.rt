@@ -6,7 +6,7 @@ use std::alloc::AllocError;
 
 impl<'a, 't> IllTypedExpression<'a, 't> {
     /// What to write for a truth value, together with the sign before it if that compares. `None` for other words.
-    pub fn truth_help(self, word: &[u8]) -> Result<Option<Text>, AllocError> {
+    pub fn truth_help(&self, word: &[u8]) -> Result<Option<Text>, AllocError> {
         let Some(holds) = truth_of(word) else {
             return Ok(None);
         };

@@ -71,7 +71,7 @@ fn refused_finding<'a, 't>(
     whole: TokenRange,
 ) -> Result<Finding, AllocError> {
     match locate_part(script, tree, refused, whole) {
-        Some(located) => located_finding(Declared {
+        Some(located) => located_finding(&Declared {
             alloc,
             script,
             refused,
@@ -98,7 +98,7 @@ fn locate_part<'p, 't>(
 }
 
 /// What is wrong with the part that is refused.
-fn located_finding(declared: Declared<'_, '_>) -> Result<Finding, AllocError> {
+fn located_finding(declared: &Declared<'_, '_>) -> Result<Finding, AllocError> {
     let site = declared.refused.site();
     let purpose = match site.part {
         RefusedPart::Type => return of_type(declared),
@@ -117,7 +117,7 @@ fn located_finding(declared: Declared<'_, '_>) -> Result<Finding, AllocError> {
 }
 
 /// The finding for a part about which only the rule that it breaks is reported.
-pub fn rule_finding(declared: Declared<'_, '_>, part: TokenRange) -> Result<Finding, AllocError> {
+pub fn rule_finding(declared: &Declared<'_, '_>, part: TokenRange) -> Result<Finding, AllocError> {
     broken_rule(declared.alloc, declared.kind(), part)
 }
 
@@ -160,7 +160,7 @@ pub fn is_declared_as(script: &Script<'_>, token: usize, word: &[u8]) -> bool {
 }
 
 /// What is wrong with a type, apart from its fields and expressions.
-fn of_type(declared: Declared<'_, '_>) -> Result<Finding, AllocError> {
+fn of_type(declared: &Declared<'_, '_>) -> Result<Finding, AllocError> {
     match declared.kind() {
         FaultKind::TooDeep => broken_rule(declared.alloc, FaultKind::TooDeep, deep_part(declared)),
         FaultKind::NotHere => {
@@ -173,7 +173,7 @@ fn of_type(declared: Declared<'_, '_>) -> Result<Finding, AllocError> {
 }
 
 /// The name of a type that is too deep for its place, or that of the declaration.
-fn deep_part(declared: Declared<'_, '_>) -> TokenRange {
+fn deep_part(declared: &Declared<'_, '_>) -> TokenRange {
     match declared.located.form {
         Form::Reference(_) => declared.located.tokens,
         _ => declared.name(),
@@ -181,7 +181,7 @@ fn deep_part(declared: Declared<'_, '_>) -> TokenRange {
 }
 
 /// The tokens of a type without braces, or of the integer type of an integral struct.
-fn base_of(declared: Declared<'_, '_>) -> TokenRange {
+fn base_of(declared: &Declared<'_, '_>) -> TokenRange {
     let tokens = declared.located.tokens;
     match declared.located.form {
         Form::Integral(_, _) => integral_reference(declared.script, tokens),
@@ -190,7 +190,7 @@ fn base_of(declared: Declared<'_, '_>) -> TokenRange {
 }
 
 /// What is wrong with the widths of an integral struct's fields, which have `width` bits together.
-fn of_widths(declared: Declared<'_, '_>, width: u128) -> Result<Finding, AllocError> {
+fn of_widths(declared: &Declared<'_, '_>, width: u128) -> Result<Finding, AllocError> {
     let reference = integral_reference(declared.script, declared.located.tokens);
     let text = sentence(
         declared.alloc,
@@ -218,7 +218,7 @@ fn integral_reference(script: &Script<'_>, form: TokenRange) -> TokenRange {
 }
 
 /// What is wrong with a type other than a struct or union, or with the integer type of an integral struct.
-fn of_base(declared: Declared<'_, '_>, base: TokenRange) -> Result<Finding, AllocError> {
+fn of_base(declared: &Declared<'_, '_>, base: TokenRange) -> Result<Finding, AllocError> {
     let (alloc, script) = (declared.alloc, declared.script);
     match declared.kind() {
         FaultKind::UnknownType => unknown_type(alloc, script, name_of(script, base)),
@@ -451,7 +451,7 @@ pub fn is_predeclared(word: &[u8]) -> bool {
 }
 
 /// What is wrong with the name of a field.
-fn of_name(declared: Declared<'_, '_>) -> Result<Finding, AllocError> {
+fn of_name(declared: &Declared<'_, '_>) -> Result<Finding, AllocError> {
     let Some(field) = declared.located.field else {
         return rule_finding(declared, declared.located.tokens);
     };
@@ -466,12 +466,12 @@ fn of_name(declared: Declared<'_, '_>) -> Result<Finding, AllocError> {
 }
 
 /// The finding for the part of a field that may not be where it is. `wide` says whether its type has a width in bits.
-fn of_place(declared: Declared<'_, '_>, wide: bool) -> Result<Finding, AllocError> {
+fn of_place(declared: &Declared<'_, '_>, wide: bool) -> Result<Finding, AllocError> {
     let (alloc, script) = (declared.alloc, declared.script);
     let Some(field) = declared.located.field else {
         return rule_finding(declared, declared.located.tokens);
     };
-    let (part, words) = misplaced_part(field, wide);
+    let (part, words) = misplaced_part(&field, wide);
     let help = misplaced_help(alloc, script, &field.parts, part)?;
     let text = Text::new(alloc).say(words.as_bytes())?;
     Ok(Finding::of(part, text, help))
@@ -574,7 +574,7 @@ fn integral_order_help(
 }
 
 /// What may not be in a field. `wide` says whether its type has a width in bits.
-fn misplaced_part(field: LocatedField<'_, '_>, wide: bool) -> (TokenRange, &'static str) {
+fn misplaced_part(field: &LocatedField<'_, '_>, wide: bool) -> (TokenRange, &'static str) {
     let parts = field.parts;
     let integral = matches!(field.around, Form::Integral(_, _));
     if integral && !wide {
