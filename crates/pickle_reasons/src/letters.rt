@@ -2,6 +2,7 @@
 
 use crate::clause::{IllTypedExpression, Operands};
 use crate::lexical::say_hexadecimal;
+use crate::search::last_token;
 use crate::sentence::{Part, say_sentence};
 use pickle_source::script::{Script, TokenRange, bytes_between};
 use pickle_source::text::Text;
@@ -106,11 +107,8 @@ impl<'a, 't> IllTypedExpression<'a, 't> {
 
 /// The token before the `[` of the array suffix that ends before a token, which closes no other bracket.
 fn opening_bracket(script: &Script<'_>, token: usize) -> usize {
-    let bracket = (0..token).find(|back| script.text_before(token.saturating_sub(*back))
-        == b"[".as_slice());
-    token
-        .saturating_sub(bracket.unwrap_or(token))
-        .saturating_sub(2)
+    let bracket = last_token(script, token, b"[").unwrap_or(0);
+    bracket.saturating_sub(1)
 }
 
 /// The letters of a text in quotes, if they are few and none is an escape or a quote.

@@ -19,6 +19,7 @@ mod members;
 mod names;
 mod offsets;
 mod pattern;
+mod search;
 mod sentence;
 mod sorts;
 mod strings;

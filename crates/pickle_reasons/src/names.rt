@@ -2,9 +2,9 @@
 
 use crate::clause::{Finding, IllTypedExpression};
 use crate::expected::say_list;
+use crate::search::{first_field, last_token, next_token};
 use crate::sentence::{Part, say_sentence};
 use crate::syntax::opening;
-use crate::types::is_declared_as;
 use pickle_source::near::nearest;
 use pickle_source::script::{Script, TokenRange};
 use pickle_source::text::Text;
@@ -147,9 +147,11 @@ impl<'a, 't> IllTypedExpression<'a, 't> {
             ));
         }
         let end = next_type(self.script(), self.part.end);
-        if (self.part.end..end).any(|token| self.script().text(token) == word
-            && is_field(self.script(), token))
-        {
+        let behind = TokenRange {
+            first: self.part.end,
+            end,
+        };
+        if first_field(self.script(), behind, word).is_some() {
             let words = b"`$0` comes later: only the fields before are seen";
             return Ok(Some(self.sentence(words, &[Part::Word(word)])?));
         }
@@ -165,8 +167,7 @@ impl<'a, 't> IllTypedExpression<'a, 't> {
     /// The help for a field inside an earlier field, which is among the visible ones if it has a name.
     fn closed_help(&self, word: &[u8], visible: &[&[u8]]) -> Result<Option<Text>, AllocError> {
         let before = self.before();
-        let Some(token) = (before.first..before.end).find(|token| self.script().text(*token) == word
-            && is_field(self.script(), *token)) else {
+        let Some(token) = first_field(self.script(), before, word) else {
             return Ok(None);
         };
         let behind = close_behind(self.script(), token, before.end).saturating_add(1);
@@ -187,8 +188,11 @@ impl<'a, 't> IllTypedExpression<'a, 't> {
     /// The help for a field of a type that uses this one. `end` is the end of this declaration.
     fn user_help(&self, word: &[u8], end: usize) -> Result<Option<Text>, AllocError> {
         let own = self.before().first.saturating_add(1);
-        let Some(token) = (end..self.script().len()).find(|token| self.script().text(*token) == word
-            && is_field(self.script(), *token)) else {
+        let behind = TokenRange {
+            first: end,
+            end: self.script().len(),
+        };
+        let Some(token) = first_field(self.script(), behind, word) else {
             return Ok(None);
         };
         let user = last_type(self.script(), token).saturating_add(1);
@@ -256,18 +260,10 @@ fn close_behind(script: &Script<'_>, token: usize, end: usize) -> usize {
 
 /// The last `type` before a token, or the first token.
 pub fn last_type(script: &Script<'_>, token: usize) -> usize {
-    for back in 0..token {
-        let first = token - back;
-        if script.text(first) == b"type".as_slice() {
-            return first;
-        }
-    }
-    0
+    last_token(script, token.saturating_add(1), b"type").unwrap_or(0)
 }
 
 /// The first `type` after a token, or the end.
 fn next_type(script: &Script<'_>, token: usize) -> usize {
-    (token..script.len())
-        .find(|next| script.text(*next) == b"type".as_slice())
-        .unwrap_or(script.len())
+    next_token(script, token, b"type").unwrap_or(script.len())
 }

@@ -1,5 +1,6 @@
 //! Tokens in a row at which no pickle can go on, and sentences that have these tokens in them.
 
+use crate::search::next_token;
 use crate::sentence::{Part, say_sentence};
 use crate::types::is_predeclared;
 use pickle_source::script::{Script, TokenRange};
@@ -117,9 +118,7 @@ impl<'a, 't> Around<'a, 't> {
 
 /// The first `;` from a token on, or the end.
 fn field_end(script: &Script<'_>, token: usize) -> usize {
-    (token..script.len())
-        .find(|next| script.text(*next) == b";".as_slice())
-        .unwrap_or(script.len())
+    next_token(script, token, b";").unwrap_or(script.len())
 }
 
 /// Whether a token is a reserved word other than `type`.

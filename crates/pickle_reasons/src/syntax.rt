@@ -4,6 +4,7 @@ use crate::advice::advice;
 use crate::expected::{Expected, say_expected};
 use crate::front::Front;
 use crate::pattern::Around;
+use crate::search::last_token;
 use crate::sentence::{Part, sentence};
 use pickle_source::budget::Budget;
 use pickle_source::near::nearest;
@@ -175,11 +176,9 @@ fn closing_help(
 
 /// The tokens from the last `offset<` before a token on.
 fn offset_before(script: &Script<'_>, token: usize) -> TokenRange {
-    let back = (0..token)
-        .find(|back| script.text_before(token.saturating_sub(*back)) == b"offset<".as_slice())
-        .unwrap_or(0);
+    let offset = last_token(script, token, b"offset<");
     TokenRange {
-        first: token.saturating_sub(back).saturating_sub(1),
+        first: offset.unwrap_or(token.saturating_sub(1)),
         end: token,
     }
 }

@@ -5,6 +5,7 @@ use crate::clause::{Declared, Finding, clause_finding};
 use crate::foreign::of_foreign;
 use crate::located::{Located, LocatedField};
 use crate::names::last_type;
+use crate::search::first_declaration;
 use crate::sentence::{Part, sentence};
 use pickle_source::anatomy::{FieldParts, base, declaration, opening_brace};
 use pickle_source::line_column::place_behind;
@@ -151,12 +152,11 @@ fn line_of(script: &Script<'_>, token: usize) -> usize {
 
 /// The earlier token that declares a name.
 fn earlier_declaration(script: &Script<'_>, name: TokenRange) -> Option<usize> {
-    (0..name.first).find(|token| is_declared_as(script, *token, script.slice(name)))
-}
-
-/// Whether a token is a word, right after a `type`.
-pub fn is_declared_as(script: &Script<'_>, token: usize, word: &[u8]) -> bool {
-    script.text_before(token) == b"type".as_slice() && script.text(token) == word
+    let before = TokenRange {
+        first: 0,
+        end: name.first,
+    };
+    first_declaration(script, before, script.slice(name))
 }
 
 /// What is wrong with a type, apart from its fields and expressions.
@@ -297,7 +297,11 @@ fn unknown_type_help(
     let word = script.slice(name);
     let mut known = declared_before(alloc, script, name)?;
     known.extend_from_slice(PREDECLARED.as_slice())?;
-    let later = (name.end..script.len()).find(|token| is_declared_as(script, *token, word));
+    let behind = TokenRange {
+        first: name.end,
+        end: script.len(),
+    };
+    let later = first_declaration(script, behind, word);
     let help = match (of_foreign(word), later) {
         _ if script.text_before(name.first) == b"struct".as_slice() => {
             Text::new(alloc).say(NAMELESS.as_bytes())?
