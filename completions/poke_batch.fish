@@ -3,7 +3,7 @@
 # tools/options: options with a value
 # Whether an option has a value.
 function __poke_batch_takes_value
-    contains -- $argv[1] --at --byte --length --endian --limit --max-output --slots --get --spool --rows --absent --count --omit --step --attempt-limit --in --mode --numbers --chars --elements --faults --depth --parts --color --files0-from --from --size --skip -s -n
+    contains -- $argv[1] --at --byte --length --endian --limit --max-output --slots --get --spool --rows --absent --count --omit --of --resume --step --attempt-limit --in --mode --numbers --chars --elements --faults --depth --parts --color --files0-from --from --size --skip -s -n
 end
 # tools/options: end
 
@@ -109,12 +109,15 @@ complete -c poke_batch -n '__poke_batch_is find' -l get -x -d 'Print a part of t
 complete -c poke_batch -n '__poke_batch_is map show each records find identify' -l spool -x -d 'Read a FILE without a length'
 complete -c poke_batch -n '__poke_batch_is map show each records find identify' -l progress -d 'Show how much is done'
 complete -c poke_batch -n '__poke_batch_is map' -l rows -x -d 'Print a line for each part that PATTERN leads to'
-complete -c poke_batch -n '__poke_batch_is map' -l header -d 'Print the paths of the columns first, with --rows'
+complete -c poke_batch -n '__poke_batch_is records' -l header -d 'Print the names of the columns first'
+complete -c poke_batch -n '__poke_batch_is map' -l header -d 'Print the names of the columns first, with --rows'
 complete -c poke_batch -n '__poke_batch_is map show each records find' -l absent -xa 'fault empty' -d 'What a part that isn\'t there is'
 complete -c poke_batch -n '__poke_batch_is records' -l count -x -d 'Stop after the lines of N records'
 complete -c poke_batch -n '__poke_batch_is records' -l omit -x -d 'How many records are mapped first'
 complete -c poke_batch -n '__poke_batch_is records' -l any-end -d 'Accept a list that ends before FILE does'
 complete -c poke_batch -n '__poke_batch_is records' -l report-end -d 'Print at last where the next record would begin'
+complete -c poke_batch -n '__poke_batch_is records' -l of -x -d 'The records are those of the array at PATH in TYPE'
+complete -c poke_batch -n '__poke_batch_is records' -l resume -xa '(__poke_batch_offsets)' -d 'Where in FILE the list goes on, with --of'
 complete -c poke_batch -n '__poke_batch_is find' -l step -xa '(__poke_batch_offsets)' -d 'How far each start is from the one before'
 complete -c poke_batch -n '__poke_batch_is find' -l apart -d 'After a value go on at or after its end'
 complete -c poke_batch -n '__poke_batch_is find' -l count -x -d 'Stop after the lines of N values'

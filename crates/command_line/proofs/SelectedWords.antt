@@ -14,11 +14,11 @@ use Rattle.command_line.specs.declared.selection.Choice.{Choice}
 use Rattle.command_line.specs.declared.selection.Choice.TheVariants as choice
 use Rattle.command_line.specs.declared.selection.Column.{Column}
 use Rattle.command_line.specs.declared.selection.Selection.{Selection}
-use Rattle.command_line.specs.Misread.{AnyWord, IsNoPath, IsNoPathIfAny, MisreadRequest}
+use Rattle.command_line.specs.Misread.{AnyWord, MisreadRequest}
 use Rattle.command_line.specs.Misread.MisreadColumns.{path_wrong}
 use Rattle.command_line.specs.Misread.MisreadRequest.{selection_wrong}
 use Rattle.command_line.specs.Patterns.{parts_of, IsPattern}
-use Rattle.command_line.specs.Selects.{ArePatterns, IsColumn, AreColumns, ArePaths, IsOneAtMost, SelectsAny, Selects, is_one_path, words_in}
+use Rattle.command_line.specs.Selects.{IsNoPath, IsNoPathIfAny, ArePatterns, IsColumn, AreColumns, ArePaths, IsOneAtMost, SelectsAny, Selects, is_one_path, words_in}
 use Rattle.command_line.proofs.PatternTexts.{path_of_exact}
 
 -- one more pattern

@@ -16,15 +16,18 @@ use Rattle.text_output.specs.declared.style.Numbers.TheVariants.{Decimal}
 use Rattle.command_line.specs.Numerals.{IsNumber, IsNoNumber}
 use Rattle.command_line.specs.Starts.{NamesStart, IsNoStart, NamesByteIfAny, IsNoByteIfAny, NamesBytes, IsNoBytes, NamesWindow, IsNoWindow}
 use Rattle.command_line.specs.OffsetWord.{IsOffsetWord, IsNoOffset}
-use Rattle.command_line.specs.Subjects.{HasPart, IsSoughtPart, IsTypeOf, is_file_alone, pickle_of, type_before, word_after}
+use Rattle.command_line.specs.Subjects.{HasPart, IsPartOfHead, IsTypeOf, is_by_head, is_file_alone, pickle_of, type_before, word_after}
 use Rattle.command_line.specs.Flags.{FlagIn}
-use Rattle.command_line.specs.Selects.{Selects, PartBeside}
+use Rattle.command_line.specs.Paths.{IsPath, steps_of}
+use Rattle.command_line.specs.Selects.{Selects, PartBeside, IsNoPathIfAny}
 use Rattle.command_line.specs.Styles.{NamesNumbersOr, NamesNumbersIfAny, NamesCharsOr, NamesElementsOr, IsNoElementsIfAny, NamesColor, NamesFaults}
 use Rattle.command_line.specs.Words.{NamesMode, NamesModeIfAny}
 use Rattle.command_line.specs.declared.selection.Choice.{Choice}
 use Rattle.command_line.specs.declared.selection.Choice.TheVariants.{Parts, Columns}
 use Rattle.command_line.specs.declared.start.Start.{Start}
 use Rattle.command_line.specs.declared.start.Start.TheVariants.{Bit}
+use Rattle.command_line.specs.declared.subject.HeadType.{HeadType}
+use Rattle.command_line.specs.declared.subject.HeadType.TheVariants as head
 use Rattle.command_line.specs.declared.subject.Subject.{Subject}
 use Rattle.command_line.specs.declared.subject.Subject.TheVariants.{Named, Identified}
 use Rattle.command_line.specs.declared.terms.Terms.{Terms}
@@ -41,6 +44,8 @@ use Rattle.command_line.specs.declared.request.Form.TheVariants.{Printed, Shown}
 use Rattle.command_line.specs.declared.request.Over.{Over}
 use Rattle.command_line.specs.declared.request.Over.TheVariants.{Bytes, File, Files, Records, Search}
 use Rattle.command_line.specs.declared.request.RecordList.{RecordList}
+use Rattle.command_line.specs.declared.request.RecordsOf.{RecordsOf}
+use Rattle.command_line.specs.declared.request.RecordsOf.TheVariants as of
 use Rattle.command_line.specs.declared.request.ValueSearch.{ValueSearch}
 use Rattle.command_line.specs.declared.request.FileNames.{FileNames}
 use Rattle.command_line.specs.declared.request.FileNames.TheVariants.{Words, EndedByZero}
@@ -123,16 +128,16 @@ abbrev pub shows_file_alone : Found → Bool
 shows_file_alone found = is_file_alone (first_value found (codes "PICKLE")) (first_value found (codes "TYPE"))
     (first_value found (codes "FILE"))
 
--- the same of what is looked for
-pub record AsksSought (found : Found) (type : Option (List ℕ)) (subject : Subject) : Type 0 where
+-- the same of what is looked for or listed, which by a head is one type of it
+pub record AsksPart (found : Found) (part : HeadType) (type : Option (List ℕ)) (subject : Subject) : Type 0 where
   pub read_from : pickle_of subject ≡ Some (word_in found (codes "PICKLE"))
   pub typed : IsTypeOf (word_in found (codes "PICKLE")) type subject
-  pub part : IsSoughtPart subject
+  pub part_of_head : IsPartOfHead part subject
 
 -- the same where one argument alone is the file to search, for all formats
 abbrev pub SeeksBy : (alone : Bool) → (found : Found) → (type : Option (List ℕ)) → Subject → Type 0
 SeeksBy true found type subject = subject ≡ Identified
-SeeksBy false found type subject = AsksSought found type subject
+SeeksBy false found type subject = AsksPart found head.Inside type subject
 
 abbrev pub SeeksSubject : (found : Found) → (type : Option (List ℕ)) → Subject → Type 0
 SeeksSubject found type subject = SeeksBy (shows_file_alone found) found type subject
@@ -209,7 +214,7 @@ abbrev pub IsPrintedOver : Found → Over → Type 0
 IsPrintedOver found (File file) = is_raw found ≡ false
 IsPrintedOver found (Bytes file) = is_raw found ≡ true
 IsPrintedOver found (Files names flush) = Unit {0}
-IsPrintedOver found (Records file list) = Unit {0}
+IsPrintedOver found (Records file of list) = Unit {0}
 IsPrintedOver found (Search file search) = Unit {0}
 
 -- how a value is written: printed in a mode, beside the form of refusals and faults, or shown with colors and with so
@@ -236,6 +241,17 @@ file_in found = unwrap_or (after_type_in found (codes "FILE")) (word_in found (c
 abbrev pub GrowsLimit : Found → Bool → Type 0
 GrowsLimit found grows = grows ≡ is_none (first_value found (codes "limit"))
 
+-- the offset that an argument is, and none if it wasn't given
+abbrev pub NamesOffsetIfAny : Option (List ℕ) → Option ℕ → Type 0
+NamesOffsetIfAny None offset = offset ≡ None
+NamesOffsetIfAny (Some word) None = ⊥
+NamesOffsetIfAny (Some word) (Some offset) = IsOffsetWord word offset
+
+-- a line with the names of the columns comes first, which no JSON has
+pub record HasHeader (found : Found) (header : Bool) : Type 0 where
+  pub given : FlagIn (one_text found (codes "header")) header
+  pub mode : header ≡ true → word_in found (codes "mode") ≢ codes "json"
+
 -- which records of a list are printed, and how the list may end
 pub record AsksList (found : Found) (list : RecordList) : Type 0 where
   pub omits : NumberIn (first_value found (codes "omit")) 0 list.omit
@@ -243,7 +259,9 @@ pub record AsksList (found : Found) (list : RecordList) : Type 0 where
   pub any_end : FlagIn (one_text found (codes "any-end")) list.any_end
   pub flush : FlagIn (one_text found (codes "flush")) list.flush
   pub report_end : FlagIn (one_text found (codes "report-end")) list.report_end
+  pub header : HasHeader found list.header
   pub grows : GrowsLimit found list.grows
+  pub resumes : NamesOffsetIfAny (first_value found (codes "resume")) list.resume
 
 -- the offset that an argument is, of at least a bit
 abbrev pub NamesStep : List ℕ → ℕ → Type 0
@@ -258,13 +276,27 @@ pub record AsksSearch (found : Found) (search : ValueSearch) : Type 0 where
   pub flush : FlagIn (one_text found (codes "flush")) search.flush
   pub grows : GrowsLimit found search.grows
 
+-- a type's own name is by the head of its pickle
+abbrev pub is_headed : Found → Bool
+is_headed found = is_by_head (word_in found (codes "PICKLE")) (type_in found (codes "FILE"))
+
+-- the records are elements of the array at the path that is given, or that a head says, or values of the type
+abbrev pub IsSource : Found → (path : Option (List ℕ)) → RecordsOf → Type 0
+IsSource found (Some word) (of.«Path» path) = IsPath word (steps_of path.steps.items)
+IsSource found (Some word) of.Values = ⊥
+IsSource found (Some word) of.Head = ⊥
+IsSource found None (of.«Path» path) = ⊥
+IsSource found None of.Values = is_headed found ≡ false
+IsSource found None of.Head = is_headed found ≡ true
+
 -- what a type is mapped over: the one file that an argument names, or many, of which each line may be written at once,
 -- or the records in one, or the places in one
 abbrev pub IsOver : Found → Over → Type 0
 IsOver found (File file) = string_bytes file ≡ file_in found
 IsOver found (Bytes file) = string_bytes file ≡ file_in found
 IsOver found (Files names flush) = NamesFiles found names × FlagIn (one_text found (codes "flush")) flush
-IsOver found (Records file list) = (string_bytes file ≡ word_in found (codes "FILE")) × AsksList found list
+IsOver found (Records file of list) = (string_bytes file ≡ file_in found)
+    × IsSource found (first_value found (codes "of")) of × AsksList found list
 IsOver found (Search file search) = (string_bytes file ≡ file_in found) × AsksSearch found search
 
 -- the argument for the type; before many files it is left out only if their names are in a list
@@ -272,7 +304,7 @@ abbrev pub type_over : Found → Over → Option (List ℕ)
 type_over found (File file) = type_in found (codes "FILE")
 type_over found (Bytes file) = type_in found (codes "FILE")
 type_over found (Files names flush) = first_value found (codes "TYPE")
-type_over found (Records file list) = first_value found (codes "TYPE")
+type_over found (Records file of list) = type_in found (codes "FILE")
 type_over found (Search file search) = type_in found (codes "FILE")
 
 -- what a request maps that writes in a form
@@ -280,7 +312,8 @@ abbrev pub AsksSubjectIn : (found : Found) → (type : Option (List ℕ)) → Fo
 AsksSubjectIn found type (Printed mode faults) (File file) subject = AsksSubject found type subject
 AsksSubjectIn found type (Printed mode faults) (Bytes file) subject = AsksSubject found type subject
 AsksSubjectIn found type (Printed mode faults) (Files names flush) subject = AsksSubject found type subject
-AsksSubjectIn found type (Printed mode faults) (Records file list) subject = AsksSubject found type subject
+AsksSubjectIn found type (Printed mode faults) (Records file of list) subject =
+    AsksPart found head.Records type subject
 AsksSubjectIn found type (Printed mode faults) (Search file search) subject = SeeksSubject found type subject
 AsksSubjectIn found type (Shown color depth numbers beside) over subject = ShowsSubject found type subject
 
@@ -288,13 +321,21 @@ AsksSubjectIn found type (Shown color depth numbers beside) over subject = Shows
 abbrev pub ShowsProgress : Found → Bool → Type 0
 ShowsProgress found progress = FlagIn (one_text found (codes "progress")) progress
 
+-- these are the records of the list that arguments request
+abbrev pub IsListOver : Found → Over → Type 0
+IsListOver found (Records file of list) = IsOver found (Records file of list)
+IsListOver found (File file) = ⊥
+IsListOver found (Bytes file) = ⊥
+IsListOver found (Files names flush) = ⊥
+IsListOver found (Search file search) = ⊥
+
 -- which selections the command offers that writes in a form, over one file or many
 abbrev pub choice_of : Form → Over → Choice
 choice_of (Shown color depth numbers beside) over = Parts
 choice_of (Printed mode faults) (File file) = Parts
 choice_of (Printed mode faults) (Bytes file) = Parts
 choice_of (Printed mode faults) (Files names flush) = Columns
-choice_of (Printed mode faults) (Records file list) = Columns
+choice_of (Printed mode faults) (Records file of list) = Columns
 choice_of (Printed mode faults) (Search file search) = Columns
 
 -- bytes are those of one part
@@ -302,7 +343,7 @@ abbrev pub SelectsOne : Over → Terms → Type 0
 SelectsOne (Bytes file) terms = terms.selection ≡ None
 SelectsOne (File file) terms = Unit {0}
 SelectsOne (Files names flush) terms = Unit {0}
-SelectsOne (Records file list) terms = Unit {0}
+SelectsOne (Records file of list) terms = Unit {0}
 SelectsOne (Search file search) terms = Unit {0}
 
 -- a request is what arguments request
@@ -377,8 +418,8 @@ IsRequestOf command (Printed mode faults) (Bytes file) = command ≡ Some (codes
 IsRequestOf command (Shown color depth numbers beside) (Bytes file) = ⊥
 IsRequestOf command (Printed mode faults) (Files names flush) = command ≡ Some (codes "each")
 IsRequestOf command (Shown color depth numbers beside) (Files names flush) = ⊥
-IsRequestOf command (Printed mode faults) (Records file list) = command ≡ Some (codes "records")
-IsRequestOf command (Shown color depth numbers beside) (Records file list) = ⊥
+IsRequestOf command (Printed mode faults) (Records file of list) = command ≡ Some (codes "records")
+IsRequestOf command (Shown color depth numbers beside) (Records file of list) = ⊥
 IsRequestOf command (Printed mode faults) (Search file search) = command ≡ Some (codes "find")
 IsRequestOf command (Shown color depth numbers beside) (Search file search) = ⊥
 
@@ -420,10 +461,24 @@ abbrev pub IsNoBound : Found → Type 0
 IsNoBound found =
     IsNoNumberIfAny (after_type_in found (codes "BITS")) ⊎ IsNoElementsIfAny (first_value found (codes "elements"))
 
--- the arguments for a list have something else than a number where one belongs
+-- an argument was given, and is no offset
+abbrev pub IsNoOffsetIfAny : Option (List ℕ) → Type 0
+IsNoOffsetIfAny None = ⊥
+IsNoOffsetIfAny (Some word) = IsNoOffset word
+
+-- names of columns are requested in JSON
+pub record IsNoHeader (found : Found) : Type 0 where
+  pub given : FlagIn (one_text found (codes "header")) true
+  pub mode : word_in found (codes "mode") ≡ codes "json"
+
+-- the arguments for a list have something else than a number or a path where one belongs, or a header in JSON
 abbrev pub IsNoList : Found → Type 0
-IsNoList found =
-    IsNoNumberIfAny (first_value found (codes "omit")) ⊎ IsNoNumberIfAny (first_value found (codes "count"))
+IsNoList found = (IsNoNumberIfAny (first_value found (codes "omit")) ⊎ IsNoHeader found)
+    ⊎ (IsNoNumberIfAny (first_value found (codes "count")) ⊎ IsNoPathIfAny (first_value found (codes "of")))
+
+-- they name no start, or no place where the list goes on
+abbrev pub IsNoListExtent : Found → Type 0
+IsNoListExtent found = IsNoExtent found ⊎ IsNoOffsetIfAny (first_value found (codes "resume"))
 
 -- the distance of places isn't an offset
 abbrev pub IsNoStep : Found → Type 0

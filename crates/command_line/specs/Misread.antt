@@ -8,10 +8,9 @@ use Rattle.command_line.specs.declared.selection.Choice.TheVariants as choice
 use Rattle.command_line.specs.declared.words.WordFault.{WordFault}
 use Rattle.command_line.specs.declared.words.WordFault.TheVariants.{Usage, Help, Offset, Memory}
 use Rattle.command_line.specs.Flags.{FlagIn}
-use Rattle.command_line.specs.Found.{is_raw, IsNoBound, IsNoByteExtent, IsNoExtent, IsNoList, IsNoNumberIfAny, IsNoRange, IsNoSearch, IsNoStep, SeeksParts}
-use Rattle.command_line.specs.Paths.{PathStep, IsPath}
+use Rattle.command_line.specs.Found.{is_raw, IsNoBound, IsNoByteExtent, IsNoExtent, IsNoList, IsNoListExtent, IsNoNumberIfAny, IsNoRange, IsNoSearch, IsNoStep, SeeksParts}
 use Rattle.command_line.specs.Patterns.{PatternPart, IsPattern}
-use Rattle.command_line.specs.Selects.{ArePatterns, HasRows, Selects, is_one_path, words_in}
+use Rattle.command_line.specs.Selects.{ArePatterns, HasRows, IsNoPath, Selects, column_path, is_one_path, words_in}
 use Rattle.command_line.specs.declared.selection.Selection.{Selection}
 use Rattle.command_line.specs.Styles.{IsNoElementsIfAny}
 
@@ -22,16 +21,9 @@ FailsFor usage offset (Help text) = ⊥
 FailsFor usage offset Offset = offset
 FailsFor usage offset Memory = Unit {0}
 
--- a text isn't a path, or not a pattern
-abbrev pub IsNoPath : List ℕ → Type 0
-IsNoPath word = (steps : List PathStep) → ¬ (IsPath word steps)
-
+-- a text isn't a pattern
 abbrev pub IsNoPattern : List ℕ → Type 0
 IsNoPattern word = (parts : List PatternPart) → ¬ (IsPattern word parts)
-
-abbrev pub IsNoPathIfAny : Option (List ℕ) → Type 0
-IsNoPathIfAny None = ⊥
-IsNoPathIfAny (Some word) = IsNoPath word
 
 -- one of the texts is such
 abbrev pub AnyWord : (List ℕ → Type 0) → List (List ℕ) → Type 0
@@ -43,10 +35,14 @@ abbrev pub IsNoOnePath : List ℕ → Type 0
 IsNoOnePath word =
     IsNoPattern word ⊎ ((patterns : List Pattern) × ArePatterns (word ∷ []) patterns × (is_one_path patterns ≡ false))
 
+-- a text says no column
+abbrev pub IsNoColumn : List ℕ → Type 0
+IsNoColumn word = IsNoPath (column_path word)
+
 -- rows have no such pattern, no such columns, or no such mode
 pub data MisreadRows (found : Found) (pattern : List ℕ) (words : List (List ℕ)) : Type 0 where
   pattern_wrong : IsNoPattern pattern → MisreadRows found pattern words
-  columns_wrong : AnyWord IsNoPath words → MisreadRows found pattern words
+  columns_wrong : AnyWord IsNoColumn words → MisreadRows found pattern words
   mode_wrong : (header : Bool) → FlagIn (one_text found (codes "header")) header
       → ¬ (HasRows (unwrap_or (first_value found (codes "mode")) []) header) → MisreadRows found pattern words
 
@@ -56,6 +52,7 @@ MisreadParts found (Some pattern) words = MisreadRows found pattern words
 
 pub data MisreadColumns (words : List (List ℕ)) : Type 0 where
   path_wrong : AnyWord IsNoPath words → MisreadColumns words
+  column_wrong : AnyWord IsNoColumn words → MisreadColumns words
   lone_wrong : AnyWord IsNoOnePath words → MisreadColumns words
 
 -- the parts that are requested are none, by what a command offers
@@ -99,7 +96,7 @@ pub data Misplaced (command : List ℕ) (found : Found) : Type 0 where
   map_nowhere : command ≡ codes "map" → IsNoExtent found → Misplaced command found
   show_nowhere : command ≡ codes "show" → IsNoExtent found → Misplaced command found
   each_nowhere : command ≡ codes "each" → IsNoExtent found → Misplaced command found
-  records_nowhere : command ≡ codes "records" → IsNoExtent found → Misplaced command found
+  records_nowhere : command ≡ codes "records" → IsNoListExtent found → Misplaced command found
   find_nowhere : command ≡ codes "find" → IsNoExtent found ⊎ IsNoStep found → Misplaced command found
   identify_nowhere : command ≡ codes "identify" → IsNoByteExtent found → Misplaced command found
   dump_nowhere : command ≡ codes "dump" → IsNoRange found → Misplaced command found

@@ -1,5 +1,6 @@
 -- What the arguments of a command request of the parts of a value, by what clap found among them.
-use Rattle.std.specs.Prelude.{◌≡◌, ◌≢◌, ◌<◌, ℕ, Bool, true, false, List, [], ◌∷◌, length, Option, Some, None, string_bytes, codes, unwrap_or}
+use Rattle.std.specs.Prelude.{◌≡◌, ◌≢◌, ◌==◌, ◌&&◌, ◌||◌, ℕ, Bool, true, false, not, nat_lt, List, [], ◌∷◌, length, Option, Some, None, if◌then◌else◌, string_bytes, codes, unwrap_or}
+use Rattle.std.specs.List.{position_or_len, before_first, after_first}
 use Rattle.std.specs.Option.{option_map_or}
 use Rattle.std.specs.List.{list_all}
 use Rattle.clap.specs.Matches.{first_value, one_text, matched_of, raw_values}
@@ -36,9 +37,29 @@ ArePatterns (word ∷ words) [] = ⊥
 ArePatterns (word ∷ words) (pattern ∷ patterns) =
     IsPattern word (parts_of pattern.steps.items) × ArePatterns words patterns
 
--- a text is the path of a column, which it names
+-- a text begins as a path does: with `.` (46), `[` (91) or `^` (94). Before a `=` (61) at its start there is no name
+abbrev pub begins_path : List ℕ → Bool
+begins_path [] = true
+begins_path (byte ∷ bytes) = (byte == 46 || byte == 91) || (byte == 94 || byte == 61)
+
+abbrev pub is_equals : ℕ → Bool
+is_equals byte = byte == 61
+
+-- the text of a column has its name, before the first `=`
+abbrev pub is_named : List ℕ → Bool
+is_named word = not (begins_path word) && nat_lt (position_or_len is_equals word) (length word)
+
+-- the name of a column, which is the path if the text has no other, and the text of its path
+abbrev pub column_name : List ℕ → List ℕ
+column_name word = if is_named word then before_first is_equals word else word
+
+abbrev pub column_path : List ℕ → List ℕ
+column_path word = if is_named word then after_first is_equals word else word
+
+-- a text says a column
 abbrev pub IsColumn : List ℕ → Column → Type 0
-IsColumn word column = (string_bytes column.name ≡ word) × IsPath word (steps_of column.path.steps.items)
+IsColumn word column = (string_bytes column.name ≡ column_name word)
+    × IsPath (column_path word) (steps_of column.path.steps.items)
 
 abbrev pub AreColumns : List (List ℕ) → List Column → Type 0
 AreColumns [] [] = Unit {0}
@@ -99,7 +120,13 @@ IsLonePath [] given patterns = ⊥
 IsLonePath (word ∷ []) given patterns = IsOnePath word patterns × (given ≡ absent.Empty)
 IsLonePath (word ∷ more ∷ words) given patterns = ⊥
 
--- one row, the value itself, with the columns whose paths the texts are
+-- a row is printed, in place of one part: of many columns, or of one that has a name
+abbrev pub is_row : List (List ℕ) → Bool
+is_row [] = false
+is_row (word ∷ []) = is_named word
+is_row (word ∷ more ∷ words) = true
+
+-- one row, the value itself, with the columns that the texts say
 abbrev pub IsRow : List (List ℕ) → Shape → Type 0
 IsRow words (shape.Parts patterns) = ⊥
 IsRow words (shape.Rows rows) =
@@ -109,11 +136,11 @@ abbrev pub IsRowOf : List (List ℕ) → Absent → Selection → Type 0
 IsRowOf words absent selection = IsRow words selection.shape × (selection.absent ≡ absent)
 
 abbrev pub IsShapeOfColumns : List (List ℕ) → Absent → Shape → Type 0
-IsShapeOfColumns words absent (shape.Parts patterns) = IsLonePath words absent patterns.items
-IsShapeOfColumns words absent (shape.Rows rows) = (1 < length words) × IsRow words (shape.Rows rows)
+IsShapeOfColumns words absent (shape.Parts patterns) = IsLonePath words absent patterns.items × (is_row words ≡ false)
+IsShapeOfColumns words absent (shape.Rows rows) = (is_row words ≡ true) × IsRow words (shape.Rows rows)
 
 abbrev pub SelectsColumns : List (List ℕ) → Absent → Option Selection → Type 0
-SelectsColumns words absent None = IsOneAtMost words absent
+SelectsColumns words absent None = IsOneAtMost words absent × (is_row words ≡ false)
 SelectsColumns words absent (Some selection) =
     (selection.absent ≡ absent) × IsShapeOfColumns words absent selection.shape
 
@@ -142,9 +169,21 @@ pub record Selects (found : Found) (choice : Choice) (selection : Option Selecti
   pub absent_named : NamesAbsent (unwrap_or (first_value found (codes "absent")) []) absent
   pub selected : SelectsBy found choice absent selection
 
--- the path that an argument is, if it was given and nothing is selected
+-- the path that an argument is, if it was given
+abbrev pub PathIfAny : Option (List ℕ) → Option Path → Type 0
+PathIfAny None path = path ≡ None
+PathIfAny (Some word) None = ⊥
+PathIfAny (Some word) (Some path) = IsPath word (steps_of path.steps.items)
+
+-- a text isn't a path
+abbrev pub IsNoPath : List ℕ → Type 0
+IsNoPath word = (steps : List PathStep) → ¬ (IsPath word steps)
+
+abbrev pub IsNoPathIfAny : Option (List ℕ) → Type 0
+IsNoPathIfAny None = ⊥
+IsNoPathIfAny (Some word) = IsNoPath word
+
+-- the same, if nothing is selected
 abbrev pub PartBeside : Option (List ℕ) → Option Selection → Option Path → Type 0
 PartBeside word (Some selection) path = path ≡ None
-PartBeside None None path = path ≡ None
-PartBeside (Some word) None None = ⊥
-PartBeside (Some word) None (Some path) = IsPath word (steps_of path.steps.items)
+PartBeside word None path = PathIfAny word path

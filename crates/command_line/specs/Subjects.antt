@@ -6,7 +6,7 @@ use Rattle.std.specs.List.{list_all}
 use Rattle.std.specs.Str.{bytes_eq}
 use Rattle.command_line.specs.Flags.{FlagIn}
 use Rattle.command_line.specs.declared.subject.HeadType.{HeadType}
-use Rattle.command_line.specs.declared.subject.HeadType.TheVariants.{Documented, Inside}
+use Rattle.command_line.specs.declared.subject.HeadType.TheVariants.{Documented, Inside, Records}
 use Rattle.command_line.specs.declared.subject.Subject.{Subject}
 use Rattle.command_line.specs.declared.subject.Subject.TheVariants.{Named, ByHead, Identified}
 
@@ -53,6 +53,7 @@ is_file_alone (Some word) (Some second) third = false
 abbrev pub is_inside : HeadType → Bool
 is_inside Documented = false
 is_inside Inside = true
+is_inside Records = false
 
 -- the pickle of a subject, if one is named
 abbrev pub pickle_of : Subject → Option (List ℕ)
@@ -72,8 +73,8 @@ HasPart inside (Named _ _) = Unit {0}
 HasPart inside (ByHead _ part) = FlagIn inside (is_inside part)
 HasPart inside Identified = Unit {0}
 
--- what is looked for is the type inside other bytes
-abbrev pub IsSoughtPart : Subject → Type 0
-IsSoughtPart (Named _ _) = Unit {0}
-IsSoughtPart (ByHead _ part) = is_inside part ≡ true
-IsSoughtPart Identified = Unit {0}
+-- a type that a head says is this one of it
+abbrev pub IsPartOfHead : HeadType → Subject → Type 0
+IsPartOfHead wanted (Named _ _) = Unit {0}
+IsPartOfHead wanted (ByHead _ part) = part ≡ wanted
+IsPartOfHead wanted Identified = Unit {0}

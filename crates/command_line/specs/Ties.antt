@@ -61,10 +61,13 @@ keeps_each_ties found =
     are_apart found (codes "byte") (codes "at") && (is_either_given found (codes "FILE") (codes "files0-from")
     && (is_typed found (first_value found (codes "TYPE")) && keeps_inside found (first_value found (codes "TYPE"))))
 
--- a list has its own type, that no head says
+-- a list that goes on is inside a value, at a path that is given or that the head says
+abbrev pub keeps_resume : Found → (type : Option (List ℕ)) → Bool
+keeps_resume found type = needs found (codes "resume") (codes "of") || is_by_head (word_in found (codes "PICKLE")) type
+
 abbrev pub keeps_records_ties : Found → Bool
-keeps_records_ties found = are_apart found (codes "byte") (codes "at")
-    && not (is_by_head (word_in found (codes "PICKLE")) (first_value found (codes "TYPE")))
+keeps_records_ties found = are_apart found (codes "byte") (codes "at") && (has_words found (codes "FILE")
+    && keeps_resume found (type_in found (codes "FILE")))
 
 abbrev pub keeps_find_ties : Found → Bool
 keeps_find_ties found = are_apart found (codes "byte") (codes "at")

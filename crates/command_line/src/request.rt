@@ -5,6 +5,7 @@ ghost use Rattle.command_line.specs.Requests.{faults_in};
 
 use crate::color::Color;
 use crate::fault_form::FaultForm;
+use crate::path::Path;
 use crate::start::Start;
 use crate::subject::Subject;
 use crate::terms::Terms;
@@ -77,11 +78,32 @@ pub enum Over {
     /// The file of this name, of which the bytes of the requested part are written as they are.
     Bytes(String),
     /// One file after another, with a line for each. With `flush` each line is written at once.
-    Files { names: FileNames, flush: bool },
+    Files {
+        names: FileNames,
+        flush: bool,
+    },
     /// The records of a list in the file of this name, one after another.
-    Records { file: String, list: RecordList },
+    Records {
+        file: String,
+        of: RecordsOf,
+        list: RecordList,
+    },
     /// The places in the file of this name at which the type has a value.
-    Search { file: String, search: ValueSearch },
+    Search {
+        file: String,
+        search: ValueSearch,
+    },
+}
+
+/// What the records of a list are.
+#[derive(Debug, Drop, PartialEq, Eq)]
+pub enum RecordsOf {
+    /// Values of the type, each from the end of the one before.
+    Values,
+    /// The elements of the array at this path in a value of the type.
+    Path(Path),
+    /// Those of the array at the path that the head of the pickle says.
+    Head,
 }
 
 /// Which records of a list are printed, and how the list may end.
@@ -97,8 +119,12 @@ pub struct RecordList {
     pub flush: bool,
     /// Whether a line says at last where the list is then, and how many records there were.
     pub report_end: bool,
+    /// Whether a line with the names of the columns comes first, where columns are printed.
+    pub header: bool,
     /// Whether the limit of steps, that of all records together, grows with the file, since none is given.
     pub grows: bool,
+    /// The bit where a list inside a value goes on. `None` is its start.
+    pub resume: Option<u64>,
 }
 
 /// At which places a type is tried, and which values are printed.

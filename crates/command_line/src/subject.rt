@@ -32,6 +32,8 @@ pub enum HeadType {
     Documented,
     /// The type of the format inside other bytes.
     Inside,
+    /// The type that has the format's list of records, which is at a path that the head says too.
+    Records,
 }
 
 impl Subject {

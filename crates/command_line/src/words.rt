@@ -19,10 +19,10 @@ ghost use Rattle.command_line.specs.Commanded.{Finds, Fails, AsksOf, AnswersIn, 
 ghost use Rattle.command_line.specs.Ties.{keeps_ties};
 ghost use Rattle.command_line.specs.Misread.{FailsFor, IsNoRaw, MisreadRequest, Misread, Misplaced};
 ghost use Rattle.command_line.specs.Lines.{command_line};
-ghost use Rattle.command_line.specs.Selects.{Selects};
+ghost use Rattle.command_line.specs.Selects.{IsNoPathIfAny, Selects};
 ghost use Rattle.command_line.specs.Words.{IsCheckOf, IsBareCheckOf, NamesMode, NamesModeIfAny};
 ghost use Rattle.command_line.specs.Found.{word_in, NumberIfAny, NumberIn, HasTerms, no_terms, NamesFiles, IsNoExtent, NamesOrderIfAny, NamesOrderOrBig, after_type_in, file_in};
-ghost use Rattle.command_line.specs.Found.{Asks, AsksList, AsksSearch, NamesStep, SeeksParts, SeeksSubject, asks_parts, type_in, is_raw, over_file, IsJobOf, IsNoList, IsNoRange, IsNoSearch, IsNoStep, IsNoBound, IsNoNumberIfAny, IsNoByteExtent};
+ghost use Rattle.command_line.specs.Found.{Asks, AsksList, AsksSearch, NamesStep, SeeksParts, SeeksSubject, asks_parts, type_in, is_raw, over_file, IsJobOf, HasHeader, IsListOver, IsSource, IsNoHeader, IsNoList, IsNoListExtent, IsNoRange, IsNoSearch, IsNoStep, IsNoBound, IsNoNumberIfAny, IsNoByteExtent};
 ghost use Rattle.command_line.specs.OffsetWord.{IsOffsetWord};
 ghost use Rattle.command_line.specs.Styles.{IsNoElementsIfAny};
 ghost use Rattle.text_output.specs.Styles.{plain};
@@ -32,22 +32,22 @@ use crate::answer_form::AnswerForm;
 use crate::fault_form::FaultForm;
 use crate::identification::Identification;
 use crate::numerals::whole_number;
-use crate::request::{FileNames, Form, Over, RecordList, Request, ValueSearch};
+use crate::request::{FileNames, Form, Over, RecordList, RecordsOf, Request, ValueSearch};
 use crate::selection::{Choice, Selection};
 use crate::start::Start;
-use crate::subject::{BY_HEAD, Subject, has_type, is_by_head};
+use crate::subject::{BY_HEAD, HeadType, Subject, has_type, is_by_head};
 use crate::terms::Terms;
 use arguments::arguments;
 use bit_space::Order;
-use bytes::{bits_of, byte_of, bytes_in, window_of};
+use bytes::{bits_if_any, bits_of, byte_of, bytes_in, window_of};
 use clap::ArgMatches;
 use clap::error::ErrorKind;
 use commands::{ATTEMPT_LIMIT, PROGRAM, SHOWN_LEVELS, program};
 use found::{after_type, flag_of, number_if_any, number_of, type_word, word, word_if_any, word_of};
 use line::{command_line, without_help_of_help};
-use mapping::{mapping_words, shown_subject, sought_subject, subject_of};
+use mapping::{mapping_words, shown_subject, subject_by_part, subject_of};
 use parser::Ties;
-use selected::{part_beside, selection_of};
+use selected::{part_beside, path_if_any, selection_of};
 use shown::shown_words;
 use std::alloc::{AllocError, Global};
 use style::{
@@ -63,9 +63,16 @@ use usage::without_wrong_tip;
 /// The usage error for arguments that are wrong, but whose escaped forms clap accepts.
 const WRONG_WORD: &str = "error: an argument has bytes that aren't printed\n";
 
-/// The usage error for a list of records whose type is that of a head.
-const NO_RECORD_TYPE: &str =
-    "error: records needs the TYPE of a record: - is that of a whole file\n\nFor more information, try '--help'.\n";
+/// The usage error for a list that goes on, and isn't inside a value.
+const NO_LIST: &str =
+    "error: --resume needs --of, or a PICKLE +NAME without a TYPE or with -: without them --at goes on\n\nFor more information, try '--help'.\n";
+
+/// The usage error for names of columns in JSON, which has them in each object.
+const NO_HEADER: &str =
+    "error: --header prints flat: json has the names in each line\n\nFor more information, try '--help'.\n";
+
+/// How messages name the argument for the path to a list.
+const OF: &str = "--of <PATH>";
 
 /// The usage error for places that don't move.
 const NO_STEP: &str = "error: --step is at least 1#b\n\nFor more information, try '--help'.\n";
@@ -272,20 +279,13 @@ fn untied_usage(
     found: &ArgMatches<'_>,
     words: &[String],
 ) -> Result<String, AllocError> {
-    if names_whole_type(command, found) {
-        String::from_str(alloc, NO_RECORD_TYPE)
-    } else if leaves_type_out(command, found) {
+    if leaves_type_out(command, found) {
         usage_of(alloc, words, Ties::WithoutType)
     } else if leaves_pickle_out(command, found) {
         usage_of(alloc, words, Ties::WithoutPickle)
     } else {
         usage_of(alloc, words, Ties::With)
     }
-}
-
-// Whether the type of a record is that of a whole file, which the head of the pickle says.
-fn names_whole_type(command: &str, found: &ArgMatches<'_>) -> bool {
-    command == "records" && is_by_head(word(found, "PICKLE"), found.get_str("TYPE"))
 }
 
 // Whether the pickle and TYPE are left out among the arguments of a command.
@@ -296,7 +296,7 @@ fn leaves_pickle_out(command: &str, found: &ArgMatches<'_>) -> bool {
 // Whether TYPE is left out among the arguments of a command, which are enough without it.
 fn leaves_type_out(command: &str, found: &ArgMatches<'_>) -> bool {
     match command {
-        "map" | "show" | "find" => has_words(found, "FILE") && !is_given(found, "FILE"),
+        "map" | "show" | "records" | "find" => has_words(found, "FILE") && !is_given(found, "FILE"),
         "bound" => has_words(found, "BITS") && !is_given(found, "BITS"),
         "each" => !is_given(found, "TYPE") && has_type(word(found, "PICKLE"), None),
         _ => false,
@@ -377,15 +377,16 @@ fn usage_of(alloc: Global, words: &[String], ties: Ties) -> Result<String, Alloc
     let shown = shown_words(alloc, words)?;
     let named = after_name(alloc, shown.as_slice())?;
     match program(alloc, arguments(), ties)?.try_get_matches_from(named.as_slice()) {
-        Ok(_matches) if has_inside(words) => String::from_str(alloc, NO_HEAD),
+        Ok(_matches) if has_option(words, "--inside") => String::from_str(alloc, NO_HEAD),
+        Ok(_matches) if has_option(words, "--resume") => String::from_str(alloc, NO_LIST),
         Ok(_matches) => String::from_str(alloc, WRONG_WORD),
         Err(error) => without_wrong_tip(alloc, text_of(alloc, &error)?, words),
     }
 }
 
-// Whether a type of the pickle's head is requested. clap knows nothing of what that needs.
-fn has_inside(words: &[String]) -> bool {
-    words.iter().any(|word| word.as_str() == "--inside")
+// Whether an option is among the arguments, of which clap doesn't know what it needs.
+fn has_option(words: &[String], option: &str) -> bool {
+    words.iter().any(|word| word.as_str().starts_with(option))
 }
 
 fn text_of(alloc: Global, error: &clap::Error) -> Result<String, AllocError> {
@@ -585,15 +586,15 @@ fn read_each(alloc: Global, found: &ArgMatches<'_>) -> Result<Job, WordFault>
 fn read_records(alloc: Global, found: &ArgMatches<'_>) -> Result<Job, WordFault>
     ensures asks { IfOk result (Asks (found_of found.now)) }
     ensures command { IfOk result (IsJobOf (Some (codes "records"))) }
-    ensures offset { IfErr result (λ fault. fault ≡ WordFault.Offset → IsNoExtent (found_of found.now)) }
+    ensures offset { IfErr result (λ fault. fault ≡ WordFault.Offset → IsNoListExtent (found_of found.now)) }
     ensures misread { IfErr result (FailsFor (MisreadRequest (found_of found.now) Choice.Columns
-        ⊎ IsNoList (found_of found.now)) (IsNoExtent (found_of found.now))) }
+        ⊎ IsNoList (found_of found.now)) (IsNoListExtent (found_of found.now))) }
 {
     let spool = spool_of(alloc, found)?;
     let terms = terms_of(alloc, found, Choice::Columns, Style::plain())?;
-    let list = list_of(alloc, found)?;
-    let file = word_of(alloc, found, "FILE")?;
-    let subject = subject_of(alloc, found, found.get_str("TYPE"))?;
+    let over = records_of(alloc, found)?;
+    let name = type_word(found, "FILE");
+    let subject = subject_by_part(alloc, found, name, HeadType::Records)?;
     let mapping = mapping_words(alloc, found)?;
     Ok(Job::Request(Request {
         start: mapping.start,
@@ -608,15 +609,42 @@ fn read_records(alloc: Global, found: &ArgMatches<'_>) -> Result<Job, WordFault>
         },
         progress: flag_of(found, "progress"),
         subject,
-        over: Over::Records { file, list },
+        over,
     }))
+}
+
+// The records of a list in a file.
+fn records_of(alloc: Global, found: &ArgMatches<'_>) -> Result<Over, WordFault>
+    ensures ok { IfOk result (IsListOver (found_of found.now)) }
+    ensures offset { IfErr result (λ fault. fault ≡ WordFault.Offset → IsNoListExtent (found_of found.now)) }
+    ensures misread { IfErr result (FailsFor (IsNoList (found_of found.now)) (IsNoListExtent (found_of found.now))) }
+{
+    let of = source_of(alloc, found)?;
+    let list = list_of(alloc, found)?;
+    let file = file_of(alloc, found)?;
+    Ok(Over::Records { file, of, list })
+}
+
+// What the records of a list are: elements at the path that is given, or that the head of the pickle says, or values.
+fn source_of(alloc: Global, found: &ArgMatches<'_>) -> Result<RecordsOf, WordFault>
+    ensures ok { IfOk result (IsSource (found_of found.now) (first_value (found_of found.now) (codes "of"))) }
+    ensures fault { IfErr result (λ fault. fault ≢ WordFault.Offset) }
+    ensures misread { IfErr result (FailsFor (IsNoPathIfAny (first_value (found_of found.now) (codes "of"))) ⊥) }
+{
+    if let Some(path) = path_if_any(alloc, found, "of", OF)? {
+        return Ok(RecordsOf::Path(path));
+    }
+    match is_by_head(word(found, "PICKLE"), type_word(found, "FILE")) {
+        true => Ok(RecordsOf::Head),
+        false => Ok(RecordsOf::Values),
+    }
 }
 
 // Which records are printed, and how their list may end.
 fn list_of(alloc: Global, found: &ArgMatches<'_>) -> Result<RecordList, WordFault>
     ensures ok { IfOk result (AsksList (found_of found.now)) }
-    ensures fault { IfErr result (λ fault. fault ≢ WordFault.Offset) }
-    ensures misread { IfErr result (FailsFor (IsNoList (found_of found.now)) ⊥) }
+    ensures offset { IfErr result (λ fault. fault ≡ WordFault.Offset → IsNoListExtent (found_of found.now)) }
+    ensures misread { IfErr result (FailsFor (IsNoList (found_of found.now)) (IsNoListExtent (found_of found.now))) }
 {
     Ok(RecordList {
         omit: number_of(alloc, found, "omit", "--omit <N>", 0)?,
@@ -624,8 +652,23 @@ fn list_of(alloc: Global, found: &ArgMatches<'_>) -> Result<RecordList, WordFaul
         any_end: flag_of(found, "any-end"),
         flush: flag_of(found, "flush"),
         report_end: flag_of(found, "report-end"),
+        header: header_of(alloc, found)?,
         grows: found.get_str("limit").is_none(),
+        resume: bits_if_any(found, "resume")?,
     })
+}
+
+// Whether a line with the names of the columns comes first. JSON has none.
+fn header_of(alloc: Global, found: &ArgMatches<'_>) -> Result<bool, WordFault>
+    ensures ok { IfOk result (HasHeader (found_of found.now)) }
+    ensures fault { IfErr result (λ fault. fault ≢ WordFault.Offset) }
+    ensures misread { IfErr result (FailsFor (IsNoHeader (found_of found.now)) ⊥) }
+{
+    let header = flag_of(found, "header");
+    if header && word(found, "mode") == "json" {
+        return Err(WordFault::Usage(String::from_str(alloc, NO_HEADER)?));
+    }
+    Ok(header)
 }
 
 fn read_find(alloc: Global, found: &ArgMatches<'_>) -> Result<Job, WordFault>
@@ -668,7 +711,8 @@ fn found_subject(alloc: Global, found: &ArgMatches<'_>, terms: &Terms) -> Result
         IfErr result (FailsFor (SeeksParts (found_of found.now)) ⊥) }
 {
     if !shows_file_alone(found) {
-        return Ok(sought_subject(alloc, found, type_word(found, "FILE"))?);
+        let name = type_word(found, "FILE");
+        return Ok(subject_by_part(alloc, found, name, HeadType::Inside)?);
     }
     if asks_parts(terms) {
         return Err(WordFault::Usage(String::from_str(alloc, NO_PARTS)?));

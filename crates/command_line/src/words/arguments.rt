@@ -296,7 +296,7 @@ const MAPPING: &[Argument] = &[
     },
     // Print a [table](#many-parts-and-tables): a line for each part that PATTERN leads to, with a column for each
     // `--get`, a path from that part on, and tabs between the columns. The mode is `flat` or `json`, in which each line
-    // is an object with the paths as keys.
+    // is an object with the names as keys. `--get NAME=PATH` names a column, which is else named by its path.
     Argument {
         of: &["map"],
         name: "rows",
@@ -305,13 +305,21 @@ const MAPPING: &[Argument] = &[
         help: "Print a line for each part that PATTERN leads to, with a column for each --get",
         ..OPTION
     },
-    // With `--rows`, print the paths of the columns first.
+    // Print the names of the columns first, if columns are printed.
+    Argument {
+        of: &["records"],
+        name: "header",
+        is_rare: true,
+        help: "Print the names of the columns first [default: no]",
+        ..FLAG
+    },
+    // With `--rows`, print the names of the columns first.
     Argument {
         of: &["map"],
         name: "header",
         tie: Tie::Needs("rows"),
         is_rare: true,
-        help: "With --rows, print the paths of the columns first [default: no]",
+        help: "With --rows, print the names of the columns first [default: no]",
         ..FLAG
     },
     // What a part that isn't there is: `fault NoSuchPart`, or with `empty` an empty column or line, in JSON `null`.
@@ -341,6 +349,7 @@ const MAPPING: &[Argument] = &[
         value: "N",
         accepts: Accepts::Number,
         default: Some("0"),
+        is_rare: true,
         help: "How many records are mapped first, and not printed",
         ..OPTION
     },
@@ -360,6 +369,26 @@ const MAPPING: &[Argument] = &[
         is_rare: true,
         help: "Print at last where the next record would begin, and how many there were [default: no]",
         ..FLAG
+    },
+    // The records are the elements of the array at PATH in a value of TYPE, `.` for TYPE itself. The value is mapped up to that
+    // array, and nothing after it. PATH leads through fields of structs.
+    Argument {
+        of: &["records"],
+        name: "of",
+        value: "PATH",
+        help: "The records are those of the array at PATH in TYPE, as .packets [default: values of TYPE]",
+        ..OPTION
+    },
+    // With `--of`, or a list that the head of +NAME says: go on at this bit of FILE, where a record of a list without a bound
+    // ended, as `--report-end` says it.
+    Argument {
+        of: &["records"],
+        name: "resume",
+        value: "OFFSET",
+        accepts: Accepts::Offset,
+        is_rare: true,
+        help: "With --of, where in FILE the list goes on [default: at its first record]",
+        ..OPTION
     },
     // How far each start is from the one before: at least `1#b`.
     Argument {
@@ -811,27 +840,21 @@ const POSITIONALS: &[Argument] = &[
         ..POSITIONAL
     },
     Argument {
-        of: &["map", "show", "each", "find", "bound"],
+        of: &["map", "show", "each", "records", "find", "bound"],
         name: "TYPE",
         kind: Kind::Omissible,
         help: "The type to map. Left out or - after +NAME, it is that of the pickle's head",
         ..POSITIONAL
     },
     Argument {
-        of: &["records"],
-        name: "TYPE",
-        help: "The type of a record",
-        ..POSITIONAL
-    },
-    Argument {
-        of: &["map", "show", "find"],
+        of: &["map", "show", "records", "find"],
         name: "FILE",
         kind: Kind::Omissible,
         help: "The file of the bytes",
         ..POSITIONAL
     },
     Argument {
-        of: &["records", "dump"],
+        of: &["dump"],
         name: "FILE",
         help: "The file of the bytes",
         ..POSITIONAL

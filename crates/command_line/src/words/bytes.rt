@@ -4,7 +4,7 @@ ghost use Rattle.clap.specs.Matches.{found_of, first_value};
 ghost use Rattle.command_line.specs.Numerals.{IsByteCount};
 ghost use Rattle.command_line.specs.OffsetWord.{IsOffsetWord, IsNoOffset, IsNoByteOffset};
 ghost use Rattle.command_line.specs.Starts.{NamesStart, IsNoStart, NamesByteIfAny, IsNoByteIfAny, NamesBytes, IsNoBytes, NamesWindow, IsNoWindow};
-ghost use Rattle.command_line.specs.Found.{word_in};
+ghost use Rattle.command_line.specs.Found.{word_in, IsNoOffsetIfAny, NamesOffsetIfAny};
 ghost use Rattle.command_line.specs.declared.words.WordFault.TheVariants.{Offset};
 
 use crate::numerals::byte_count;
@@ -87,6 +87,18 @@ pub fn bits_of(word: &str) -> Result<u64, WordFault>
     match offset_word(word.as_bytes()) {
         Some(bits) => Ok(bits),
         None => Err(WordFault::Offset),
+    }
+}
+
+/// The number of bits that an argument names, if it was given.
+pub fn bits_if_any(found: &ArgMatches<'_>, name: &str) -> Result<Option<u64>, WordFault>
+    ensures ok { IfOk result (NamesOffsetIfAny (first_value (found_of found.now) name.now)) }
+    ensures err { IfErr result (λ fault. fault ≡ Offset) }
+    ensures refused { OnErr result (IsNoOffsetIfAny (first_value (found_of found.now) name.now)) }
+{
+    match found.get_str(name) {
+        Some(word) => Ok(Some(bits_of(word)?)),
+        None => Ok(None),
     }
 }
 

@@ -112,10 +112,11 @@ const RECORDS: Verb = Verb {
     about: "Maps a type again and again, each time from the end of the value before, and prints each value",
     usage: None,
     help: "\
-The values are the elements that an array of TYPE without a bound has there. Each is printed when it is there, and then
-forgotten: a list of any length needs the memory of one record. A fault comes after the lines before it. Where the list ends
-before FILE does, as a log that was cut off, the lines stand, and the run ends with fault Left at the bit after them. The
-options are those of map, and --limit is the most steps of all records together.
+The values are the elements that an array of TYPE without a bound has there. With --of PATH they are the elements of the array
+at PATH in one value of TYPE, which is mapped up to that array. Without TYPE, or for -, the head of +NAME says the type and the
+path. Each is printed when it is there, and then forgotten: a list of any length needs the memory of one record. A fault comes
+after the lines before it. Where the list ends before FILE does, as a log that was cut off, the lines stand, and the run ends
+with fault Left at the bit after them. The options are those of map, and --limit is the most steps of all records together.
 
 Example:
   printf '\\001\\002\\003\\004' > four.bin

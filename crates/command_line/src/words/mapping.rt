@@ -1,7 +1,7 @@
 //! What a mapping is given, as arguments request it.
 ghost use Rattle.std.specs.Prelude.{◌≡◌, ◌≢◌, IfOk, IfErr, codes, option_map};
 ghost use Rattle.clap.specs.Matches.{found_of, first_value};
-ghost use Rattle.command_line.specs.Found.{NumberIn, NamesOrder, AsksOrder, AsksSubject, AsksSought, ShowsSubject, AsksMappingOf, type_in, IsNoExtent, IsNoNumberIfAny};
+ghost use Rattle.command_line.specs.Found.{NumberIn, NamesOrder, AsksOrder, AsksSubject, AsksPart, ShowsSubject, AsksMappingOf, type_in, IsNoExtent, IsNoNumberIfAny};
 ghost use Rattle.command_line.specs.Misread.{FailsFor};
 ghost use Rattle.command_line.specs.Subjects.{is_inside};
 ghost use Rattle.command_line.specs.declared.words.WordFault.TheVariants.{Offset};
@@ -72,18 +72,17 @@ pub fn shown_subject(alloc: Global, found: &ArgMatches<'_>) -> Result<Subject, A
     subject_of(alloc, found, type_word(found, "FILE"))
 }
 
-/// What is looked for: the type that `name` is, the argument for it, or the one for the format inside other bytes, which the
-/// head of the pickle says.
-pub fn sought_subject(
+/// What is looked for or listed: the type that `name` is, the argument for it, or this one of the pickle's head.
+pub fn subject_by_part(
     alloc: Global,
     found: &ArgMatches<'_>,
     name: Option<&str>,
+    part: HeadType,
 ) -> Result<Subject, AllocError>
-    ensures { IfOk result (AsksSought (found_of found.now) (option_map (λ name. name.now) name.entry)) }
+    ensures { IfOk result (AsksPart (found_of found.now) part (option_map (λ name. name.now) name.entry)) }
 {
     let pickle = word_of(alloc, found, "PICKLE")?;
     if is_by_head(&pickle, name) {
-        let part = HeadType::Inside;
         return Ok(Subject::ByHead { pickle, part });
     }
     let name = String::from_str(alloc, name.unwrap_or(""))?;

@@ -44,10 +44,13 @@ Options of map, show and each:
 
 Options of records:
   --limit N        the most steps of all records together [default: 1000000000, or 256 a byte if that is more]
+  --header         print the names of the columns first [default: no]
   --count N        stop after the lines of N records [default: where the list ends]
   --omit N         how many records are mapped first, and not printed [default: 0]
   --any-end        accept a list that ends before FILE does [default: fault Left]
   --report-end     print at last where the next record would begin, and how many there were [default: no]
+  --of PATH        the records are those of the array at PATH in TYPE, as .packets [default: values of TYPE]
+  --resume OFFSET  with --of, where in FILE the list goes on [default: at its first record]
   --mode MODE      how each value is printed (flat, tree, json or lines) [default: flat]
   --flush          write each record before the next one is mapped [default: no]
 
@@ -63,7 +66,7 @@ Options of map, show, each, records, find and identify:
 
 Options of map:
   --rows PATTERN   print a line for each part that PATTERN leads to, with a column for each --get
-  --header         with --rows, print the paths of the columns first [default: no]
+  --header         with --rows, print the names of the columns first [default: no]
   --mode MODE      how the value is printed, or raw for the bytes that it takes (flat, tree, json, lines or raw)
                    [default: flat]
 

@@ -3,8 +3,8 @@ ghost use Rattle.std.specs.Prelude.{◌≡◌, ◌≢◌, None, map, codes, IfOk
 ghost use Rattle.clap.specs.Matches.{found_of, first_value};
 ghost use Rattle.command_line.specs.Paths.{steps_of, IsPath};
 ghost use Rattle.command_line.specs.Patterns.{parts_of, IsPattern};
-ghost use Rattle.command_line.specs.Misread.{FailsFor, AnyWord, IsNoPath, IsNoPathIfAny, IsNoPattern, IsNoOnePath, MisreadSelection, MisreadColumns, MisreadRows};
-ghost use Rattle.command_line.specs.Selects.{NamesAbsent, ArePatterns, AreColumns, IsOnePath, NamesRows, SelectsParts, IsRowOf, SelectsColumns, Selects, PartBeside, HasRows, IsColumn, is_one_path};
+ghost use Rattle.command_line.specs.Misread.{FailsFor, AnyWord, IsNoPattern, IsNoOnePath, IsNoColumn, MisreadSelection, MisreadColumns, MisreadRows};
+ghost use Rattle.command_line.specs.Selects.{IsNoPath, IsNoPathIfAny, PathIfAny, NamesAbsent, ArePatterns, AreColumns, IsOnePath, NamesRows, SelectsParts, IsRowOf, SelectsColumns, Selects, PartBeside, HasRows, IsColumn, begins_path, column_name, column_path, is_named, is_one_path, is_row};
 ghost use Rattle.command_line.specs.declared.words.WordFault.TheVariants.{Offset};
 
 use crate::path::{Path, PathFault, read_path};
@@ -59,9 +59,26 @@ pub fn part_beside(
     ensures misread { IfErr result
         (FailsFor ((selection.now ≡ None) × IsNoPathIfAny (first_value (found_of found.now) (codes "get"))) ⊥) }
 {
-    match (selection, found.get_str("get")) {
-        (None, Some(word)) => Ok(Some(path_of(alloc, word)?)),
-        _ => Ok(None),
+    match selection {
+        Some(_) => Ok(None),
+        None => path_if_any(alloc, found, "get", GET),
+    }
+}
+
+/// The path that an argument is, if it was given. `place` is how messages name the argument.
+pub fn path_if_any(
+    alloc: Global,
+    found: &ArgMatches<'_>,
+    name: &str,
+    place: &str,
+) -> Result<Option<Path>, WordFault>
+    ensures path { IfOk result (PathIfAny (first_value (found_of found.now) name.now)) }
+    ensures fault { IfErr result (λ fault. fault ≢ Offset) }
+    ensures misread { IfErr result (FailsFor (IsNoPathIfAny (first_value (found_of found.now) name.now)) ⊥) }
+{
+    match found.get_str(name) {
+        Some(word) => Ok(Some(path_of(alloc, word, place)?)),
+        None => Ok(None),
     }
 }
 
@@ -103,7 +120,7 @@ fn is_one_path(patterns: &[Pattern]) -> bool
     }
 }
 
-// The columns of the value itself, whose paths the arguments are. One alone is a part.
+// The columns of the value itself, which the arguments say. One alone that has no name is a part.
 fn columns_selection(
     alloc: Global,
     words: &[&str],
@@ -113,7 +130,7 @@ fn columns_selection(
     ensures fault { IfErr result (λ fault. fault ≢ Offset) }
     ensures misread { IfErr result (FailsFor (MisreadColumns (map (λ word. word.now) words.now)) ⊥) }
 {
-    if words.len() > 1 {
+    if is_row(words) {
         return Ok(Some(row_of(alloc, words, absent)?));
     }
     match (words, absent) {
@@ -125,11 +142,22 @@ fn columns_selection(
     }
 }
 
-// One row, the value itself, with the columns whose paths the arguments are.
+// Whether a row is printed, in place of one part: of many columns, or of one that has a name.
+fn is_row(words: &[&str]) -> bool
+    ensures { result ≡ is_row (map (λ word. word.now) words.now) }
+{
+    match words {
+        [] => false,
+        [word] => is_named(word),
+        _ => true,
+    }
+}
+
+// One row, the value itself, with the columns that the arguments say.
 fn row_of(alloc: Global, words: &[&str], absent: Absent) -> Result<Selection, WordFault>
     ensures ok { IfOk result (IsRowOf (map (λ word. word.now) words.now) absent) }
     ensures fault { IfErr result (λ fault. fault ≢ Offset) }
-    ensures misread { IfErr result (FailsFor (AnyWord IsNoPath (map (λ word. word.now) words.now)) ⊥) }
+    ensures misread { IfErr result (FailsFor (MisreadColumns (map (λ word. word.now) words.now)) ⊥) }
 {
     let rows = Rows {
         pattern: Pattern::root(alloc),
@@ -209,7 +237,7 @@ fn patterns_of(alloc: Global, words: &[&str]) -> Result<Vec<Pattern>, WordFault>
 fn columns_of(alloc: Global, words: &[&str]) -> Result<Vec<Column>, WordFault>
     ensures ok { IfOk result (λ columns. AreColumns (map (λ word. word.now) words.now) columns.items) }
     ensures fault { IfErr result (λ fault. fault ≢ Offset) }
-    ensures misread { IfErr result (FailsFor (AnyWord IsNoPath (map (λ word. word.now) words.now)) ⊥) }
+    ensures misread { IfErr result (FailsFor (AnyWord IsNoColumn (map (λ word. word.now) words.now)) ⊥) }
 {
     let mut columns = Vec::new(alloc);
     for word in words {
@@ -222,17 +250,49 @@ fn columns_of(alloc: Global, words: &[&str]) -> Result<Vec<Column>, WordFault>
     Ok(columns)
 }
 
-// The column whose path an argument is.
+// The column that an argument says: its path, or its name, `=` and its path.
 fn column_of(alloc: Global, word: &str) -> Result<Column, WordFault>
     ensures ok { IfOk result (IsColumn word.now) }
     ensures fault { IfErr result (λ fault. fault ≢ Offset) }
-    ensures misread { IfErr result (FailsFor (IsNoPath word.now) ⊥) }
+    ensures misread { IfErr result (FailsFor (IsNoColumn word.now) ⊥) }
 {
-    let path = path_of(alloc, word)?;
+    let (name, path) = split_column(word);
+    let path = path_of(alloc, path, GET)?;
     Ok(Column {
-        name: String::from_str(alloc, word)?,
+        name: String::from_str(alloc, name)?,
         path,
     })
+}
+
+// The name of a column, which is the path if it has no other, and the text of its path.
+fn split_column(word: &str) -> (&str, &str)
+    ensures name { result.0.now ≡ column_name word.now }
+    ensures path { result.1.now ≡ column_path word.now }
+{
+    if begins_path(word) {
+        return (word, word);
+    }
+    match word.split_once('=') {
+        Some((name, path)) => (name, path),
+        None => (word, word),
+    }
+}
+
+// Whether an argument for a column has its name, before the first `=`.
+fn is_named(word: &str) -> bool
+    ensures { result ≡ is_named word.now }
+{
+    !begins_path(word) && word.split_once('=').is_some()
+}
+
+// Whether a text begins as a path does, or with a `=`, before which there is no name.
+fn begins_path(word: &str) -> bool
+    ensures { result ≡ begins_path word.now }
+{
+    match word.as_bytes() {
+        [] => true,
+        [first, ..] => matches!(*first, b'.' | b'[' | b'^' | b'='),
+    }
 }
 
 // The pattern that an argument is. `place` is how messages name the argument, and `why` what they say of another.
@@ -248,15 +308,15 @@ fn pattern_of(alloc: Global, word: &str, place: &str, why: &str) -> Result<Patte
     }
 }
 
-// The path that an argument is.
-fn path_of(alloc: Global, word: &str) -> Result<Path, WordFault>
+// The path that an argument is. `place` is how messages name the argument.
+fn path_of(alloc: Global, word: &str, place: &str) -> Result<Path, WordFault>
     ensures path { IfOk result (λ path. IsPath word.now (steps_of path.steps.items)) }
     ensures fault { IfErr result (λ fault. fault ≢ Offset) }
     ensures misread { IfErr result (FailsFor (IsNoPath word.now) ⊥) }
 {
     match read_path(alloc, word.as_bytes()) {
         Ok(path) => Ok(path),
-        Err(PathFault::Form) => Err(WordFault::Usage(invalid_value(alloc, word, GET, NO_PATH)?)),
+        Err(PathFault::Form) => Err(WordFault::Usage(invalid_value(alloc, word, place, NO_PATH)?)),
         Err(PathFault::Memory) => Err(WordFault::Memory),
     }
 }

@@ -2,7 +2,7 @@
 ghost use Rattle.std.specs.Prelude.{◌≡◌, codes, option_map};
 ghost use Rattle.clap.specs.Matches.{found_of, first_value};
 ghost use Rattle.command_line.specs.Found.{shows_file_alone};
-ghost use Rattle.command_line.specs.Ties.{is_given, are_apart, needs, is_either_given, is_typed, has_words, keeps_inside, keeps_file_ties, keeps_map_ties, keeps_show_ties, keeps_each_ties, keeps_records_ties, keeps_find_ties, keeps_identify_ties, keeps_text_ties, keeps_bound_ties, keeps_types_ties, keeps_dump_ties, keeps_ties};
+ghost use Rattle.command_line.specs.Ties.{is_given, are_apart, needs, is_either_given, is_typed, has_words, keeps_inside, keeps_file_ties, keeps_map_ties, keeps_show_ties, keeps_each_ties, keeps_records_ties, keeps_resume, keeps_find_ties, keeps_identify_ties, keeps_text_ties, keeps_bound_ties, keeps_types_ties, keeps_dump_ties, keeps_ties};
 
 use crate::subject::{has_type, is_by_head, is_file_alone};
 use crate::words::found::{after_type, type_word, word};
@@ -61,7 +61,16 @@ fn keeps_each_ties(found: &ArgMatches<'_>) -> bool
 fn keeps_records_ties(found: &ArgMatches<'_>) -> bool
     ensures { result ≡ keeps_records_ties (found_of found.now) }
 {
-    are_apart(found, "byte", "at") && !is_by_head(word(found, "PICKLE"), found.get_str("TYPE"))
+    are_apart(found, "byte", "at")
+        && has_words(found, "FILE")
+        && keeps_resume(found, type_word(found, "FILE"))
+}
+
+// Whether a list that goes on is inside a value, at a path that is given or that the head says.
+fn keeps_resume(found: &ArgMatches<'_>, name: Option<&str>) -> bool
+    ensures { result ≡ keeps_resume (found_of found.now) (option_map (λ name. name.now) name.entry) }
+{
+    needs(found, "resume", "of") || is_by_head(word(found, "PICKLE"), name)
 }
 
 fn keeps_find_ties(found: &ArgMatches<'_>) -> bool

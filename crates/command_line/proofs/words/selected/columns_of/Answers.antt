@@ -1,4 +1,4 @@
-use Rattle.command_line.specs.Misread.{IsNoPath}
+use Rattle.command_line.specs.Misread.{IsNoColumn}
 use Rattle.command_line.proofs.Misreads.{passed, word_at}
 use Rattle.command_line.proofs.SelectedWords.{columns_step}
 use Rattle.command_line.proofs.words.selected.columns_of.Goals as goal
@@ -10,5 +10,5 @@ loop-word-preserved c =
 
 pub returns-in_err-column-clause-misread : goal.returns-in_err-column-clause-misread
 returns-in_err-column-clause-misread c = passed _ _ _ _ _ _ c.from_residual.ensures.1
-    (word_at IsNoPath c.args.words.now c.loop-word.word-index _ c.loop-word-test.true)
+    (word_at IsNoColumn c.args.words.now c.loop-word.word-index _ c.loop-word-test.true)
     (λ never. never) c.in_err-column.ensures.misread
