@@ -1,16 +1,17 @@
 //! Prints the parts of a value that a selection leads to.
 
-ghost use Rattle.std.specs.Prelude.{OnOk, OnErr};
+ghost use Rattle.std.specs.Prelude.{OnOk, OnErr, true};
 ghost use Rattle.std.specs.Io.KnownBytes.{Appends};
 ghost use Rattle.text_output.specs.Written.{AppendsPart};
 ghost use Rattle.value_text.specs.Puts.{Puts};
+ghost use Rattle.poke_batch.specs.Selected.{header_text};
 ghost use Rattle.poke_batch.specs.TypedLines.{lent_sight, typed_shape, shape_in, rows_in, patterns_in, pattern_in, next_in, places_in, members_in};
 
 use crate::line::{Format, Line, put_header, put_lines};
 use crate::part::step_beside;
 use crate::places::{Places, places_of};
 use command_line::pattern::{Pattern, PatternStep};
-use command_line::selection::{Rows, Shape};
+use command_line::selection::{Column, Rows, Shape};
 use std::io::Write;
 use text_output::mode::Mode;
 use text_output::style::Style;
@@ -47,6 +48,21 @@ pub fn print_shape<W: Write>(
         line: Line::Part,
     };
     put_shape(&mut printer, format, shape, value);
+    printer.finish()
+}
+
+/// Prints the names of columns, with tabs between them, and a line feed. If the writer fails, what it accepted is the first
+/// bytes of the text, but not all of them.
+pub fn print_header<W: Write>(columns: &[Column], w: &mut W) -> Result<(), WriteFault>
+    ensures ok { OnOk result (Appends (W.contents w.old) (W.contents w.new) (header_text true columns.now)) }
+    ensures err { OnErr result (AppendsPart (W.contents w.old) (W.contents w.new) (header_text true columns.now)) }
+{
+    let mut printer = Printer {
+        writer: w,
+        line: Buffer::new(),
+        failed: false,
+    };
+    put_header(&mut printer, columns);
     printer.finish()
 }
 
