@@ -1,0 +1,3 @@
+mod Members
+mod Within
+mod Apart
