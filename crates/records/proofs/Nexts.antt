@@ -24,15 +24,16 @@ use Rattle.poke_batch.specs.Runs.{IsAsked}
 use Rattle.poke_batch.specs.RunsUnder.{MapsUnder, end_saying}
 use Rattle.poke_batch.specs.TypeRuns.{run_type}
 use Rattle.poke_batch.specs.declared.type_run.TypeRun.{TypeRun}
-use Rattle.records.specs.Next.{EndsHere, GoesOn, HasFault, HoldsValue, IsNotPut, IsUntold, PutsDue, PutsHeld, cut_off, has_outcome, is_cut, is_empty, is_unput, is_untold, lacks_memory, no_more, omits, puts}
-use Rattle.records.specs.Records.{IsRecord, after, ask_at, goes_on, is_written}
-use Rattle.records.specs.Written.{Adds, EndsList, Gathers, IsRunAt, Stops, Tells, Writes, breaks, dropped, left_at, no_bits, no_memory, omitted, stopped, unwritten, written}
+use Rattle.records.specs.Next.{EndsHere, EndsHereBy, GoesOn, GoesOnBy, HasFault, HoldsValue, IsNotPut, IsUntold, PutsDue, PutsHeld, cut_off, has_outcome, is_cut, is_empty, is_unput, is_untold, lacks_memory, no_more, omits, puts}
+use Rattle.records.specs.Records.{IsRecord, after, ask_at, goes_on, is_counted, is_written}
+use Rattle.records.specs.Written.{AddsOne, BreaksAt, EndsList, Gathers, IsRunAt, Stops, Tells, Writes, at_value, breaks, dropped, left_at, no_bits, no_memory, omitted, stopped, unwritten, written}
 use Rattle.records.specs.declared.listing.Listing.{Listing}
 use Rattle.records.specs.declared.listing.Progress.{Progress}
 use Rattle.records.proofs.Lists.{still_on}
 use Rattle.run_parts.specs.Outcomes.{outcome_saying}
 use Rattle.run_parts.specs.Told.{AppendsUpTo}
 use Rattle.run_parts.specs.declared.outcome.Outcome.{Outcome}
+use Rattle.run_parts.specs.declared.outcome.Failure.TheVariants as failure
 use Rattle.run_parts.specs.declared.outcome.Outcome.TheVariants as outcome
 use Rattle.text_output.proofs.Parts.{Appends-keeps}
 use Rattle.value_store.specs.Slots.{Held}
@@ -107,9 +108,10 @@ ends_faulty pickle run listing first last at why ended on stop drops says = by_k
         (breaks on (dropped e stop))
     by_kind false e = breaks on (stopped e stop (says e))
 
-module _ (run next : TypeRun) (listing : Listing) (first begun done : SpaceView) (at : Progress)
+module _ (IsNext : Progress → Value → (steps : ℕ) → Type 0) (run next : TypeRun) (listing : Listing)
+    (first begun done : SpaceView) (at : Progress)
     (is_next : IsRunAt run at next) (since : Keeps first begun) (during : Keeps begun done) (value : Value) (steps : ℕ)
-    (mapped : IsRecord run first at value steps) (on : goes_on listing at (8 * first.len) ≡ true) where
+    (mapped : IsNext at value steps) (on : is_counted listing at.count ≡ false) where
   tells : (ended : Outcome) (text : List ℕ) → Gathers next listing at.count begun done value ended text →
       Tells run listing first at value ended text
   tells ended text ends = record {
@@ -129,9 +131,9 @@ module _ (run next : TypeRun) (listing : Listing) (first begun done : SpaceView)
   forward moves = subst (λ (start : ℕ). start < end_of value) starts moves
 
   adds : (more : List (List ℕ)) → at.place < end_of value → Writes run listing first at value more →
-      Adds run listing first at (after at value steps) more
+      AddsOne IsNext run listing first at (after at value steps) more
   adds more moves writes = record {
-    on = (still_on listing at (8 * first.len) on).0;
+    on = on;
     value = value;
     steps = steps;
     mapped = mapped;
@@ -152,36 +154,38 @@ module _ (run next : TypeRun) (listing : Listing) (first begun done : SpaceView)
   )
 
   pub goes : (out out' : Option (List ℕ)) (end : ℕ) → PutsHeld next listing at.count begun done value out out' end →
-      GoesOn run listing first at out out'
+      GoesOnBy IsNext run listing first at out out'
       (record { place = end; count = at.count + 1; left = at.left - 1 - steps })
   goes out out' end h =
       let both = due_written out out' h.more h.due in
       subst
-      (λ (place : ℕ). GoesOn run listing first at out out'
+      (λ (place : ℕ). GoesOnBy IsNext run listing first at out out'
       (record { place = place; count = at.count + 1; left = at.left - 1 - steps }))
       (sym h.is_end) (record { more = h.more; adds = adds h.more (forward h.moves) both.0; takes = both.1 })
 
   -- how the list ends where it isn't
-  untold_ends : (pickle : List ℕ) (ended : Outcome) → at.place < end_of value → is_written listing at.count ≡ true →
-      IsUntold next listing at.count begun done value ended → EndsList pickle run listing first done at ended
-  unfolding tells
-  untold_ends pickle _ moves due (has_outcome {ended = ended} {text = text} other ends) =
-      breaks on (unwritten mapped moves due other (tells ended text ends) (view_kept done))
-  untold_ends pickle _ moves due lacks_memory = no_memory
+  module _ (Ends : Progress → Outcome → Type 0)
+      (breaks : (ended : Outcome) → BreaksAt IsNext run listing first done at ended → Ends at ended)
+      (memory : Ends at (outcome.Failed failure.Memory)) where
+    untold_ends : (ended : Outcome) → at.place < end_of value → is_written listing at.count ≡ true →
+        IsUntold next listing at.count begun done value ended → Ends at ended
+    unfolding tells
+    untold_ends _ moves due (has_outcome {ended = ended} {text = text} other ends) =
+        breaks _ (unwritten mapped moves due other (tells ended text ends) (view_kept done))
+    untold_ends _ moves due lacks_memory = memory
 
-  pub ends_not_put : (pickle : List ℕ) (out out' : Option (List ℕ)) (ended : Outcome) →
-      IsNotPut next listing at.count begun done value out out' ended →
-      EndsHere pickle run listing first done at out out' ended
-  ends_not_put pickle out out' _ (is_empty still keeps) =
-      no_more
-      (subst (λ (place : ℕ).
-      EndsList pickle run listing first done at (outcome.Fault (record { kind = fault.NoBits; at = place })))
-      (sym starts) (breaks on (no_bits mapped (still ∙ starts)))) keeps
-  ends_not_put pickle out out' ended (is_unput moves due (is_untold told keeps)) =
-      no_more (untold_ends pickle ended (forward moves) due told) keeps
-  ends_not_put pickle out out' _ (is_unput moves due (is_cut put)) =
-      cut_off (adds (put.text ∷ []) (forward moves) (written due (tells outcome.Done put.text put.gathers))) due
-      (subst (λ (text : List ℕ). AppendsUpTo out out' text) (sym (append-nil put.text)) put.takes)
+    pub ends_not_put : (out out' : Option (List ℕ)) (ended : Outcome) →
+        IsNotPut next listing at.count begun done value out out' ended →
+        EndsHereBy IsNext Ends run listing first at out out' ended
+    ends_not_put out out' _ (is_empty still keeps) =
+        no_more
+        (subst (λ (place : ℕ). Ends at (outcome.Fault (record { kind = fault.NoBits; at = place })))
+        (sym starts) (breaks _ (no_bits mapped (still ∙ starts)))) keeps
+    ends_not_put out out' ended (is_unput moves due (is_untold told keeps)) =
+        no_more (untold_ends ended (forward moves) due told) keeps
+    ends_not_put out out' _ (is_unput moves due (is_cut put)) =
+        cut_off (adds (put.text ∷ []) (forward moves) (written due (tells outcome.Done put.text put.gathers))) due
+        (subst (λ (text : List ℕ). AppendsUpTo out out' text) (sym (append-nil put.text)) put.takes)
 
 -- a list went on when it began too
 pub on_since : (listing : Listing) (at : Progress) (first before : SpaceView) → Keeps first before
@@ -199,9 +203,10 @@ module _ (run : TypeRun) (listing : Listing) (first : SpaceView) (at : Progress)
       (record { place = end; count = at.count + 1; left = at.left - 1 - steps })
   next_goes {next} {before} {store} {steps} h begun done is_next since mapping writing paid on out out' end put =
       let still = on_since listing at first before since on in
-      goes run next listing first begun done at is_next (keeps_all since mapping) writing h.value steps
-      (is_record run next listing first before at is_next since (still_on listing at (8 * first.len) still).1 paid
-      store steps h) still out out' end put
+      let goes_on = still_on listing at (8 * first.len) still in
+      goes (IsRecord run first) run next listing first begun done at is_next (keeps_all since mapping) writing h.value
+      steps (is_record run next listing first before at is_next since goes_on.1 paid store steps h) goes_on.0
+      out out' end put
 
   pub next_not_put : {next : TypeRun} {before : SpaceView} {store : Held} {steps : ℕ}
       (h : HoldsValue next before store steps) (begun done : SpaceView)
@@ -212,9 +217,11 @@ module _ (run : TypeRun) (listing : Listing) (first : SpaceView) (at : Progress)
   next_not_put {next} {before} {store} {steps} h begun done is_next since mapping writing paid on pickle out out' ended
       why =
       let still = on_since listing at first before since on in
-      ends_not_put run next listing first begun done at is_next (keeps_all since mapping) writing h.value steps
-      (is_record run next listing first before at is_next since (still_on listing at (8 * first.len) still).1 paid
-      store steps h) still pickle out out' ended why
+      let goes_on = still_on listing at (8 * first.len) still in
+      ends_not_put (IsRecord run first) run next listing first begun done at is_next (keeps_all since mapping) writing
+      h.value steps (is_record run next listing first before at is_next since goes_on.1 paid store steps h) goes_on.0
+      (EndsList pickle run listing first done) (λ ended why. breaks still (at_value why)) no_memory
+      out out' ended why
 
   pub next_faulty : {next : TypeRun} {before done : SpaceView} {why : MapFault} (h : HasFault next before done why)
       → IsRunAt run at next → Keeps first before → Keeps before done → 0 < at.left

@@ -20,8 +20,8 @@ use Rattle.poke_batch.specs.Runs.{IsAsked}
 use Rattle.poke_batch.specs.RunsUnder.{AreTooFew, IsStoreOf, MapsUnder, end_saying}
 use Rattle.poke_batch.specs.TypeRuns.{run_type}
 use Rattle.poke_batch.specs.declared.type_run.TypeRun.{TypeRun}
-use Rattle.records.specs.Records.{is_written}
-use Rattle.records.specs.Written.{Adds, EndsList, Gathers}
+use Rattle.records.specs.Records.{IsRecord, is_written}
+use Rattle.records.specs.Written.{AddsOne, EndsList, Gathers}
 use Rattle.records.specs.declared.listing.Listing.{Listing}
 use Rattle.records.specs.declared.listing.Progress.{Progress}
 use Rattle.records.specs.declared.attempt.Kept.{Kept}
@@ -147,17 +147,28 @@ pub data IsNotPut (run : TypeRun) (listing : Listing) (before : ℕ) (begun done
       → IsNotPut run listing before begun done value out out' ended
 
 -- one more record was mapped, and what is due of it written; the list is now so far
-pub record GoesOn (run : TypeRun) (listing : Listing) (first : SpaceView) (at : Progress)
-    (out out' : Option (List ℕ)) (next : Progress) : Type 0 where
+pub record GoesOnBy (IsNext : Progress → Value → (steps : ℕ) → Type 0) (run : TypeRun) (listing : Listing)
+    (first : SpaceView) (at : Progress) (out out' : Option (List ℕ)) (next : Progress) : Type 0 where
   pub more : List (List ℕ)
-  pub adds : Adds run listing first at next more
+  pub adds : AddsOne IsNext run listing first at next more
   pub takes : Appends out out' (concat more)
 
 -- the list ends here, and nothing is written; or the output failed at one more record
-pub data EndsHere (pickle : List ℕ) (run : TypeRun) (listing : Listing) (first last : SpaceView) (at : Progress)
-    (out out' : Option (List ℕ)) : Outcome → Type 0 where
-  no_more : {ended : Outcome} → EndsList pickle run listing first last at ended → KeepsBytes out out' →
-      EndsHere pickle run listing first last at out out' ended
-  cut_off : {next : Progress} {more : List (List ℕ)} → Adds run listing first at next more
+pub data EndsHereBy (IsNext : Progress → Value → (steps : ℕ) → Type 0) (Ends : Progress → Outcome → Type 0)
+    (run : TypeRun) (listing : Listing) (first : SpaceView) (at : Progress) (out out' : Option (List ℕ)) :
+    Outcome → Type 0 where
+  no_more : {ended : Outcome} → Ends at ended → KeepsBytes out out' →
+      EndsHereBy IsNext Ends run listing first at out out' ended
+  cut_off : {next : Progress} {more : List (List ℕ)} → AddsOne IsNext run listing first at next more
       → is_written listing at.count ≡ true → AppendsUpTo out out' (concat more)
-      → EndsHere pickle run listing first last at out out' (outcome.Failed failure.Write)
+      → EndsHereBy IsNext Ends run listing first at out out' (outcome.Failed failure.Write)
+
+-- the same of a value of a run's type
+abbrev pub GoesOn : TypeRun → Listing → (first : SpaceView) → Progress → (out out' : Option (List ℕ)) →
+    (next : Progress) → Type 0
+GoesOn run listing first at out out' next = GoesOnBy (IsRecord run first) run listing first at out out' next
+
+abbrev pub EndsHere : (pickle : List ℕ) → TypeRun → Listing → (first last : SpaceView) → Progress →
+    (out out' : Option (List ℕ)) → Outcome → Type 0
+EndsHere pickle run listing first last at out out' ended =
+    EndsHereBy (IsRecord run first) (EndsList pickle run listing first last) run listing first at out out' ended

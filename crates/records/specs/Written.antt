@@ -51,23 +51,31 @@ pub data Writes (run : TypeRun) (listing : Listing) (first : SpaceView) (at : Pr
   written : {text : List ℕ} → is_written listing at.count ≡ true
       → Tells run listing first at value outcome.Done text → Writes run listing first at value (text ∷ [])
 
--- the next record is mapped, and this is due of it, before the list goes on after it
-pub record Adds (run : TypeRun) (listing : Listing) (first : SpaceView) (at next : Progress) (more : List (List ℕ)) :
-    Type 0 where
+-- the next record is mapped, which is this value in so many steps, and this is due of it, before the list goes on
+pub record AddsOne (IsNext : Progress → Value → (steps : ℕ) → Type 0) (run : TypeRun) (listing : Listing)
+    (first : SpaceView) (at next : Progress) (more : List (List ℕ)) : Type 0 where
   pub on : is_counted listing at.count ≡ false
   pub value : Value
   pub steps : ℕ
-  pub mapped : IsRecord run first at value steps
+  pub mapped : IsNext at value steps
   pub moves : at.place < end_of value
   pub writes : Writes run listing first at value more
   pub is_after : next ≡ after at value steps
 
--- the list goes on so far, with these texts
-pub data Lists (run : TypeRun) (listing : Listing) (first : SpaceView) : Progress →
-    (lines : List (List ℕ)) → Type 0 where
-  no_records : Lists run listing first (first_of run.ask.now) []
-  one_more : {at next : Progress} {lines more : List (List ℕ)} → Lists run listing first at lines
-      → Adds run listing first at next more → Lists run listing first next (lines ++ more)
+-- a list goes on from `begin` so far, with these texts
+pub data ListsFrom (IsNext : Progress → Value → (steps : ℕ) → Type 0) (run : TypeRun) (listing : Listing)
+    (first : SpaceView) (begin : Progress) : Progress → (lines : List (List ℕ)) → Type 0 where
+  no_records : ListsFrom IsNext run listing first begin begin []
+  one_more : {at next : Progress} {lines more : List (List ℕ)} → ListsFrom IsNext run listing first begin at lines
+      → AddsOne IsNext run listing first at next more → ListsFrom IsNext run listing first begin next (lines ++ more)
+
+-- the same of the values of a run's type, from where the run starts
+abbrev pub Adds : TypeRun → Listing → (first : SpaceView) → (at next : Progress) → (more : List (List ℕ)) → Type 0
+Adds run listing first at next more = AddsOne (IsRecord run first) run listing first at next more
+
+abbrev pub Lists : TypeRun → Listing → (first : SpaceView) → Progress → (lines : List (List ℕ)) → Type 0
+Lists run listing first at lines =
+    ListsFrom (IsRecord run first) run listing first (first_of run.ask.now) at lines
 
 -- how a list ends before the file does, at a bit
 abbrev pub left_at : Listing → (place : ℕ) → Outcome
@@ -85,8 +93,18 @@ pub record Stops (pickle : List ℕ) (run : TypeRun) (first last : SpaceView) (a
   pub says : MapsUnder pickle (ask_at at run.ask.now) run.terms.now begun done
       (end_saying run.terms.now.most_slots at.place kind place)
 
+-- how a list ends at a value that is the next record: it has no bits, or isn't printed under the terms
+pub data BreaksAt (IsNext : Progress → Value → (steps : ℕ) → Type 0) (run : TypeRun) (listing : Listing)
+    (first last : SpaceView) (at : Progress) : Outcome → Type 0 where
+  no_bits : {value : Value} {steps : ℕ} → IsNext at value steps → end_of value ≡ at.place →
+      BreaksAt IsNext run listing first last at (outcome.Fault (record { kind = fault.NoBits; at = at.place }))
+  unwritten : {value : Value} {steps : ℕ} {ended : Outcome} {text : List ℕ} → IsNext at value steps
+      → at.place < end_of value → is_written listing at.count ≡ true → ended ≢ outcome.Done
+      → (tells : Tells run listing first at value ended text) → Keeps tells.done last
+      → BreaksAt IsNext run listing first last at (in_memory ended)
+
 -- How a list that goes on ends at the next record. No step is left; what is there has a fault that ends an array
--- without a bound; it has another fault; it is a value without bits; it is a value that isn't printed under the terms.
+-- without a bound; it has another fault; it is a value without bits, or one that isn't printed under the terms.
 pub data Breaks (pickle : List ℕ) (run : TypeRun) (listing : Listing) (first last : SpaceView) (at : Progress) :
     Outcome → Type 0 where
   spent : at.left ≡ 0 →
@@ -97,12 +115,8 @@ pub data Breaks (pickle : List ℕ) (run : TypeRun) (listing : Listing) (first l
       → Stops pickle run first last at kind place
       → outcome_saying ended ≡ end_saying run.terms.now.most_slots at.place kind place
       → Breaks pickle run listing first last at ended
-  no_bits : {value : Value} {steps : ℕ} → IsRecord run first at value steps → end_of value ≡ at.place →
-      Breaks pickle run listing first last at (outcome.Fault (record { kind = fault.NoBits; at = at.place }))
-  unwritten : {value : Value} {steps : ℕ} {ended : Outcome} {text : List ℕ} → IsRecord run first at value steps
-      → at.place < end_of value → is_written listing at.count ≡ true → ended ≢ outcome.Done
-      → (tells : Tells run listing first at value ended text) → Keeps tells.done last
-      → Breaks pickle run listing first last at (in_memory ended)
+  at_value : {ended : Outcome} → BreaksAt (IsRecord run first) run listing first last at ended →
+      Breaks pickle run listing first last at ended
 
 -- How the list ends after so much: enough was written; the file ends; the list starts past its end; it ends at the next
 -- record; memory didn't suffice.
@@ -118,12 +132,21 @@ pub data EndsList (pickle : List ℕ) (run : TypeRun) (listing : Listing) (first
 
 -- Written is the text of the records, each whole and in order, and the list ends as it must after them. If the output
 -- fails, the first bytes of the next record's text are written after them, or all.
-pub data WritesList (pickle : List ℕ) (run : TypeRun) (listing : Listing) (first last : SpaceView)
-    (out out' : Option (List ℕ)) (at : Progress) : Outcome → Type 0 where
-  writes_all : {lines : List (List ℕ)} {ended : Outcome} → Lists run listing first at lines
-      → EndsList pickle run listing first last at ended → Appends out out' (concat lines)
-      → WritesList pickle run listing first last out out' at ended
+pub data WritesFrom (IsNext : Progress → Value → (steps : ℕ) → Type 0) (Ends : Progress → Outcome → Type 0)
+    (run : TypeRun) (listing : Listing) (first : SpaceView) (begin : Progress) (out out' : Option (List ℕ))
+    (at : Progress) : Outcome → Type 0 where
+  writes_all : {lines : List (List ℕ)} {ended : Outcome} → ListsFrom IsNext run listing first begin at lines
+      → Ends at ended → Appends out out' (concat lines)
+      → WritesFrom IsNext Ends run listing first begin out out' at ended
   output_fails : {lines more : List (List ℕ)} {next : Progress} {out'' : Option (List ℕ)}
-      → Lists run listing first at lines → Adds run listing first at next more
+      → ListsFrom IsNext run listing first begin at lines → AddsOne IsNext run listing first at next more
       → is_written listing at.count ≡ true → Appends out out'' (concat lines) → AppendsUpTo out'' out' (concat more)
-      → WritesList pickle run listing first last out out' at (outcome.Failed failure.Write)
+      → WritesFrom IsNext Ends run listing first begin out out' at (outcome.Failed failure.Write)
+
+-- the same of the values of a run's type, from where the run starts
+abbrev pub WritesList : (pickle : List ℕ) → TypeRun → Listing → (first last : SpaceView) →
+    (out out' : Option (List ℕ)) →
+    Progress → Outcome → Type 0
+WritesList pickle run listing first last out out' at ended =
+    WritesFrom (IsRecord run first) (EndsList pickle run listing first last) run listing first (first_of run.ask.now)
+    out out' at ended

@@ -4,7 +4,7 @@
 pub mod attempt;
 pub mod list;
 pub mod listing;
-mod next;
+pub mod next;
 pub mod put_whole;
 
 pub use list::{Ended, list_records};

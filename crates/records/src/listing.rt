@@ -21,7 +21,7 @@ pub struct Listing {
 
 impl Listing {
     /// Whether a list that was mapped so far has no more records to map, since enough were written.
-    fn is_counted(&self, count: u64) -> bool
+    pub fn is_counted(&self, count: u64) -> bool
         ensures { result ≡ is_counted self.now count }
     {
         match self.count {

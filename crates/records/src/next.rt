@@ -112,8 +112,8 @@ fn left_at(listing: Listing, place: u64) -> Outcome
     }
 }
 
-// Writes the value that a store holds, unless it is omitted, and returns where it ends.
-fn write_held<S: Space, O: Write>(
+/// Writes the value that a store holds, unless it is omitted, and returns where it ends.
+pub fn write_held<S: Space, O: Write>(
     run: &TypeRun<'_>,
     listing: Listing,
     before: u64,
