@@ -1,0 +1,7 @@
+pub mod Finding
+pub mod Lists
+pub mod ElementTypes
+pub mod Listing
+pub mod Started
+pub mod Mapping
+pub mod Reaching

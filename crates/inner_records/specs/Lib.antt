@@ -1,0 +1,5 @@
+pub mod Find
+pub mod Elements
+pub mod Stored
+pub mod Next
+pub mod Written
