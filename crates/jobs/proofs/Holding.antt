@@ -5,13 +5,13 @@ use Rattle.std.proofs.lemmas.List.{append-nil, append_assoc, length-append}
 use Rattle.std.specs.List.{concat}
 use Rattle.std.specs.Prelude.{IfNone}
 use Rattle.std.specs.Io.KnownBytes.{Appends, Keeps}
-use Rattle.jobs.specs.Due.{DueRun, End, Holds, early, line_due, output_fails, part, text_due, whole}
+use Rattle.jobs.specs.Due.{DueAfter, DueRun, End, Holds, after_text, early, line_due, output_fails, part, text_due, whole}
 use Rattle.jobs.specs.declared.ending.Ending.TheVariants.{Run}
 use Rattle.run_parts.specs.Outcomes.{EndsAs, cuts, reports, writes}
 use Rattle.run_parts.specs.Told.{AppendsUpTo, Saying}
 use Rattle.run_parts.specs.declared.outcome.Outcome.{Outcome}
 use Rattle.run_parts.specs.declared.outcome.Outcome.TheVariants as outcome
-use Rattle.text_output.proofs.Parts.{Appends-keeps}
+use Rattle.text_output.proofs.Parts.{Appends-keeps, part_next}
 use Rattle.text_output.specs.Written.{AppendsPart}
 
 -- what is said where there is no value
@@ -116,6 +116,25 @@ holds_after Due _ out mid out' keeps (early {lines = lines} due h) =
       appends = keeps_before out mid out' h.taken keeps h.appends;
       whole = h.whole;
     })
+
+-- a text, and then what is due
+pub holds_next : (Due : List (List ℕ) → Option End → Type 0) (text : List ℕ) (end : End)
+    (out mid out' : Option (List ℕ))
+    → Appends out mid text
+    → Holds Due mid out' end → Holds (DueAfter text Due) out out' end
+holds_next Due text _ out mid out' h (whole {lines = lines} due g) =
+    whole (after_text due) (Appends-trans out mid out' text (concat lines) h g)
+holds_next Due text _ out mid out' h (part {lines = lines} {end = end} due g) =
+    part {end = end} (after_text due) (part_next out mid out' text (concat lines) h g)
+holds_next Due text _ out mid out' h (early {lines = lines} due g) =
+    early (after_text due) (upto_next out mid out' text (concat lines) h g)
+
+-- the first bytes of that text
+pub holds_cut : (Due : List (List ℕ) → Option End → Type 0) (text : List ℕ) (out out' : Option (List ℕ)) → Due [] None
+    → AppendsPart out out' text → Holds (DueAfter text Due) out out' output_fails
+holds_cut Due text out out' due h =
+    early (after_text due)
+    (subst (λ t. AppendsUpTo out out' t) (sym (one_line text)) (upto_part out out' text h))
 
 -- what is due is due in a wider sense
 pub holds_more : (Due More : List (List ℕ) → Option End → Type 0) (end : End) (out out' : Option (List ℕ))

@@ -1,4 +1,5 @@
 mod Holding
+mod Inner
 mod Sighted
 mod Chosen
 mod Answered

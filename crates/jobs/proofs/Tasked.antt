@@ -14,7 +14,7 @@ use Rattle.run_parts.specs.declared.outcome.Outcome.{Outcome}
 -- what is due of a run is due by its pickle
 pub task_holds : (pickle : List ℕ) (ask : Ask) (terms : Terms) (task : Task) (file after : SpaceView) (run : TypeRun)
     (ended : Outcome) (out out' : Option (List ℕ))
-    → Holds (DueOf pickle run task file after) out out' (Ok (Run ended)) → IsTaskRun pickle ask terms run
+    → Holds (DueOf pickle run task file after) out out' (Ok (Run ended)) → IsTaskRun pickle ask terms task run
     → Holds (DueIn pickle ask terms task file after) out out' (Ok (Run ended))
 task_holds pickle ask terms task file after run ended out out' holds is =
     holds_more (DueOf pickle run task file after) (DueIn pickle ask terms task file after) (Ok (Run ended)) out out'

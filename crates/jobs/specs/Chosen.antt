@@ -1,14 +1,14 @@
 -- The type that is mapped: the one that is named, or one that the head of the pickle says.
-use Rattle.std.specs.Prelude.{◌&&◌, ℕ, Bool, false, not, List, Option, Some, None, if◌then◌else◌, option_map, string_bytes}
+use Rattle.std.specs.Prelude.{◌&&◌, ℕ, Bool, true, false, List, Option, Some, None, if◌then◌else◌, option_map, string_bytes}
 use Rattle.bit_space.specs.declared.order.Order.{Order}
 use Rattle.bit_space.specs.declared.order.Order.TheVariants.{Big}
-use Rattle.command_line.specs.Subjects.{is_by_head, is_inside}
+use Rattle.command_line.specs.Subjects.{is_by_head}
 use Rattle.command_line.specs.declared.subject.HeadType.{HeadType}
-use Rattle.command_line.specs.declared.subject.HeadType.TheVariants.{Documented, Inside}
+use Rattle.command_line.specs.declared.subject.HeadType.TheVariants.{Documented, Inside, Records}
 use Rattle.command_line.specs.declared.subject.Subject.{Subject}
 use Rattle.command_line.specs.declared.subject.Subject.TheVariants.{Named, ByHead, Identified}
 use Rattle.jobs.specs.declared.by_head.Chosen.{Chosen}
-use Rattle.pickle_heads.specs.Heads.{inside_of, main_of, options_of}
+use Rattle.pickle_heads.specs.Heads.{inside_of, main_of, options_of, records_of}
 use Rattle.pickle_heads.specs.Inside.{Among, by_type, no_type}
 use Rattle.pickle_heads.specs.Options.{given_or_none}
 
@@ -21,12 +21,22 @@ pub record ChosenType : Type 0 where
 abbrev pub chosen_type : Chosen → ChosenType
 chosen_type chosen = record { name = chosen.name.now; order = chosen.order; whole = chosen.whole }
 
--- a type with the options of the head of its pickle; inside other bytes a value ends before they do
+-- whole files alone have values that end where they do
+abbrev pub is_whole : HeadType → Bool
+is_whole Documented = true
+is_whole Inside = false
+is_whole Records = false
+
+-- the path that a head says from the type with a list of records to that list
+abbrev pub list_path : (pickle : List ℕ) → Option (List ℕ)
+list_path pickle = option_map (λ listed. listed.path) (records_of pickle)
+
+-- a type with the options of the head of its pickle
 abbrev pub with_options : (pickle : List ℕ) → HeadType → (name : List ℕ) → ChosenType
 with_options pickle part name = record {
   name = name;
   order = (given_or_none (options_of pickle)).order;
-  whole = (given_or_none (options_of pickle)).whole && not (is_inside part);
+  whole = (given_or_none (options_of pickle)).whole && is_whole part;
 }
 
 abbrev pub type_among : Option Among → Option (List ℕ)
@@ -34,10 +44,11 @@ type_among None = None
 type_among (Some (no_type reason)) = None
 type_among (Some (by_type name)) = Some name
 
--- the type that a head says for whole files, and for the format inside other bytes
+-- the type that a head says for whole files, for the format inside other bytes, and for the list of records
 abbrev pub head_type : HeadType → (pickle : List ℕ) → Option (List ℕ)
 head_type Documented pickle = main_of pickle
 head_type Inside pickle = type_among (inside_of pickle)
+head_type Records pickle = option_map (λ listed. listed.of) (records_of pickle)
 
 -- a type that is named has no options of the head
 abbrev pub chosen : Subject → (pickle : List ℕ) → Option ChosenType

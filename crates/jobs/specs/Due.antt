@@ -36,6 +36,11 @@ pub data DueRun (IsRight : Saying → Type 0) : (lines : List (List ℕ)) → Op
   text_due : {text : List ℕ} → IsRight (Text text) → DueRun IsRight (text ∷ []) (Some (Ok (Run outcome.Done)))
   line_due : {ended : Outcome} → IsRight (outcome_saying ended) → DueRun IsRight [] (Some (Ok (Run ended)))
 
+-- a text comes before what is due
+pub data DueAfter (text : List ℕ) (Due : (lines : List (List ℕ)) → Option End → Type 0) :
+    (lines : List (List ℕ)) → Option End → Type 0 where
+  after_text : {lines : List (List ℕ)} {end : Option End} → Due lines end → DueAfter text Due (text ∷ lines) end
+
 -- of the pickle that an argument names; nothing before the fault by which it isn't read
 pub data DueOver (gives : Gives) (word : List ℕ) (Due : (pickle : List ℕ) → List (List ℕ) → Option End → Type 0) :
     (lines : List (List ℕ)) → Option End → Type 0 where

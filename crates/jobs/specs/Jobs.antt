@@ -25,7 +25,7 @@ use Rattle.jobs.specs.Files.{Every, IdentifiesFrom, MapsFrom, WritesRuns, answer
 use Rattle.identification.specs.declared.format.Formats.{Formats}
 use Rattle.jobs.specs.Gives.{Gives}
 use Rattle.jobs.specs.Installed.{DueAmong, folder_of}
-use Rattle.jobs.specs.Tasks.{DueTask}
+use Rattle.jobs.specs.Tasks.{DueListTask, DueTask}
 use Rattle.jobs.specs.declared.task.Task.TheVariants as task
 use Rattle.jobs.specs.Hunted.{DueHuntedFile}
 use Rattle.jobs.specs.Identified.{DueIdentifiedFile}
@@ -203,7 +203,7 @@ module _ (gives : Gives) (why : Bool) where
   abbrev pub DueMapping : Requested → Over → (pickle : List ℕ) → (lines : List (List ℕ)) → Option End → Type 0
   DueMapping requested (File file) = DueFile requested (string_bytes file)
   DueMapping requested (Files files flush) = DueEach requested files
-  DueMapping requested (Records file list) = DueTask gives requested (task.List list) (string_bytes file)
+  DueMapping requested (Records file of list) = DueListTask gives requested of list (string_bytes file)
   DueMapping requested (Bytes file) = DueTask gives requested task.Copy (string_bytes file)
   DueMapping requested (Search file search) =
       DueTask gives requested (task.Search search requested.faults) (string_bytes file)
@@ -214,7 +214,7 @@ module _ (gives : Gives) (why : Bool) where
   DueUnnamed request (File file) = DueIdentifiedFile gives why request
   DueUnnamed request (Bytes file) = DueIdentifiedFile gives why request
   DueUnnamed request (Files files flush) = DueIdentifiedFile gives why request
-  DueUnnamed request (Records file list) = DueIdentifiedFile gives why request
+  DueUnnamed request (Records file of list) = DueIdentifiedFile gives why request
 
   -- of a request: once its pickle says which type is mapped, or without one
   abbrev pub DueSubject : Request → Option (List ℕ) → (lines : List (List ℕ)) → Option End → Type 0

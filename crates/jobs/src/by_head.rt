@@ -1,6 +1,6 @@
 //! The type that a job maps: the one that is named, or one that the head of the pickle says.
-ghost use Rattle.std.specs.Prelude.{◌≡◌, IfOk, None, OnErr, Some};
-ghost use Rattle.jobs.specs.Chosen.{bound_type, chosen, chosen_type, first_order, head_type, with_options};
+ghost use Rattle.std.specs.Prelude.{◌≡◌, IfOk, None, OnErr, Some, option_copied};
+ghost use Rattle.jobs.specs.Chosen.{bound_type, chosen, chosen_type, first_order, head_type, list_path, with_options};
 
 use bit_space::Order;
 use command_line::subject::{BY_HEAD, HeadType, Subject, names_installed};
@@ -25,6 +25,8 @@ pub enum NoType<'a> {
     UnsaidInside,
     /// It says that there is none inside other bytes, and why.
     Nothing(&'a [u8]),
+    /// It says nothing about a list of records.
+    UnsaidRecords,
 }
 
 /// The type that a request maps, by its pickle.
@@ -58,6 +60,16 @@ fn with_options<'a>(name: &'a [u8], part: HeadType, pickle: &'a [u8]) -> Chosen<
     }
 }
 
+/// The path from a value of the type with the list of records to that list, as the head of a pickle says it.
+pub fn list_path(pickle: &[u8]) -> Option<&[u8]>
+    ensures { option_copied result ≡ list_path pickle.now }
+{
+    match head_of(b"", pickle).records {
+        Some(records) => Some(records.path),
+        None => None,
+    }
+}
+
 // The type that the head of a pickle says.
 fn head_type<'a>(part: HeadType, pickle: &'a [u8]) -> Result<&'a [u8], NoType<'a>>
     ensures ok { IfOk result (λ name. head_type part pickle.now ≡ Some name.now) }
@@ -70,6 +82,10 @@ fn head_type<'a>(part: HeadType, pickle: &'a [u8]) -> Result<&'a [u8], NoType<'a
             Some(Inside::Type(name)) => Ok(name),
             Some(Inside::Nothing(reason)) => Err(NoType::Nothing(reason)),
             None => Err(NoType::UnsaidInside),
+        },
+        HeadType::Records => match head.records {
+            Some(records) => Ok(records.of),
+            None => Err(NoType::UnsaidRecords),
         },
     }
 }

@@ -17,6 +17,7 @@ mod growth;
 mod hunted;
 pub mod identified;
 pub mod identify;
+mod inner_list;
 pub mod installed;
 pub mod many_files;
 pub mod names;

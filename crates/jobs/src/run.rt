@@ -241,8 +241,8 @@ fn map_over<P: Opener, O: Write, A: Aside>(
             let ending = map_each(alloc, opener, mapping, pickle, names, out, aside, why);
             Ok(ending)
         }
-        Over::Records { file, list } => {
-            let task = Task::List(*list);
+        Over::Records { file, of, list } => {
+            let task = Task::List(of, *list);
             do_in_file(alloc, opener, mapping, pickle, file, task, out, why)
         }
         Over::Bytes(file) => {

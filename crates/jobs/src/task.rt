@@ -1,10 +1,13 @@
 //! What is done with a file beside printing a value of it: its records are listed, the bytes of a part are written, or values
 //! are looked for.
-ghost use Rattle.std.specs.Prelude.{◌≡◌};
+ghost use Rattle.std.specs.Prelude.{◌≡◌, true, IfNone, IfSome};
 ghost use Rattle.bit_space.specs.SpaceView.{Keeps};
 ghost use Rattle.jobs.specs.Aims.{of_mapping};
 ghost use Rattle.jobs.specs.Due.{Holds};
-ghost use Rattle.jobs.specs.Tasks.{DoesTask, DoesTaskIn, DueTask, IsRunOf, task_ask};
+ghost use Rattle.pickle_types.specs.TypeTable.{IsInTable, type_named};
+ghost use Rattle.poke_batch.specs.RunsUnder.{LacksPart};
+ghost use Rattle.type_parts.specs.CanHave.{can_have_requested};
+ghost use Rattle.jobs.specs.Tasks.{DoesTask, DoesTaskIn, DueTask, IsRunOf, has_own_parts, task_ask};
 
 use crate::ending::Ending;
 use crate::fault::FileFault;
@@ -18,7 +21,8 @@ use crate::value_search::search_run;
 use crate::why::{Why, explain, explain_parts};
 use bit_space::{Paged, Space};
 use command_line::fault_form::FaultForm;
-use command_line::request::{RecordList, ValueSearch};
+use command_line::request::{RecordList, RecordsOf, ValueSearch};
+use pickle_types::table::{Table, TypeId};
 use poke_batch::ask::Ask;
 use poke_batch::outcome::Outcome;
 use poke_batch::resolve::{refuse_parts, resolve};
@@ -31,28 +35,38 @@ use std::io::Write;
 
 /// What is done with a file.
 #[derive(Clone, Copy)]
-pub enum Task {
+pub enum Task<'a> {
     /// The records of a list in it are written.
-    List(RecordList),
+    List(&'a RecordsOf, RecordList),
     /// The bytes that the requested part of a value takes are written.
     Copy,
     /// The places in it at which the type has a value are written. Attempts that were given up are told in a form.
     Search(ValueSearch, FaultForm),
 }
 
-impl Task {
+impl Task<'_> {
     /// What its run is given over a space. The limit of steps may grow with the file.
     fn ask_in<'a, S: Space>(self, ask: Ask<'a>, space: &S) -> Ask<'a>
-        ensures { result ≡ task_ask self (S.view space.now) ask.entry }
+        ensures { result ≡ task_ask self.entry (S.view space.now) ask.entry }
     {
         let bytes = space.len();
         match self {
-            Task::List(list) => grow_limit(ask, list.grows, bytes_from(bytes, ask.start)),
+            Task::List(_, list) => grow_limit(ask, list.grows, bytes_from(bytes, ask.start)),
             Task::Copy => ask,
             Task::Search(search, _) => {
                 let bits = (8 * bytes).saturating_sub(ask.start);
                 grow_limit(ask, search.grows, places_in(bits, search.step.max(1)))
             }
+        }
+    }
+
+    /// Whether the requested parts are those of values of the type, and not of elements of an array in them.
+    fn has_own_parts(self) -> bool
+        ensures { result ≡ has_own_parts self.entry }
+    {
+        match self {
+            Task::List(of, _) => matches!(of, RecordsOf::Values),
+            Task::Copy | Task::Search(..) => true,
         }
     }
 }
@@ -65,11 +79,11 @@ pub fn do_in_file<P: Opener, O: Write>(
     mapping: Mapping<'_>,
     pickle: &NamedPickle,
     path: &str,
-    task: Task,
+    task: Task<'_>,
     out: &mut O,
     why: &mut Why<'_>,
 ) -> Result<Ending, FileFault>
-    ensures { let due = DueTask (P.gives opener.now) (of_mapping mapping.entry) task path.now in
+    ensures { let due = DueTask (P.gives opener.now) (of_mapping mapping.entry) task.entry path.now in
         Holds (due pickle.now.bytes.items) (O.contents out.old) (O.contents out.new) result }
 {
     let bytes = opener.open(path, mapping.spool, mapping.progress)?;
@@ -101,13 +115,13 @@ fn do_in_view<S: Space, O: Write>(
     pickle: &NamedPickle,
     ask: &Ask<'_>,
     terms: &Terms,
-    task: Task,
+    task: Task<'_>,
     space: &mut S,
     out: &mut O,
     why: &mut Why<'_>,
 ) -> Outcome
-    ensures does { let ask = task_ask task (S.view space.old) ask.now in
-        DoesTaskIn pickle.now.bytes.items ask terms.now task (S.view space.old) (S.view space.new)
+    ensures does { let ask = task_ask task.entry (S.view space.old) ask.now in
+        DoesTaskIn pickle.now.bytes.items ask terms.now task.entry (S.view space.old) (S.view space.new)
         (O.contents out.old) (O.contents out.new) result }
     ensures keeps { Keeps (S.view space.old) (S.view space.new) }
 {
@@ -121,12 +135,12 @@ fn do_in_space<S: Space, O: Write>(
     pickle: &NamedPickle,
     ask: &Ask<'_>,
     terms: &Terms,
-    task: Task,
+    task: Task<'_>,
     space: &mut S,
     out: &mut O,
     why: &mut Why<'_>,
 ) -> Outcome
-    ensures does { DoesTaskIn pickle.now.bytes.items ask.now terms.now task (S.view space.old) (S.view space.new)
+    ensures does { DoesTaskIn pickle.now.bytes.items ask.now terms.now task.entry (S.view space.old) (S.view space.new)
         (O.contents out.old) (O.contents out.new) result }
     ensures keeps { Keeps (S.view space.old) (S.view space.new) }
 {
@@ -137,7 +151,7 @@ fn do_in_space<S: Space, O: Write>(
             return outcome;
         }
     };
-    if let Some(outcome) = refuse_parts(alloc, &table, id, terms) {
+    if let Some(outcome) = refuse_own_parts(alloc, task, &table, id, terms) {
         explain_parts(alloc, why, outcome, &table, id, terms);
         return outcome;
     }
@@ -151,22 +165,43 @@ fn do_in_space<S: Space, O: Write>(
     do_run(&run, pickle, task, space, out, why)
 }
 
+// How a task ends that requests parts which no value of its type has; `None` if it doesn't, or requests those of elements.
+fn refuse_own_parts(
+    alloc: Global,
+    task: Task<'_>,
+    table: &Table,
+    id: TypeId,
+    terms: &Terms,
+) -> Option<Outcome>
+    requires { IsInTable table.now id }
+    ensures none { IfNone result (has_own_parts task.entry ≡ true →
+        can_have_requested terms.now (type_named table.now id) ≡ true) }
+    ensures own { IfSome result (λ ended. has_own_parts task.entry ≡ true) }
+    ensures some { IfSome result (LacksPart (type_named table.now id) terms.now) }
+{
+    if task.has_own_parts() {
+        refuse_parts(alloc, table, id, terms)
+    } else {
+        None
+    }
+}
+
 // Does a task with a space, by a run of a type.
 fn do_run<S: Space, O: Write>(
     run: &TypeRun<'_>,
     pickle: &NamedPickle,
-    task: Task,
+    task: Task<'_>,
     space: &mut S,
     out: &mut O,
     why: &mut Why<'_>,
 ) -> Outcome
     ensures does { IsRunOf pickle.now.bytes.items run.now →
-        DoesTask pickle.now.bytes.items run.now task (S.view space.old) (S.view space.new)
+        DoesTask pickle.now.bytes.items run.now task.entry (S.view space.old) (S.view space.new)
         (O.contents out.old) (O.contents out.new) result }
     ensures keeps { Keeps (S.view space.old) (S.view space.new) }
 {
     match task {
-        Task::List(list) => list_run(run, pickle, list, space, out, why),
+        Task::List(of, list) => list_run(run, pickle, of, list, space, out, why),
         Task::Copy => copy_part(run, pickle, space, out, why),
         Task::Search(search, faults) => search_run(run, search, faults, space, out, why),
     }

@@ -92,6 +92,7 @@ fn put_usage(text: &mut Vec<u8>, word: &[u8], missing: NoType<'_>) -> Result<(),
             text,
             b" names no type for the format inside other bytes: TYPE must be given",
         )?,
+        NoType::UnsaidRecords => put(text, b" names no list of records: TYPE must be given")?,
         NoType::Nothing(reason) => {
             put(
                 text,

@@ -1,7 +1,6 @@
 use Rattle.std.proofs.Common.{refl, sym, arith}
 use Rattle.std.proofs.KnownBytes.{Keeps-refl}
-use Rattle.poke_batch.specs.RunsUnder.{lacks_part, lacks_type}
-use Rattle.jobs.specs.Tasks.{not_run}
+use Rattle.jobs.specs.Tasks.{no_part, no_type}
 use Rattle.jobs.proofs.Holding.{if_not_some, no_text}
 use Rattle.jobs.proofs.Tasked.{task_holds}
 use Rattle.jobs.proofs.task.do_in_space.Goals as goal
@@ -10,7 +9,7 @@ pub returns-in-Err-clause-does : goal.returns-in-Err-clause-does
 returns-in-Err-clause-does g c = record {
   after = g.S.Space.view c.args.space.now;
   failures = omega arith;
-  holds = no_text _ _ _ _ (not_run (lacks_type (rw (sym c.deref.ensures.value) c.in-Err.ensures.none)))
+  holds = no_text _ _ _ _ (no_type (rw (sym c.deref.ensures.value) c.in-Err.ensures.none))
       (Keeps-refl _);
 }
 
@@ -19,7 +18,7 @@ returns-in-Some-clause-does g c = record {
   after = g.S.Space.view c.args.space.now;
   failures = omega arith;
   holds = no_text _ _ _ _
-      (not_run (lacks_part (rw (sym c.deref.ensures.value) c.in-Ok.ensures.asked) c.in-Some.ensures.some))
+      (no_part c.in-Some.ensures.own (rw (sym c.deref.ensures.value) c.in-Ok.ensures.asked) c.in-Some.ensures.some)
       (Keeps-refl _);
 }
 
@@ -34,6 +33,6 @@ returns-clause-does g c =
             asked = rw (sym c.deref.ensures.value) c.in-Ok.ensures.asked;
             ask_is = refl;
             terms_are = refl;
-            can_have = if_not_some c.refuse_parts.result c.in_default.not-Some c.refuse_parts.ensures.none;
+            can_have = if_not_some c.refuse_own_parts.result c.in_default.not-Some c.refuse_own_parts.ensures.none;
           });
     }
