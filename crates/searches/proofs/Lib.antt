@@ -3,3 +3,4 @@ pub mod Probes
 pub mod Reached
 pub mod Stocks
 pub mod Trials
+pub mod Missed

@@ -50,7 +50,7 @@ pub on_since : (search : Search) (at : Reach) (first before : SpaceView) → Kee
 on_since search at first before since on = subst (λ (len : ℕ). goes_on search at (8 * len) ≡ true) since.len on
 
 -- a run to a fault, and too few slots, from the time when the search began
-runs_since : {first before : SpaceView} {type : PokeType} {order : Order} {start limit : ℕ} {kind : MapFaultKind}
+pub runs_since : {first before : SpaceView} {type : PokeType} {order : Order} {start limit : ℕ} {kind : MapFaultKind}
     {at : ℕ} → Keeps first before → RunsToFault before type order start limit kind at
     → RunsToFault first type order start limit kind at
 runs_since {first} {before} {type} {order} {start} {limit} {kind} {at} since h = record {
@@ -64,7 +64,7 @@ runs_since {first} {before} {type} {order} {start} {limit} {kind} {at} since h =
       h.state (fault_finish kind at)) since.len h.follows;
 }
 
-lacks_since : {first before : SpaceView} {most : ℕ} {type : PokeType} {ask : Ask} → Keeps first before
+pub lacks_since : {first before : SpaceView} {most : ℕ} {type : PokeType} {ask : Ask} → Keeps first before
     → LacksSlots most type ask before → LacksSlots most type ask first
 lacks_since {first} {before} {most} {type} {ask} since h = record {
   bound = subst (λ (len : ℕ). most < room type (8 * len)) since.len h.bound;

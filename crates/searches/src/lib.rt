@@ -7,6 +7,7 @@ mod line;
 mod probe;
 mod round;
 pub mod search;
+mod skips;
 pub mod sought;
 mod trial;
 pub mod types;

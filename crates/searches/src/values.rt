@@ -8,6 +8,7 @@ use crate::line::Texts;
 use crate::search::{Reach, Search};
 use crate::trial::try_start;
 use bit_space::Space;
+use first_numbers::nodes::type_layout;
 use pickle_map::MapFaultKind;
 use poke_batch::type_run::TypeRun;
 use records::attempt::{Kept, fault_at};
@@ -53,9 +54,15 @@ pub fn search_values<S: Space, O: Write>(
         let outcome = Outcome::Failed(Failure::Memory);
         return Searched { outcome, reach };
     };
+    let Ok(layout) = type_layout(run.alloc, run.table, run.id) else {
+        let outcome = Outcome::Failed(Failure::Memory);
+        return Searched { outcome, reach };
+    };
     let mut texts = Texts::new(run);
     while search.goes_on(reach, bits) {
-        match try_start(run, search, reach, &mut kept, &mut texts, space, out) {
+        match try_start(
+            run, &layout, search, reach, &mut kept, &mut texts, space, out,
+        ) {
             Ok(next) => reach = next,
             Err(outcome) => return Searched { outcome, reach },
         }

@@ -177,11 +177,14 @@ fn keeps_its_lines_at_a_failing_read(rt: HostRuntime) -> Result<(), Fail> {
     let table = table_of(alloc)?;
     let row = row_of("One 1,2,3 0 100 8 50 - no - flat").ok_or("no row")?;
     let file = bytes_in(alloc, row.bytes)?;
+    // At each place the number is read before the type is mapped, which reads it again. If the first of these reads fails,
+    // it decides nothing.
     for (failing, wanted) in [
-        (1, "fault Device 0 0 100 None"),
-        (2, "0x0\t0x1;fault Device 8 1 94 None"),
-        (3, "0x0\t0x1;0x1\t0x1;fault Device 16 2 88 None"),
-        (4, "0x0\t0x1;0x1\t0x1;0x2\t0x1;done 24 3 82 None"),
+        (1, "0x0\t0x1;0x1\t0x1;0x2\t0x1;done 24 3 82 None"),
+        (2, "fault Device 0 0 100 None"),
+        (4, "0x0\t0x1;fault Device 8 1 94 None"),
+        (6, "0x0\t0x1;0x1\t0x1;fault Device 16 2 88 None"),
+        (7, "0x0\t0x1;0x1\t0x1;0x2\t0x1;done 24 3 82 None"),
     ] {
         let mut space = Failing::new(&file, failing)?;
         let (out, ended) = search_in(alloc, &table, &row, &mut space)?;
