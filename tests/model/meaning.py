@@ -3,7 +3,7 @@
 `mapped` returns the printed value or fault that a type has at a bit of a file, and its steps. `listed` returns the records of a
 type, and `searched` the places at which it has a value.
 """
-from dataclasses import dataclass, field
+from dataclasses import dataclass, field, replace
 from math import gcd
 
 
@@ -310,6 +310,26 @@ def number_of(bits, order):
 
 
 @dataclass
+class Opened:
+    """An array that is mapped: its bound may be None. `end` is the greatest end of what precedes it, and `is_last` says that
+    it has no bound and nothing follows it."""
+
+    element: object
+    order: str
+    scopes: list
+    start: int
+    bound: Number | None = None
+    end: int = 0
+    is_last: bool = True
+
+    def is_due(self, count, place, length):
+        """Whether an element is mapped at a place, after so many."""
+        if self.bound is None:
+            return place < length
+        return place - self.start < self.bound.value * self.bound.unit if self.bound.unit else count < self.bound.value
+
+
+@dataclass
 class Mapping:
     """A mapping over the bits of a file."""
 
@@ -372,55 +392,85 @@ class Mapping:
             text.append(byte)
 
     def array(self, of, order, scopes, start):
+        opened = self.opened(of, order, scopes, start)
+        elements = list(self.elements(opened, start))
+        return Value("array", start, elements[-1].end if elements else start, elements)
+
+    def opened(self, of, order, scopes, start):
+        """An array before its first element."""
         self.counts.steps += 1
         bound = self.evaluated(of.bound, scopes, start) if of.bound else None
         if bound and bound.value < 0:
             raise Fault("Bounds", start)
-        size = bound.value * bound.unit if bound and bound.unit else None
-        elements, place = [], start
-        while self.is_due(bound, size, len(elements), start, place):
+        return Opened(of.element, order, scopes, start, bound)
+
+    def elements(self, opened, place):
+        """The elements of an array from a place on, one by one, up to its end or a fault."""
+        count, bound = 0, opened.bound
+        while opened.is_due(count, place, len(self.bits)):
             self.counts.steps += 1
             try:
-                element = self.value(of.element, order, scopes, place)
+                element = self.value(opened.element, opened.order, opened.scopes, place)
             except Fault as fault:
                 if bound or fault.kind not in ("Constraint", "End"):
                     raise
-                break
+                return
             if element.end == place:
                 raise Fault("NoBits", place)
-            elements.append(element)
-            place = element.end
-        if size is not None and place - start != size:
-            raise Fault("Bounds", start)
-        return Value("array", start, place, elements)
-
-    def is_due(self, bound, size, count, start, place):
-        if size is not None:
-            return place - start < size
-        return count < bound.value if bound else place < len(self.bits)
+            yield element
+            count, place = count + 1, element.end
+        if bound and bound.unit and place - opened.start != bound.value * bound.unit:
+            raise Fault("Bounds", opened.start)
 
     def struct(self, of, order, scopes, start):
         self.counts.steps += 1
+        mine, _, end = self.fields(of, order, scopes, start, len(of.fields))
+        return Value("struct", start, end, mine, of.name)
+
+    def fields(self, of, order, scopes, start, count):
+        """The first fields of a struct, where a field behind them begins, and their greatest end."""
         mine, end, behind = [], start, start
-        for field in of.fields:
-            self.counts.steps += 1
-            if field.condition and self.evaluated(field.condition, [mine, *scopes], start).value == 0:
+        for field in of.fields[:count]:
+            place = self.place(field, of.pinned, [mine, *scopes], start, behind)
+            if place is None:
                 mine.append((field.name, None))
                 continue
-            place = self.place(field, of.pinned, [mine, *scopes], start, behind)
             value = self.value(field.type, field.order or order, [mine, *scopes], place)
             mine.append((field.name, value))
             self.holds(field, [mine, *scopes], place)
             behind, end = value.end, max(end, value.end)
-        return Value("struct", start, end, mine, of.name)
+        return mine, behind, end
 
     def place(self, field, pinned, scopes, start, behind):
+        """Where a field begins, None if it is absent."""
+        self.counts.steps += 1
+        if field.condition and self.evaluated(field.condition, scopes, start).value == 0:
+            return None
         if not field.label:
             return start if pinned else behind
         label = self.evaluated(field.label, scopes, start)
         if label.value < 0:
             raise Fault("Bounds", start)
         return start + label.value * label.unit
+
+    def reached(self, of, order, scopes, start, path, end=0, is_last=True):
+        """The array that a path of places of fields leads to, after what precedes it: up to which bit that goes, and
+        whether nothing follows the array in the structs on the path."""
+        if start > len(self.bits):
+            raise Fault("End", start)
+        if isinstance(of, Named):
+            return self.reached(of.type, order, [], start, path, end, is_last)
+        if not path:
+            opened = self.opened(of, order, scopes, start)
+            return replace(opened, end=end, is_last=is_last and opened.bound is None)
+        self.counts.steps += 1
+        mine, behind, mine_end = self.fields(of, order, scopes, start, path[0])
+        field = of.fields[path[0]]
+        place = self.place(field, of.pinned, [mine, *scopes], start, behind)
+        if place is None:
+            raise Fault("NoSuchPart")
+        is_last = is_last and path[0] == len(of.fields) - 1
+        return self.reached(field.type, field.order or order, [mine, *scopes], place, path[1:], max(end, mine_end), is_last)
 
     def union(self, of, order, scopes, start):
         self.counts.steps += 1
@@ -495,31 +545,93 @@ def mapped(of, order, start, file):
     try:
         return True, text_of(mapping.value(of, order, [], start)), mapping.counts.steps
     except Fault as fault:
-        return False, f"fault {fault.kind} at {fault.at}#b", mapping.counts.steps
+        return False, fault_line(fault), mapping.counts.steps
 
 
-def listed(of, order, start, file, limit, omit, most, any_end):
-    """The texts of the records of a type from a bit on, the line of the list's end, where it is then, and how many there were."""
-    bits = "".join(f"{byte:08b}" for byte in file)
-    texts, place, count, left = [], start, 0, limit
-    if start > len(bits):
-        return texts, f"fault End at {start}#b", place, count
-    while (most is None or count < omit + most) and place < len(bits):
-        mapping, fault = Mapping(bits), None
+@dataclass
+class Asked:
+    """Which records are asked for: the most steps, how many are omitted and printed, whether any end is accepted. `path` leads
+    through places of fields to the list; without it the list is of the type. `resume` is where the list goes on."""
+
+    limit: int
+    omit: int = 0
+    most: int | None = None
+    any_end: bool = False
+    path: list | None = None
+    resume: int | None = None
+
+
+@dataclass
+class Listing:
+    """The records to print, the line of the list's end, where it is then, how many there were, and the steps."""
+
+    values: list = field(default_factory=list)
+    line: str = ""
+    place: int = 0
+    count: int = 0
+    steps: int = 0
+
+    def ended(self, line):
+        self.line = line
+        return self
+
+    def next(self, mapping, elements, asked, is_printed):
+        """Takes the next record, None after that. Otherwise the line of its fault, empty where there is no next one."""
+        value, line = None, ""
         try:
-            value = mapping.value(of, order, [], place)
-        except Fault as it:
-            fault = it
-        if mapping.counts.steps + 1 > left:
-            return texts, f"fault Limit at {place}#b", place, count
-        if fault and fault.kind in ("Constraint", "End"):
-            return texts, "" if any_end else f"fault Left at {place}#b", place, count
-        if fault or value.end == place:
-            return texts, f"fault {fault.kind} at {fault.at}#b" if fault else f"fault NoBits at {place}#b", place, count
-        if count >= omit:
-            texts.append(text_of(value))
-        place, count, left = value.end, count + 1, left - mapping.counts.steps - 1
-    return texts, "", place, count
+            value = next(elements, None)
+        except Fault as fault:
+            line = fault_line(fault)
+        self.steps = mapping.counts.steps
+        if self.steps > asked.limit:
+            return f"fault Limit at {self.place}#b"
+        if value is None:
+            return line
+        if self.count >= asked.omit:
+            if not is_printed(value):
+                return "fault NoSuchPart"
+            self.values.append(value)
+        self.place, self.count = value.end, self.count + 1
+        return None
+
+
+def fault_line(fault):
+    return f"fault {fault.kind}" + ("" if fault.at is None else f" at {fault.at}#b")
+
+
+def list_of(mapping, of, order, start, asked):
+    """The list that is asked for, before its first record, and where it goes on."""
+    if start > len(mapping.bits):
+        raise Fault("End", start)
+    opened = Opened(of, order, [], start) if asked.path is None else mapping.reached(of, order, [], start, asked.path)
+    return opened, opened.start if asked.resume is None else asked.resume
+
+
+def listed(of, order, start, file, asked, is_printed=lambda value: True):
+    """The records that are asked for, of a type from a bit on, up to one that can't be printed."""
+    mapping, found, fault, place = Mapping("".join(f"{byte:08b}" for byte in file)), Listing(place=start), None, start
+    try:
+        opened, place = list_of(mapping, of, order, start, asked)
+    except Fault as it:
+        fault = it
+    found.steps = mapping.counts.steps
+    if found.steps > asked.limit:
+        return found.ended(f"fault Limit at {start}#b")
+    found.place = place
+    if fault or place > len(mapping.bits):
+        return found.ended(fault_line(fault or Fault("End", place)))
+    elements = mapping.elements(opened, place)
+    while asked.most is None or found.count < asked.omit + asked.most:
+        line = found.next(mapping, elements, asked, is_printed)
+        if line is not None:
+            return found.ended(line or end_line(opened, found.place, len(mapping.bits), asked))
+    return found
+
+
+def end_line(opened, place, length, asked):
+    """The line of a list that ended at a place without a fault."""
+    end = max(opened.end, place)
+    return f"fault Left at {end}#b" if opened.is_last and end < length and not asked.any_end else ""
 
 
 @dataclass

@@ -178,13 +178,39 @@ class Pickle:
 
     def declare(self):
         """Declares one more type, and returns its name and the type."""
-        name = f"T{len(self.named)}"
         it = self.choose.choice([self.composite, self.composite, self.element])([], 0)
+        return self.declared(it).text, it.it
+
+    def declared(self, it):
+        """Declares a type, and returns its name as a type."""
+        name = f"T{len(self.named)}"
         if isinstance(it.it, (Struct, Union, Integral)):
             it.it.name = name
         self.texts.append(f"type {name} = {it.text};\n")
         self.named.append(Written(name, Named(name, it.it), it.of))
-        return name, it.it
+        return self.named[-1]
+
+    def around(self, scopes, depth):
+        """A type with a list at some depth of structs, inline or by their names, and the places of the fields that lead to it."""
+        if depth == 0:
+            return self.list(scopes), []
+        path = []
+
+        def inner(scopes):
+            is_named = self.choose.random() < 0.3
+            it, found = self.around([] if is_named else scopes, depth - 1)
+            path.extend(found)
+            return self.declared(it) if is_named else it
+
+        it, at = self.struct(scopes, 1, inner)
+        return it, [at, *path]
+
+    def list(self, scopes):
+        base = self.base(scopes, 1)
+        sort, bound = Sort("array", base.of), self.bound(scopes)
+        if self.choose.random() < 0.5:
+            return Written(f"{base.text}[]", Array(base.it), sort)
+        return Written(f"{base.text}[{bound.text}]", Array(base.it, bound.it), sort)
 
     def integer(self):
         width, signed = self.choose.choice(WIDTHS), self.choose.random() < 0.5
@@ -239,10 +265,13 @@ class Pickle:
     def expression(self, scopes, chance):
         return Expressions(self.choose, scopes).integer(1) if self.choose.random() < chance else None
 
-    def struct(self, scopes, depth):
+    def struct(self, scopes, depth, inner=None):
+        """A struct. The type of one of its fields may be what `inner` makes for its scopes: then also that field's place."""
         pinned, mine, fields, texts = self.choose.random() < 0.15, [], [], []
-        for _ in range(self.choose.choice([0, 1, 2, 2, 3, 4])):
-            of, name = self.element([mine, *scopes], depth), self.name()
+        count = self.choose.choice([0, 1, 2, 2, 3, 4])
+        at = self.choose.choice([count, count, self.choose.randrange(count + 1)]) if inner else None
+        for place in range(count + bool(inner)):
+            of, name = inner([mine, *scopes]) if place == at else self.element([mine, *scopes], depth), self.name()
             constraint = self.expression([[*mine, (name, of.of)], *scopes], 0.3)
             labelled = not pinned and self.choose.random() < 0.12
             label = Expressions(self.choose, [mine, *scopes]).offset(1) if labelled else None
@@ -250,7 +279,8 @@ class Pickle:
             texts.append(self.written(of, name, fields, constraint, label, condition))
             mine.append((name, of.of))
         text = f"{'pinned ' if pinned else ''}struct {{ {' '.join(texts)} }}"
-        return Written(text, Struct(fields, pinned=pinned), Sort("struct", mine))
+        written = Written(text, Struct(fields, pinned=pinned), Sort("struct", mine))
+        return (written, at) if inner else written
 
     def written(self, of, name, fields, constraint=None, label=None, condition=None, prefixed=True):
         """The text of a field, which is added to the fields."""
@@ -289,6 +319,34 @@ def random_pickle(choose):
     for _ in range(choose.randint(1, 4)):
         name, of = pickle.declare()
     return "".join(pickle.texts), name, of
+
+
+def random_list(choose):
+    """The text of a pickle, and its last type: the name, the type, and the places of the fields that lead to a list in it."""
+    pickle = Pickle(choose)
+    for _ in range(choose.randint(0, 2)):
+        pickle.declare()
+    it, path = pickle.around([], choose.choice([0, 1, 1, 2, 2, 3]))
+    name = pickle.declared(it).text
+    return "".join(pickle.texts), name, it.it, path
+
+
+def random_path(choose, of):
+    """A path to a part that some value of a type has: its text, and its steps. `.` is the value itself."""
+    text, steps = "", []
+    while steps == [] or choose.random() < 0.4:
+        of = of.type if isinstance(of, Named) else of
+        fields = of.alternatives if isinstance(of, Union) else of.fields if isinstance(of, (Struct, Integral)) else []
+        if isinstance(of, Array):
+            steps.append(choose.randrange(3))
+            text, of = f"{text}[{steps[-1]}]", of.element
+        elif fields:
+            place = choose.randrange(len(fields))
+            steps.append(fields[place].name or place)
+            text, of = f"{text}.{steps[-1]}", fields[place].type
+        elif not isinstance(of, Named):
+            break
+    return text or ".", steps
 
 
 def random_file(choose):
