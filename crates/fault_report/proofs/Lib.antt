@@ -6,3 +6,4 @@ pub mod Kept
 pub mod Shown
 pub mod Outcomes
 pub mod Results
+pub mod LastOnes

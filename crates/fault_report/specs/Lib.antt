@@ -4,3 +4,4 @@ pub mod Meant
 pub mod Mapped
 pub mod Found
 pub mod Why
+pub mod Watched

@@ -1,27 +1,20 @@
 //! The arrays that ended early.
 
-ghost use Rattle.std.specs.Prelude.{◌≤◌, length};
+ghost use Rattle.std.specs.Prelude.{◌≡◌, [], IfOk};
+ghost use Rattle.fault_report.specs.Watched.{Sums, Adds, AddsTo, Forgets, ForgetsAll, ended_counts, none_ended};
 
 use crate::cause::EndedArray;
+pub use crate::ended::Endings;
 use std::alloc::{AllocError, Global};
 
 /// The most arrays that are printed because they ended early.
 const MOST_ENDED: usize = 16;
 
-/// Arrays that ended early: the last of them, and how many there are in all.
-#[derive(Drop)]
-pub struct Endings {
-    /// The last of them, which are printed, the first to end first.
-    pub last: Vec<EndedArray>,
-    /// How many there are in all.
-    pub count: usize,
-    ghost few: { length last.items ≤ 16 },
-    ghost counted: { length last.items ≤ count },
-}
-
 impl Endings {
     /// No arrays.
-    fn new(alloc: Global) -> Endings {
+    fn new(alloc: Global) -> Endings
+        ensures { Sums [] result }
+    {
         Endings {
             last: Vec::new(alloc),
             count: 0,
@@ -29,20 +22,21 @@ impl Endings {
     }
 
     /// Adds an array.
-    fn add(&mut self, ended: EndedArray) -> Result<(), AllocError> {
-        let Some(count) = self.count.checked_add(1) else {
-            return Ok(());
-        };
+    fn add(&mut self, ended: EndedArray) -> Result<(), AllocError>
+        ensures { IfOk result (λ _. Adds ended self.old self.new) }
+    {
         if MOST_ENDED <= self.last.len() {
             let _first = self.last.remove(0);
         }
-        self.count = count;
+        self.count = self.count.saturating_add(1);
         self.last.push(ended)?;
         Ok(())
     }
 
     /// Forgets the arrays after the first `count`.
-    fn forget(&mut self, count: usize) {
+    fn forget(&mut self, count: usize)
+        ensures { Forgets count self.old self.new }
+    {
         let before = self.count.saturating_sub(self.last.len());
         self.last.truncate(count.saturating_sub(before));
         self.count = self.count.min(count);
@@ -69,7 +63,9 @@ pub struct Counts {
 
 impl Counts {
     /// No arrays.
-    pub fn none() -> Counts {
+    pub fn none() -> Counts
+        ensures { result ≡ none_ended }
+    {
         Counts {
             broken: 0,
             planned: 0,
@@ -79,7 +75,10 @@ impl Counts {
 
 impl EarlyEndings {
     /// No arrays.
-    pub fn new(alloc: Global) -> EarlyEndings {
+    pub fn new(alloc: Global) -> EarlyEndings
+        ensures broken { Sums [] result.broken }
+        ensures planned { Sums [] result.planned }
+    {
         EarlyEndings {
             broken: Endings::new(alloc),
             planned: Endings::new(alloc),
@@ -87,7 +86,9 @@ impl EarlyEndings {
     }
 
     /// Adds an array whose next element begins otherwise, or one that ended inside an element.
-    pub fn add(&mut self, ended: EndedArray, is_planned: bool) -> Result<(), AllocError> {
+    pub fn add(&mut self, ended: EndedArray, is_planned: bool) -> Result<(), AllocError>
+        ensures { IfOk result (λ _. AddsTo is_planned ended self.old self.new) }
+    {
         if is_planned {
             self.planned.add(ended)
         } else {
@@ -96,7 +97,9 @@ impl EarlyEndings {
     }
 
     /// How many arrays there are.
-    pub fn counts(&self) -> Counts {
+    pub fn counts(&self) -> Counts
+        ensures { result ≡ ended_counts self.now }
+    {
         Counts {
             broken: self.broken.count,
             planned: self.planned.count,
@@ -104,7 +107,9 @@ impl EarlyEndings {
     }
 
     /// Forgets the arrays that ended since there were so many.
-    pub fn forget(&mut self, counts: Counts) {
+    pub fn forget(&mut self, counts: Counts)
+        ensures { ForgetsAll counts self.old self.new }
+    {
         self.broken.forget(counts.broken);
         self.planned.forget(counts.planned);
     }

@@ -22,6 +22,7 @@ mod approach;
 mod blame;
 mod cause;
 mod defect;
+mod ended;
 mod endings;
 mod flat;
 mod front;

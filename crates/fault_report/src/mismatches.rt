@@ -1,7 +1,9 @@
 //! The alternatives that didn't match, of the unions that a walk is in.
 
-ghost use Rattle.std.specs.Prelude.{◌≤◌};
+ghost use Rattle.std.specs.Prelude.{◌≡◌, ◌≤◌, [], None, IfOk, is_some, drop, take};
 ghost use Rattle.std.specs.Vec.{vec_len};
+ghost use Rattle.fault_report.specs.Watched.{count_around, emptied_at, filled, hides, hides_union, left_at, with_inner};
+ghost use Rattle.fault_report.specs.Watched.{in_array, out_of_array, with_miss};
 
 use crate::cause::Miss;
 use pickle_map::mapper::stop::Stop;
@@ -31,7 +33,10 @@ struct FullUnion {
 
 impl Mismatches {
     /// No alternatives.
-    pub fn new(alloc: Global) -> Mismatches {
+    pub fn new(alloc: Global) -> Mismatches
+        ensures misses { result.misses.items ≡ [] }
+        ensures full { result.full ≡ None }
+    {
         Mismatches {
             misses: Vec::new(alloc),
             full: None,
@@ -39,12 +44,17 @@ impl Mismatches {
     }
 
     /// Whether a union has the most misses that are stored.
-    pub fn is_full(&self) -> bool {
+    pub fn is_full(&self) -> bool
+        ensures { result ≡ is_some self.now.full }
+    {
         self.full.is_some()
     }
 
     /// Notes that the walk goes into an array inside the full union.
-    pub fn enter_array(&mut self) {
+    pub fn enter_array(&mut self)
+        ensures misses { self.new.misses ≡ self.old.misses }
+        ensures full { self.new.full ≡ in_array self.old.full }
+    {
         if let Some(full) = self.full {
             self.full = Some(FullUnion {
                 arrays: full.arrays.saturating_add(1),
@@ -54,7 +64,10 @@ impl Mismatches {
     }
 
     /// Notes that the walk leaves an array inside the full union.
-    pub fn leave_array(&mut self) {
+    pub fn leave_array(&mut self)
+        ensures misses { self.new.misses ≡ self.old.misses }
+        ensures full { self.new.full ≡ out_of_array self.old.full }
+    {
         if let Some(full) = self.full {
             self.full = Some(FullUnion {
                 arrays: full.arrays.saturating_sub(1),
@@ -64,7 +77,10 @@ impl Mismatches {
     }
 
     /// Drops the alternatives of the union at a depth, and of those inside it.
-    pub fn leave(&mut self, depth: usize) {
+    pub fn leave(&mut self, depth: usize)
+        ensures misses { self.new.misses.items ≡ left_at depth self.old.misses.items }
+        ensures full { self.new.full ≡ emptied_at depth self.old.full }
+    {
         if let Some(last) = self.misses.last() {
             if depth <= last.depth {
                 let kept = self.count_around(depth);
@@ -75,7 +91,13 @@ impl Mismatches {
     }
 
     /// Removes and returns the alternatives of the union at a depth.
-    pub fn take(&mut self, depth: usize) -> Result<Vec<Miss>, AllocError> {
+    pub fn take(&mut self, depth: usize) -> Result<Vec<Miss>, AllocError>
+        ensures taken { let misses = self.old.misses.items in
+            IfOk result (λ taken. taken.items ≡ drop (count_around depth misses) misses) }
+        ensures misses { let misses = self.old.misses.items in
+            IfOk result (λ _. self.new.misses.items ≡ take (count_around depth misses) misses) }
+        ensures full { IfOk result (λ _. self.new.full ≡ emptied_at depth self.old.full) }
+    {
         let kept = self.count_around(depth);
         let taken = self.misses.split_off(kept)?;
         self.empty_at(depth);
@@ -83,7 +105,10 @@ impl Mismatches {
     }
 
     /// Adds an alternative of the innermost union, if it is one of its first.
-    pub fn add(&mut self, miss: Miss) -> Result<(), AllocError> {
+    pub fn add(&mut self, miss: Miss) -> Result<(), AllocError>
+        ensures misses { IfOk result (λ _. self.new.misses.items ≡ with_miss miss self.old.misses.items) }
+        ensures full { IfOk result (λ _. self.new.full ≡ filled miss self.old.misses.items self.old.full) }
+    {
         let depth = miss.depth;
         let stored = self.misses.iter().filter(|it| it.depth == depth).count();
         if stored < MOST_MISSES {
@@ -96,7 +121,10 @@ impl Mismatches {
     }
 
     /// Adds alternatives of a union that is an alternative of the one at a depth, or in it.
-    pub fn add_inner(&mut self, depth: usize, misses: Vec<Miss>) -> Result<(), AllocError> {
+    pub fn add_inner(&mut self, depth: usize, misses: Vec<Miss>) -> Result<(), AllocError>
+        ensures { let with = with_inner depth misses.items self.old.misses.items in
+            IfOk result (λ _. self.new.misses.items ≡ with) }
+    {
         for miss in misses {
             let inside = miss.inside.saturating_add(1);
             self.add(Miss {
@@ -110,7 +138,9 @@ impl Mismatches {
 
     /// Whether nothing is printed of a fault of the part that is under way: it means that an alternative doesn't match
     /// of which no more are stored. In an array it may also mean that the array ends.
-    pub fn hides(&self, stop: Stop) -> bool {
+    pub fn hides(&self, stop: Stop) -> bool
+        ensures { result ≡ hides self.now.full stop }
+    {
         match self.full {
             Some(full) => full.arrays == 0 && stop.misses(),
             None => false,
@@ -118,7 +148,9 @@ impl Mismatches {
     }
 
     /// Whether nothing is printed of a fault of the union at a depth.
-    pub fn hides_union(&self, depth: usize, stop: Stop) -> bool {
+    pub fn hides_union(&self, depth: usize, stop: Stop) -> bool
+        ensures { result ≡ hides_union self.now.full depth stop }
+    {
         match self.full {
             Some(full) => full.depth < depth && self.hides(stop),
             None => false,
@@ -126,7 +158,10 @@ impl Mismatches {
     }
 
     /// Notes that the union at a depth has no alternatives any more.
-    fn empty_at(&mut self, depth: usize) {
+    fn empty_at(&mut self, depth: usize)
+        ensures misses { self.new.misses ≡ self.old.misses }
+        ensures full { self.new.full ≡ emptied_at depth self.old.full }
+    {
         if let Some(full) = self.full {
             if depth <= full.depth {
                 self.full = None;
@@ -136,9 +171,9 @@ impl Mismatches {
 
     /// How many alternatives belong to unions around the level at a depth.
     fn count_around(&self, depth: usize) -> usize
-        ensures { result ≤ vec_len self.now.misses }
+        ensures count { result ≡ count_around depth self.now.misses.items }
+        ensures few { result ≤ vec_len self.now.misses }
     {
-        let around = self.misses.iter().filter(|miss| miss.depth < depth);
-        around.count().min(self.misses.len())
+        self.misses.iter().filter(|miss| miss.depth < depth).count()
     }
 }

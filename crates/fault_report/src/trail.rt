@@ -1,7 +1,8 @@
 //! The arrays, structs and unions that a walk is in, the outermost first.
 
-ghost use Rattle.std.specs.Prelude.{◌≡◌, ◌++◌, ◌-◌, IfOk, length, take};
+ghost use Rattle.std.specs.Prelude.{◌≡◌, ◌≤◌, ◌++◌, ◌-◌, ◌∷◌, [], Some, IfOk, IfSome, IfNone, length, map, slice_get};
 ghost use Rattle.fault_report.specs.Found.{place_under_way, places_under_way, way_places};
+ghost use Rattle.fault_report.specs.Watched.{at_next, entered, entered_at, innermost, outer};
 
 use crate::endings::Counts;
 use crate::way::{Way, WayStep, is_array};
@@ -29,19 +30,27 @@ pub struct Trail {
 
 impl Trail {
     /// The trail of a walk that has not begun.
-    pub fn new(alloc: Global) -> Trail {
+    pub fn new(alloc: Global) -> Trail
+        ensures { result.levels.items ≡ [] }
+    {
         Trail {
             levels: Vec::new(alloc),
         }
     }
 
     /// How many levels there are.
-    pub fn depth(&self) -> usize {
+    pub fn depth(&self) -> usize
+        ensures { result ≡ length self.now.levels.items }
+    {
         self.levels.len()
     }
 
     /// A level, counted from the innermost.
-    pub fn level(&self, above: usize) -> Option<Level> {
+    pub fn level(&self, above: usize) -> Option<Level>
+        ensures is { let levels = self.now.levels.items in
+            IfSome result (λ level. slice_get levels (length levels - above - 1) ≡ Some level) }
+        ensures lacks { IfNone result (length self.now.levels.items ≤ above) }
+    {
         let from_outermost = self.levels.len().checked_sub(above)?.checked_sub(1)?;
         self.levels.get(from_outermost).copied()
     }
@@ -61,7 +70,9 @@ impl Trail {
     }
 
     /// Goes into the node at a place of the table.
-    pub fn open(&mut self, node: usize) -> Result<(), AllocError> {
+    pub fn open(&mut self, node: usize) -> Result<(), AllocError>
+        ensures { IfOk result (λ _. self.new.levels.items ≡ self.old.levels.items ++ entered node ∷ []) }
+    {
         self.levels.push(Level {
             node,
             begun: 0,
@@ -71,7 +82,9 @@ impl Trail {
     }
 
     /// Goes into the node where a step starts, to the part to which the step leads.
-    pub fn go(&mut self, step: WayStep) -> Result<(), AllocError> {
+    pub fn go(&mut self, step: WayStep) -> Result<(), AllocError>
+        ensures { IfOk result (λ _. self.new.levels.items ≡ self.old.levels.items ++ entered_at step ∷ []) }
+    {
         self.levels.push(Level {
             node: step.node,
             begun: step.place.saturating_add(1),
@@ -81,7 +94,10 @@ impl Trail {
     }
 
     /// Goes on to the next part of the innermost level, when so many arrays had ended early.
-    pub fn next(&mut self, ended: Counts) {
+    pub fn next(&mut self, ended: Counts)
+        ensures { let levels = self.old.levels.items in
+            self.new.levels.items ≡ outer levels ++ map (at_next ended) (innermost levels) }
+    {
         if let Some(level) = self.levels.as_mut_slice().last_mut() {
             level.begun = level.begun.saturating_add(1);
             level.ended = ended;
@@ -89,7 +105,9 @@ impl Trail {
     }
 
     /// Leaves the innermost level.
-    pub fn leave(&mut self) {
+    pub fn leave(&mut self)
+        ensures { self.new.levels.items ≡ outer self.old.levels.items }
+    {
         let _left = self.levels.pop();
     }
 
@@ -102,8 +120,7 @@ impl Trail {
 
     /// The path to the innermost level itself.
     pub fn way_to_innermost(&self, alloc: Global) -> Result<Way, AllocError>
-        ensures { let outer = take (length self.now.levels.items - 1) self.now.levels.items in
-            IfOk result (λ way. way_places way ≡ places_under_way outer) }
+        ensures { IfOk result (λ way. way_places way ≡ places_under_way (outer self.now.levels.items)) }
     {
         let count = self.levels.len().saturating_sub(1);
         way_along(alloc, &self.levels.as_slice()[..count])
