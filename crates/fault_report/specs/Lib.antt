@@ -5,3 +5,4 @@ pub mod Mapped
 pub mod Found
 pub mod Why
 pub mod Watched
+pub mod Watching

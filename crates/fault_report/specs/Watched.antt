@@ -1,7 +1,7 @@
 -- What a watcher of a mapping stores: the levels that the walk is in, the alternatives that didn't match, and the
 -- arrays that ended early.
 use Rattle.std.specs.Prelude.{◌≡◌, ◌<◌, ◌-◌, ◌+◌, ◌^◌, ◌&&◌, ℕ, Bool, true, false, min, if◌then◌else◌, nat_eq, nat_lt, nat_le}
-use Rattle.std.specs.Prelude.{List, [], ◌∷◌, ◌++◌, take, drop, length, map, count_by, slice_get, Option, Some, None}
+use Rattle.std.specs.Prelude.{List, [], ◌∷◌, ◌++◌, take, drop, length, map, fold, count_by, slice_get, Option, Some, None}
 use Rattle.pickle_map.specs.declared.mapper.stop.Stop.{Stop}
 use Rattle.pickle_map.specs.Stops.{stop_misses}
 use Rattle.fault_report.specs.declared.cause.Cause.{Cause}

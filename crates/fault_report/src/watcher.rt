@@ -1,7 +1,10 @@
 //! What a watcher stores during a mapping: the part with a fault, and the arrays that ended early.
 
+ghost use Rattle.std.specs.Prelude.{◌≡◌, ◌++◌, ◌∷◌, ◌||◌, [], Some, None, false, length, IfOk, is_err};
 ghost use Rattle.pickle_types.specs.Sound.{IsSoundTerm};
 ghost use Rattle.pickle_types.specs.Table.{term_of};
+ghost use Rattle.fault_report.specs.Watched.{begun_of, entered, entered_at};
+ghost use Rattle.fault_report.specs.Watching.{Begins, Enters, IsFresh, Leaves, StaysButTrail, StaysNoted, levels_of};
 
 use crate::again::Kept;
 use crate::blame::blame_of;
@@ -39,7 +42,10 @@ pub struct PartWatcher<'t> {
 
 impl<'t> PartWatcher<'t> {
     /// A watcher that hasn't been notified yet.
-    pub fn new(alloc: Global, nodes: &'t [Node]) -> PartWatcher<'t> {
+    pub fn new(alloc: Global, nodes: &'t [Node]) -> PartWatcher<'t>
+        ensures fresh { IsFresh result }
+        ensures near { result.near ≡ None }
+    {
         PartWatcher {
             alloc,
             nodes,
@@ -53,7 +59,10 @@ impl<'t> PartWatcher<'t> {
     }
 
     /// The same, for a walk that looks at the expressions of alternatives that don't match.
-    pub fn near(alloc: Global, nodes: &'t [Node]) -> PartWatcher<'t> {
+    pub fn near(alloc: Global, nodes: &'t [Node]) -> PartWatcher<'t>
+        ensures fresh { IsFresh result }
+        ensures near { result.near ≡ Some 0 }
+    {
         PartWatcher {
             near: Some(0),
             ..PartWatcher::new(alloc, nodes)
@@ -62,19 +71,28 @@ impl<'t> PartWatcher<'t> {
 
     /// Goes along a step, to a part in which the walk begins. From there on it looks at the expressions of alternatives
     /// that don't match, except in arrays.
-    pub fn go(&mut self, step: WayStep) {
+    pub fn go(&mut self, step: WayStep)
+        ensures enters { Enters (entered_at step) self.old self.new }
+        ensures near { self.new.near ≡ Some (length (levels_of self.new)) }
+    {
         let gone = self.trail.go(step);
         self.note(gone);
         self.near = Some(self.trail.depth());
     }
 
     /// The levels that the walk is in.
-    pub fn trail(&self) -> &Trail {
+    pub fn trail(&self) -> &Trail
+        ensures { result.now ≡ self.now.trail }
+    {
         &self.trail
     }
 
     /// What was stored. An error if an allocation for it failed.
-    pub fn into_kept(self) -> Result<Kept, AllocError> {
+    pub fn into_kept(self) -> Result<Kept, AllocError>
+        ensures fault { IfOk result (λ kept. kept.fault ≡ self.entry.fault) }
+        ensures ended { IfOk result (λ kept. kept.ended ≡ self.entry.ended) }
+        ensures starved { IfOk result (λ _. self.entry.starved ≡ false) }
+    {
         let PartWatcher {
             alloc: _,
             nodes: _,
@@ -91,14 +109,20 @@ impl<'t> PartWatcher<'t> {
         Ok(Kept { fault, ended })
     }
 
-    fn note(&mut self, kept: Result<(), AllocError>) {
+    fn note(&mut self, kept: Result<(), AllocError>)
+        ensures stays { StaysNoted self.old self.new }
+        ensures starved { self.new.starved ≡ (self.old.starved || is_err kept) }
+    {
         if kept.is_err() {
             self.starved = true;
         }
     }
 
     /// Goes into the node at a place of the table.
-    fn enter(&mut self, at: usize) -> Result<(), AllocError> {
+    fn enter(&mut self, at: usize) -> Result<(), AllocError>
+        ensures trail { IfOk result (λ _. levels_of self.new ≡ levels_of self.old ++ entered at ∷ []) }
+        ensures stays { StaysButTrail self.old self.new }
+    {
         if self.mismatches.is_full() && is_array(self.nodes, at) {
             self.mismatches.enter_array();
         }
@@ -106,7 +130,9 @@ impl<'t> PartWatcher<'t> {
     }
 
     /// Leaves the innermost level, and drops its alternatives, which aren't needed any more.
-    fn leave(&mut self) {
+    fn leave(&mut self)
+        ensures { Leaves self.old self.new }
+    {
         self.mismatches.leave(self.trail.depth());
         if self.mismatches.is_full() && self.is_in_array() {
             self.mismatches.leave_array();
@@ -123,7 +149,9 @@ impl<'t> PartWatcher<'t> {
     }
 
     /// How many parts of the innermost level have begun.
-    fn begun(&self) -> usize {
+    fn begun(&self) -> usize
+        ensures { result ≡ begun_of (levels_of self.now) }
+    {
         match self.trail.level(0) {
             Some(level) => level.begun,
             None => 0,
@@ -266,17 +294,23 @@ impl<'t> PartWatcher<'t> {
 }
 
 impl Watch for PartWatcher<'_> {
-    fn open(&mut self, at: usize) {
+    fn open(&mut self, at: usize)
+        ensures { Enters (entered at) self.old self.new }
+    {
         let entered = self.enter(at);
         self.note(entered);
     }
 
-    fn next(&mut self) {
+    fn next(&mut self)
+        ensures { Begins self.old self.new }
+    {
         let counts = self.ended.counts();
         self.trail.next(counts);
     }
 
-    fn close(&mut self) {
+    fn close(&mut self)
+        ensures { Leaves self.old self.new }
+    {
         self.leave();
     }
 
