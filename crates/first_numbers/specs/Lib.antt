@@ -4,3 +4,4 @@ pub mod Laws
 pub mod Held
 pub mod Judged
 pub mod Reads
+pub mod Screens

@@ -9,3 +9,6 @@ pub mod number;
 pub mod over_own;
 pub mod passed;
 pub mod reader;
+pub mod screen;
+pub mod sieve;
+mod zeros;

@@ -25,6 +25,7 @@ use value_store::scalar::Scalar;
 impl First<'_> {
     /// The steps of the type's fault at a start, if all first numbers are in the space and fail, and it takes no more
     /// steps than are allowed. `None` says nothing: one of them may hold, or a read may have failed.
+    #[inline(never)]
     pub fn missed_steps<S: Space>(
         &self,
         order: Order,
@@ -122,7 +123,7 @@ fn scalar_of(numeral: Numeral, n: u64) -> Scalar
 }
 
 // The byte order of a number.
-fn ordered(set: Option<ByteOrder>, order: Order) -> Order
+pub(crate) fn ordered(set: Option<ByteOrder>, order: Order) -> Order
     ensures { result ≡ ordered set order }
 {
     match set {
