@@ -4,3 +4,4 @@ pub mod Reached
 pub mod Stocks
 pub mod Trials
 pub mod Missed
+pub mod Sieves

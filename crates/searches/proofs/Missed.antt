@@ -29,6 +29,8 @@ use Rattle.bit_space.proofs.Failures.{risen_later}
 use Rattle.first_numbers.specs.declared.number.First.{First as HeldFirst}
 use Rattle.first_numbers.specs.Held.{HoldsTests}
 use Rattle.first_numbers.specs.Reads.{IsMissed}
+use Rattle.first_numbers.specs.Screens.{IsMiss}
+use Rattle.first_numbers.specs.declared.sieve.Miss.{Miss}
 use Rattle.searches.proofs.Trials.{lacks_since, runs_since}
 use Rattle.value_store.specs.Slots.{Held}
 use Rattle.value_store.specs.Moves.{State, no_state}
@@ -221,6 +223,22 @@ missed_there run begun done held steps stopped whole h miss is =
     (record { fault = record { kind = fault.Constraint; at = place }; steps = steps })) same_place
     (subst (λ n. IsStopped run begun done
     (record { fault = record { kind = fault.Constraint; at = start + f.fault }; steps = n })) same_steps there))
+
+-- the same of a miss that a sieve shows
+pub miss_there : (run : TypeRun) (begun done : SpaceView) (miss : Miss) (stopped : Stopped) → IsWhole begun →
+    IsMiss (run_type run) begun run.ask.now.order run.ask.now.start run.ask.now.limit miss →
+    stopped
+    ≡ record {
+      fault = record { kind = fault.Constraint; at = run.ask.now.start + miss.distance };
+      steps = miss.steps;
+    } →
+    IsStopped run begun done stopped
+miss_there run begun done miss stopped whole h is =
+    missed_there run begun done h.held miss.steps stopped whole h.holds h.missed
+    (is ∙ ap (λ (distance : ℕ). record {
+      fault = record { kind = fault.Constraint; at = run.ask.now.start + distance };
+      steps = miss.steps;
+    }) h.distance)
 
 -- ---- a mapping after that
 

@@ -1,7 +1,8 @@
 -- The attempts at the types that are looked for.
-use Rattle.std.proofs.Common.{◌≡◌, ℕ, Option, Result, Some, Ok, Err, IfOk, IfErr, refl, sym, subst}
+use Rattle.std.proofs.Common.{◌≡◌, ◌≤◌, ℕ, Option, Result, Some, None, Ok, Err, IfOk, IfErr, IfSome, refl, sym, subst, arith}
 use Rattle.bit_space.proofs.Failures.{risen_later}
 use Rattle.bit_space.specs.SpaceView.{Keeps, SpaceView}
+use Rattle.bit_space.specs.declared.order.Order.{Order}
 use Rattle.command_line.specs.declared.ask.Ask.{Ask}
 use Rattle.pickle_meaning.specs.Values.{end_of}
 use Rattle.pickle_types.specs.declared.table.TypeId.{TypeId}
@@ -11,7 +12,7 @@ use Rattle.records.specs.declared.attempt.Stopped.{Stopped}
 use Rattle.run_parts.specs.declared.outcome.Outcome.{Outcome}
 use Rattle.searches.proofs.Trials.{is_hit, is_miss}
 use Rattle.searches.specs.Round.{GoesWithout, HasHit, HasMiss, StopsHunt}
-use Rattle.searches.specs.Sought.{IsAttempt, StopsAt, StopsType, TriesType, TriesValue, meant, past_value, signed, spent, stops_signature, stops_value, unmeant, unsigned}
+use Rattle.searches.specs.Sought.{IsAttempt, StopsAt, StopsType, TriesType, TriesValue, ask_in, meant, past_value, signed, spent, stops_signature, stops_value, unmeant, unsigned}
 use Rattle.searches.specs.Starts.{ask_at}
 use Rattle.searches.specs.Written.{IsRunAt}
 use Rattle.searches.specs.declared.hunt.Hunt.{Hunt}
@@ -55,6 +56,20 @@ module _ (hunt : Hunt) (first before : SpaceView) (at : Reach) (sought : Sought)
     device = λ kind.
         risen_later first.failures before.failures last.failures since.failures during.failures (h.device kind);
   }
+
+  -- what is known without a mapping
+  pub skip_missed : (last : SpaceView) (skipped : Option Stopped) → Keeps before last →
+      IfSome skipped (IsStopped run before last) → IfSome skipped (HasMiss hunt first last at sought id)
+  skip_missed last (Some stop) during h = has_miss last stop during h
+  skip_missed last None during h = tt
+
+-- within the steps that are left
+pub skip_few : (hunt : Hunt) (at : Reach) (run : TypeRun) (order : Order) (before last : SpaceView) →
+    run.ask.now ≡ ask_in hunt.search at hunt.ask.now order → (skipped : Option Stopped) →
+    IfSome skipped (IsStopped run before last) → IfSome skipped (λ stopped. stopped.steps ≤ at.left)
+skip_few hunt at run order before last is (Some stop) h =
+    let few = subst (λ (ask : Ask). stop.steps ≤ ask.limit) is h.few in omega (arith, few)
+skip_few hunt at run order before last is None h = tt
 
 module _ (hunt : Hunt) (first last : SpaceView) (at : Reach) (sought : Sought) where
   -- an attempt was stopped, and the search goes on

@@ -7,7 +7,9 @@ use Rattle.pickle_map.specs.Findings.{AreFound}
 use Rattle.pickle_map.specs.declared.mapper.findings.Findings.{Findings}
 use Rattle.pickle_meaning.specs.Values.{Value, end_of}
 use Rattle.pickle_meaning.specs.declared.faults.MapFaultKind.TheVariants as fault
-use Rattle.pickle_types.specs.TypeTable.{nodes_of}
+use Rattle.first_numbers.specs.Screens.{IsSieve}
+use Rattle.first_numbers.specs.declared.sieve.Sieve.{Sieve}
+use Rattle.pickle_types.specs.TypeTable.{nodes_of, type_named}
 use Rattle.pickle_types.specs.declared.node.Node.{Node}
 use Rattle.pickle_types.specs.declared.table.TypeId.{TypeId}
 use Rattle.poke_batch.specs.RunsUnder.{IsStoreOf, end_saying}
@@ -40,9 +42,20 @@ pub record AreNew (count : ℕ) (all : List Findings) : Type 0 where
   pub count_is : length all ≡ count
   pub all_are : All (λ findings. (nodes : List Node) → AreFound nodes findings) all
 
--- what is stored serves a search
-pub record IsStocked (hunt : Hunt) (stock : Stock) : Type 0 where
+-- what is known of the starts of a signature in a space
+abbrev pub IsSieveOf : Sought → SpaceView → Sieve → Type 0
+IsSieveOf sought space sieve = IsSieve (type_named sought.table.now sought.signature) space sought.order sieve
+
+-- the same of each, in the order of the list
+pub record AreSieves (list : List Sought) (space : SpaceView) (all : List Sieve) : Type 0 where
+  pub count : length all ≡ length list
+  pub each : (k : ℕ) (sought : Sought) (sieve : Sieve) → k < length list →
+      IsSieveOf (slice_index_or list k sought) space (slice_index_or all k sieve)
+
+-- what is stored serves a search, in a space
+pub record IsStocked (hunt : Hunt) (space : SpaceView) (stock : Stock) : Type 0 where
   pub store : IsStoreOf hunt.terms.now.most_slots stock.kept.store
+  pub sieves : AreSieves hunt.list.now space stock.sieves.items
   pub places : length stock.places.items ≡ length hunt.list.now
   pub findings : AreFindings hunt.list.now stock.findings.items
 

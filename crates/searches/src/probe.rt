@@ -1,19 +1,21 @@
 //! One attempt at a type among others.
 
-ghost use Rattle.std.specs.Prelude.{◌≡◌, ◌≤◌, Some, IfErr, IfOk};
+ghost use Rattle.std.specs.Prelude.{◌≡◌, ◌≤◌, Some, IfErr, IfOk, IfSome};
 ghost use Rattle.bit_space.specs.SpaceView.{Keeps, SpaceView};
 ghost use Rattle.pickle_map.specs.Findings.{AreFound};
 ghost use Rattle.pickle_meaning.specs.Values.{Value};
 ghost use Rattle.pickle_types.specs.TypeTable.{IsInTable, nodes_of};
 ghost use Rattle.poke_batch.specs.RunsUnder.{IsStoreOf};
 ghost use Rattle.records.specs.Next.{HoldsValue, IsHeld, IsPlaced, IsStopped, held_value};
-ghost use Rattle.searches.specs.Round.{HasEnd, HasHit, HasMiss};
+ghost use Rattle.searches.specs.Round.{HasEnd, HasHit, HasMiss, IsSieveOf};
 ghost use Rattle.value_store.specs.Refs.{value_shown};
 
 use crate::hunt::Hunt;
 use crate::search::Reach;
+use crate::skips::missed;
 use crate::sought::Sought;
 use bit_space::Space;
+use first_numbers::sieve::Sieve;
 use pickle_map::mapper::findings::Findings;
 use pickle_map::{Store, ValueRef};
 use pickle_types::table::TypeId;
@@ -69,6 +71,34 @@ pub fn probe<S: Space>(
         }
         Err(stopped) => Err(stopped),
     }
+}
+
+/// The fault of a signature where the search is, if its first numbers show it within the steps that are allowed there.
+/// `None` says nothing.
+#[inline(always)]
+pub fn skip<S: Space>(
+    hunt: &Hunt<'_>,
+    sought: &Sought<'_>,
+    sieve: &mut Sieve<'_>,
+    at: Reach,
+    space: &mut S,
+) -> Option<Stopped>
+    requires sieve { IsSieveOf sought.now (S.view space.old) sieve.old }
+    ensures sieve { IsSieveOf sought.now (S.view space.new) sieve.new }
+    ensures missed { (first : SpaceView) → Keeps first (S.view space.old) →
+        IfSome result (HasMiss hunt.now first (S.view space.new) at sought.now sought.now.signature) }
+    ensures few { IfSome result (λ stopped. stopped.steps ≤ at.left) }
+    ensures keeps { Keeps (S.view space.old) (S.view space.new) }
+{
+    let ask = hunt.ask_in(at, sought.order);
+    let run = TypeRun {
+        alloc: hunt.alloc,
+        table: sought.table,
+        id: sought.signature,
+        ask: &ask,
+        terms: hunt.terms,
+    };
+    missed(&run, sieve, space)
 }
 
 // Maps the type of a run into what is stored, with what was found of its table's types.

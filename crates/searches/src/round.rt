@@ -7,17 +7,18 @@ ghost use Rattle.pickle_map.specs.Findings.{AreFound};
 ghost use Rattle.pickle_types.specs.TypeTable.{nodes_of};
 ghost use Rattle.poke_batch.specs.RunsUnder.{IsStoreOf};
 ghost use Rattle.run_parts.specs.Told.{AppendsUpTo};
-ghost use Rattle.searches.specs.Round.{EndsRound, GoesNext, GoesRound, GoesWithout, IsStocked, StopsHunt};
+ghost use Rattle.searches.specs.Round.{EndsRound, GoesNext, GoesRound, GoesWithout, IsSieveOf, IsStocked, StopsHunt};
 ghost use Rattle.searches.specs.Rounds.{EndsStart, EndsType, TriesAll, places_after};
 ghost use Rattle.searches.specs.Sought.{StopsAt, StopsType, TriesType, TriesValue, is_due};
 ghost use Rattle.searches.specs.Starts.{goes_on};
 
 use crate::found::{Names, add_found};
 use crate::hunt::{Hunt, Tried};
-use crate::probe::probe;
+use crate::probe::{probe, skip};
 use crate::search::{Reach, Search};
 use crate::sought::Sought;
 use bit_space::Space;
+use first_numbers::sieve::Sieve;
 use pickle_map::mapper::findings::Findings;
 use poke_batch::run::end_outcome;
 use poke_batch::write::WriteFault;
@@ -28,9 +29,11 @@ use std::io::Write;
 
 /// What is stored from start to start.
 #[derive(Drop)]
-pub struct Stock {
+pub struct Stock<'a> {
     /// What an attempt needs. All types use the same.
     pub kept: Kept,
+    /// What is known of the starts of each signature.
+    pub sieves: Vec<Sieve<'a>>,
     /// What was found of the types of each table.
     pub findings: Vec<Findings>,
     /// The place from which each type is tried again.
@@ -45,13 +48,13 @@ pub struct Stock {
 pub fn try_round<S: Space, O: Write>(
     hunt: &Hunt<'_>,
     at: Reach,
-    stock: &mut Stock,
+    stock: &mut Stock<'_>,
     space: &mut S,
     out: &mut O,
 ) -> Result<Reach, Outcome>
     requires on { goes_on hunt.now.search at (8 * (S.view space.old).len) ≡ true }
-    requires ready { IsStocked hunt.now stock.old }
-    ensures ready { IsStocked hunt.now stock.new }
+    requires ready { IsStocked hunt.now (S.view space.old) stock.old }
+    ensures ready { IsStocked hunt.now (S.view space.new) stock.new }
     ensures ok { (first : SpaceView) → Keeps first (S.view space.old) →
         IfOk result (GoesRound hunt.now first at stock.old.places.items stock.new.places.items
         (O.contents out.old) (O.contents out.new)) }
@@ -83,11 +86,11 @@ fn put_lines<O: Write>(out: &mut O, text: &[u8], flush: bool) -> Result<(), Writ
 fn try_types<S: Space>(
     hunt: &Hunt<'_>,
     at: Reach,
-    stock: &mut Stock,
+    stock: &mut Stock<'_>,
     space: &mut S,
 ) -> Result<Reach, Outcome>
-    requires ready { IsStocked hunt.now stock.old }
-    ensures ready { IsStocked hunt.now stock.new }
+    requires ready { IsStocked hunt.now (S.view space.old) stock.old }
+    ensures ready { IsStocked hunt.now (S.view space.new) stock.new }
     ensures ok { (first : SpaceView) → Keeps first (S.view space.old) →
         IfOk result (λ next. TriesAll hunt.now first at stock.old.places.items next stock.new.places.items
         stock.new.text.items) }
@@ -110,12 +113,12 @@ fn try_next<S: Space>(
     hunt: &Hunt<'_>,
     k: usize,
     at: Reach,
-    stock: &mut Stock,
+    stock: &mut Stock<'_>,
     space: &mut S,
 ) -> Result<Reach, Outcome>
     requires inside { k < length hunt.now.list.now }
-    requires ready { IsStocked hunt.now stock.old }
-    ensures ready { IsStocked hunt.now stock.new }
+    requires ready { IsStocked hunt.now (S.view space.old) stock.old }
+    ensures ready { IsStocked hunt.now (S.view space.new) stock.new }
     ensures ok { (first : SpaceView) → Keeps first (S.view space.old) →
         IfOk result (GoesNext hunt.now first k at stock.old.places.items stock.new.places.items
         stock.old.text.items stock.new.text.items) }
@@ -127,8 +130,9 @@ fn try_next<S: Space>(
         return Ok(at);
     }
     let sought = &hunt.list[k];
+    let sieve = &mut stock.sieves[k];
     let findings = &mut stock.findings[k];
-    let tried = try_type(hunt, sought, at, &mut stock.kept, findings, space)?;
+    let tried = try_type(hunt, sought, sieve, at, &mut stock.kept, findings, space)?;
     set_place(hunt.search, &mut stock.places, k, tried.end);
     match add_found(
         hunt.ask.mode,
@@ -155,10 +159,12 @@ fn set_place(search: Search, places: &mut Vec<u64>, k: usize, end: Option<u64>)
     }
 }
 
-// Tries both types of a Sought at a start: the second where the first has a value.
+// Tries both types of a Sought at a start: the second where the first has a value. The first isn't mapped where its
+// first numbers fail.
 fn try_type<S: Space>(
     hunt: &Hunt<'_>,
     sought: &Sought<'_>,
+    sieve: &mut Sieve<'_>,
     at: Reach,
     kept: &mut Kept,
     findings: &mut Findings,
@@ -166,6 +172,8 @@ fn try_type<S: Space>(
 ) -> Result<Tried, Outcome>
     requires ready { IsStoreOf hunt.now.terms.now.most_slots kept.old.store }
     requires found { AreFound (nodes_of sought.now.table.now) findings.old }
+    requires sieve { IsSieveOf sought.now (S.view space.old) sieve.old }
+    ensures sieve { IsSieveOf sought.now (S.view space.new) sieve.new }
     ensures ready { IsStoreOf hunt.now.terms.now.most_slots kept.new.store }
     ensures found { AreFound (nodes_of sought.now.table.now) findings.new }
     ensures ok { (first : SpaceView) → Keeps first (S.view space.old) →
@@ -175,6 +183,9 @@ fn try_type<S: Space>(
         IfErr result (StopsType hunt.now first (S.view space.new) at sought.now) }
     ensures keeps { Keeps (S.view space.old) (S.view space.new) }
 {
+    if let Some(stopped) = skip(hunt, sought, sieve, at, space) {
+        return go_without(hunt.search, hunt.terms.most_slots, at, stopped);
+    }
     match probe(hunt, sought, sought.signature, at, kept, findings, space) {
         Ok(hit) => try_value(hunt, sought, at.spend(hit.steps), kept, findings, space),
         Err(stopped) => go_without(hunt.search, hunt.terms.most_slots, at, stopped),

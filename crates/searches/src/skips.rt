@@ -2,14 +2,13 @@
 
 ghost use Rattle.std.specs.Prelude.{◌≡◌, ◌+◌, IfErr, IfOk, IfSome};
 ghost use Rattle.bit_space.specs.SpaceView.{Keeps};
-ghost use Rattle.first_numbers.specs.Held.{HoldsLayout, IsSoundLayout};
-ghost use Rattle.first_numbers.specs.Layouts.{layout as layout_of};
+ghost use Rattle.first_numbers.specs.Screens.{IsSieve};
 ghost use Rattle.pickle_meaning.specs.declared.faults.MapFaultKind.TheVariants.{Constraint};
 ghost use Rattle.poke_batch.specs.TypeRuns.{run_type};
 ghost use Rattle.records.specs.Next.{HoldsValue, IsReady, IsStopped};
 
 use bit_space::Space;
-use first_numbers::layouts::Layout;
+use first_numbers::sieve::Sieve;
 use pickle_map::{MapFault, MapFaultKind};
 use poke_batch::type_run::TypeRun;
 use records::attempt;
@@ -19,38 +18,34 @@ use records::attempt::{Kept, Stopped};
 /// fail, since that comes to the same.
 pub fn attempt<S: Space>(
     run: &TypeRun<'_>,
-    layout: &Layout<'_>,
+    sieve: &mut Sieve<'_>,
     kept: &mut Kept,
     space: &mut S,
 ) -> Result<u64, Stopped>
     requires ready { IsReady run.now kept.old }
-    requires sound { IsSoundLayout layout.now }
-    requires layout { HoldsLayout layout.now (layout_of (run_type run.now)) }
+    requires sieve { IsSieve (run_type run.now) (S.view space.old) run.now.ask.now.order sieve.old }
     ensures ready { IsReady run.now kept.new }
+    ensures sieve { IsSieve (run_type run.now) (S.view space.new) run.now.ask.now.order sieve.new }
     ensures ok { IfOk result (HoldsValue run.now (S.view space.old) kept.new.store) }
     ensures err { IfErr result (IsStopped run.now (S.view space.old) (S.view space.new)) }
     ensures keeps { Keeps (S.view space.old) (S.view space.new) }
 {
-    match missed(run, layout, space) {
+    match missed(run, sieve, space) {
         Some(stopped) => Err(stopped),
         None => attempt::attempt(run, kept, space),
     }
 }
 
-// The fault of the type where its first numbers fail within the steps of the run. `None` says nothing.
-fn missed<S: Space>(run: &TypeRun<'_>, layout: &Layout<'_>, space: &mut S) -> Option<Stopped>
-    requires sound { IsSoundLayout layout.now }
-    requires layout { HoldsLayout layout.now (layout_of (run_type run.now)) }
+/// The fault of the type where its first numbers fail within the steps of the run. `None` says nothing.
+#[inline(always)]
+pub fn missed<S: Space>(run: &TypeRun<'_>, sieve: &mut Sieve<'_>, space: &mut S) -> Option<Stopped>
+    requires sieve { IsSieve (run_type run.now) (S.view space.old) run.now.ask.now.order sieve.old }
+    ensures sieve { IsSieve (run_type run.now) (S.view space.new) run.now.ask.now.order sieve.new }
     ensures missed { IfSome result (IsStopped run.now (S.view space.old) (S.view space.new)) }
     ensures keeps { Keeps (S.view space.old) (S.view space.new) }
 {
-    match layout {
-        Layout::Tests(first) => {
-            let steps = first.missed_steps(run.ask.order, run.ask.start, run.ask.limit, space)?;
-            Some(stop_at(run.ask.start, first.fault, steps))
-        }
-        Layout::Number(_) | Layout::Fixed { .. } | Layout::Loose => None,
-    }
+    let miss = sieve.missed(run.ask.start, run.ask.limit, space)?;
+    Some(stop_at(run.ask.start, miss.distance, miss.steps))
 }
 
 // A Constraint fault so many bits from a start, after so many steps.

@@ -2,8 +2,7 @@
 
 ghost use Rattle.std.specs.Prelude.{◌≡◌, ◌≤◌, ◌<◌, ◌*◌, Some, true, IfOk, IfErr};
 ghost use Rattle.bit_space.specs.SpaceView.{Keeps, SpaceView};
-ghost use Rattle.first_numbers.specs.Held.{HoldsLayout, IsSoundLayout};
-ghost use Rattle.first_numbers.specs.Layouts.{layout as layout_of};
+ghost use Rattle.first_numbers.specs.Screens.{IsSieve};
 ghost use Rattle.poke_batch.specs.TypeRuns.{run_type};
 ghost use Rattle.records.specs.Next.{IsReady};
 ghost use Rattle.searches.specs.Starts.{IsFew, after_stop, goes_on};
@@ -13,7 +12,7 @@ use crate::line::{Texts, write_held};
 use crate::search::{Reach, Search};
 use crate::skips::attempt;
 use bit_space::Space;
-use first_numbers::layouts::Layout;
+use first_numbers::sieve::Sieve;
 use poke_batch::run::end_outcome;
 use poke_batch::type_run::TypeRun;
 use records::attempt::{Kept, Stopped};
@@ -21,10 +20,10 @@ use run_parts::outcome::Outcome;
 use std::io::Write;
 
 /// Tries the next start of a search, and writes the line of a value that is there. Returns how far the search is then,
-/// or how it ends. The layout is that of the run's type.
+/// or how it ends. The sieve is that of the run's type.
 pub fn try_start<S: Space, O: Write>(
     run: &TypeRun<'_>,
-    layout: &Layout<'_>,
+    sieve: &mut Sieve<'_>,
     search: Search,
     at: Reach,
     kept: &mut Kept,
@@ -36,9 +35,9 @@ pub fn try_start<S: Space, O: Write>(
     requires ready { IsReady run.now kept.old }
     requires on { goes_on search at (8 * (S.view space.old).len) ≡ true }
     requires few { IsFew at }
-    requires sound { IsSoundLayout layout.now }
-    requires layout { HoldsLayout layout.now (layout_of (run_type run.now)) }
+    requires sieve { IsSieve (run_type run.now) (S.view space.old) run.now.ask.now.order sieve.old }
     ensures ready { IsReady run.now kept.new }
+    ensures sieve { IsSieve (run_type run.now) (S.view space.new) run.now.ask.now.order sieve.new }
     ensures ok { (first : SpaceView) → Keeps first (S.view space.old) →
         IfOk result (GoesOn run.now search first at (O.contents out.old) (O.contents out.new)) }
     ensures err { (first : SpaceView) → Keeps first (S.view space.old) →
@@ -54,7 +53,7 @@ pub fn try_start<S: Space, O: Write>(
         ask: &ask,
         terms: run.terms,
     };
-    match attempt(&next, layout, kept, space) {
+    match attempt(&next, sieve, kept, space) {
         Ok(steps) => {
             let end = write_held(&next, search.flush, &kept.store, texts, space, out)?;
             Ok(search.after_value(at, end, steps, bits))

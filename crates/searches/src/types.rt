@@ -1,9 +1,9 @@
 //! Tries many types at one start after another, and writes a line for each value.
 
-ghost use Rattle.std.specs.Prelude.{◌≡◌, ◌<◌, IfOk};
-ghost use Rattle.bit_space.specs.SpaceView.{Keeps};
+ghost use Rattle.std.specs.Prelude.{◌≡◌, ◌<◌, length, IfOk};
+ghost use Rattle.bit_space.specs.SpaceView.{Keeps, SpaceView};
 ghost use Rattle.poke_batch.specs.RunsUnder.{IsStoreOf};
-ghost use Rattle.searches.specs.Round.{AreNew};
+ghost use Rattle.searches.specs.Round.{AreNew, AreSieves};
 ghost use Rattle.searches.specs.Rounds.{WritesTypes, first_places};
 
 use crate::found::Names;
@@ -15,6 +15,7 @@ use crate::values::Searched;
 use bit_space::{Memory, Space};
 use command_line::ask::Ask;
 use command_line::terms::Terms;
+use first_numbers::sieve::Sieve;
 use pickle_map::MapFaultKind;
 use pickle_map::mapper::findings::Findings;
 use poke_batch::run::store_of;
@@ -74,7 +75,7 @@ fn search_all<S: Space, O: Write>(hunt: &Hunt<'_>, space: &mut S, out: &mut O) -
         let outcome = fault_at(MapFaultKind::End, reach.place);
         return Searched { outcome, reach };
     }
-    let Ok(mut stock) = new_stock(hunt.alloc, hunt.terms.most_slots, hunt.list.len()) else {
+    let Ok(mut stock) = new_stock(hunt) else {
         let outcome = Outcome::Failed(Failure::Memory);
         return Searched { outcome, reach };
     };
@@ -88,24 +89,47 @@ fn search_all<S: Space, O: Write>(hunt: &Hunt<'_>, space: &mut S, out: &mut O) -
     Searched { outcome, reach }
 }
 
-// Nothing is stored yet, for so many types.
-fn new_stock(alloc: Global, most: Option<u64>, count: usize) -> Result<Stock, Memory>
-    ensures store { IfOk result (λ stock. IsStoreOf most stock.kept.store) }
-    ensures places { IfOk result (λ stock. stock.places.items ≡ first_places count) }
-    ensures findings { IfOk result (λ stock. AreNew count stock.findings.items) }
+// Nothing is stored yet, for the types of a search.
+fn new_stock<'a>(hunt: &Hunt<'a>) -> Result<Stock<'a>, Memory>
+    ensures store { IfOk result (λ stock. IsStoreOf hunt.now.terms.now.most_slots stock.kept.store) }
+    ensures places { IfOk result (λ stock. stock.places.items ≡ first_places (length hunt.now.list.now)) }
+    ensures findings { IfOk result (λ stock. AreNew (length hunt.now.list.now) stock.findings.items) }
+    ensures sieves { IfOk result (λ stock. (space : SpaceView) → AreSieves hunt.now.list.now space stock.sieves.items) }
 {
+    let alloc = hunt.alloc;
+    let count = hunt.list.len();
     let kept = Kept {
-        store: store_of(alloc, most)?,
+        store: store_of(alloc, hunt.terms.most_slots)?,
         findings: Findings::new(),
         text: Vec::new(alloc),
     };
     Ok(Stock {
         kept,
+        sieves: new_sieves(alloc, hunt.list)?,
         findings: new_findings(alloc, count)?,
         places: new_places(alloc, count)?,
         text: Vec::new(alloc),
         names: Names::new(alloc),
     })
+}
+
+// What is known of the starts of each signature before the file is read.
+fn new_sieves<'a>(alloc: Global, list: &'a [Sought<'a>]) -> Result<Vec<Sieve<'a>>, Memory>
+    ensures { IfOk result (λ sieves. (space : SpaceView) → AreSieves list.now space sieves.items) }
+{
+    let mut sieves = Vec::new(alloc);
+    let mut done = 0;
+    while done < list.len() {
+        let sought = &list[done];
+        let Ok(sieve) = Sieve::of(alloc, sought.table, sought.signature, sought.order) else {
+            return Err(Memory);
+        };
+        if sieves.push(sieve).is_err() {
+            return Err(Memory);
+        }
+        done += 1;
+    }
+    Ok(sieves)
 }
 
 // From where each of so many types is tried.

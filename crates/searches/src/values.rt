@@ -8,7 +8,7 @@ use crate::line::Texts;
 use crate::search::{Reach, Search};
 use crate::trial::try_start;
 use bit_space::Space;
-use first_numbers::nodes::type_layout;
+use first_numbers::sieve::Sieve;
 use pickle_map::MapFaultKind;
 use poke_batch::type_run::TypeRun;
 use records::attempt::{Kept, fault_at};
@@ -54,14 +54,14 @@ pub fn search_values<S: Space, O: Write>(
         let outcome = Outcome::Failed(Failure::Memory);
         return Searched { outcome, reach };
     };
-    let Ok(layout) = type_layout(run.alloc, run.table, run.id) else {
+    let Ok(mut sieve) = Sieve::of(run.alloc, run.table, run.id, run.ask.order) else {
         let outcome = Outcome::Failed(Failure::Memory);
         return Searched { outcome, reach };
     };
     let mut texts = Texts::new(run);
     while search.goes_on(reach, bits) {
         match try_start(
-            run, &layout, search, reach, &mut kept, &mut texts, space, out,
+            run, &mut sieve, search, reach, &mut kept, &mut texts, space, out,
         ) {
             Ok(next) => reach = next,
             Err(outcome) => return Searched { outcome, reach },

@@ -2,10 +2,13 @@
 use Rattle.std.proofs.Common.{◌≡◌, ◌∙◌, ◌<◌, ℕ, true, false, length, sym, subst, slice_index, slice_index_or, append-nil, List, [], arith}
 use Rattle.std.proofs.lemmas.List.{get_or_default}
 use Rattle.std.proofs.lemmas.Result.{err_from_is_err_and}
+use Rattle.first_numbers.specs.declared.sieve.Sieve.{Sieve}
 use Rattle.pickle_map.specs.Findings.{AreFound}
 use Rattle.pickle_map.specs.declared.mapper.findings.Findings.{Findings}
 use Rattle.pickle_types.specs.TypeTable.{nodes_of}
+use Rattle.searches.proofs.Sieves.{set_sieve}
 use Rattle.searches.proofs.Stocks.{set_serves}
+use Rattle.searches.specs.Round.{IsSieveOf}
 use Rattle.searches.specs.Rounds.{TriesNext, due, found_text, lacks_memory, not_due, stops}
 use Rattle.searches.specs.Sought.{is_due}
 use Rattle.searches.proofs.round.try_next.Goals as goal
@@ -17,9 +20,18 @@ try_type-requires-clause-found g c =
     (sym c.index_mut-findings.ensures.value)
     (c.requires.ready.findings.each c.args.k c.index-hunt-k.result c.index_mut-findings.result.now c.requires.inside)
 
+pub try_type-requires-clause-sieve : goal.try_type-requires-clause-sieve
+try_type-requires-clause-sieve g c =
+    let sought = slice_index_or c.args.hunt.now.list.now c.args.k c.index-hunt-k.result in
+    subst (λ (sieve : Sieve). IsSieveOf sought (g.S.Space.view c.args.space.now) sieve)
+    (sym c.index_mut-sieve.ensures.value)
+    (c.requires.ready.sieves.each c.args.k c.index-hunt-k.result c.index_mut-sieve.result.now c.requires.inside)
+
 pub returns-in_err-tried-clause-ready : goal.returns-in_err-tried-clause-ready
 returns-in_err-tried-clause-ready g c = record {
   store = c.try_type.ensures.ready;
+  sieves = set_sieve _ _ c.args.k _ _ c.try_type.ensures.keeps c.requires.ready.sieves c.requires.inside
+      c.try_type.ensures.sieve;
   places = c.requires.ready.places;
   findings = set_serves _ _ c.args.k _ _ c.requires.ready.findings c.requires.inside c.try_type.ensures.found;
 }
@@ -27,6 +39,8 @@ returns-in_err-tried-clause-ready g c = record {
 pub returns-in-Ok-clause-ready : goal.returns-in-Ok-clause-ready
 returns-in-Ok-clause-ready g c = record {
   store = c.try_type.ensures.ready;
+  sieves = set_sieve _ _ c.args.k _ _ c.try_type.ensures.keeps c.requires.ready.sieves c.requires.inside
+      c.try_type.ensures.sieve;
   places = c.set_place.ensures.len ∙ c.requires.ready.places;
   findings = set_serves _ _ c.args.k _ _ c.requires.ready.findings c.requires.inside c.try_type.ensures.found;
 }
@@ -34,6 +48,8 @@ returns-in-Ok-clause-ready g c = record {
 pub returns-in-Err-clause-ready : goal.returns-in-Err-clause-ready
 returns-in-Err-clause-ready g c = record {
   store = c.try_type.ensures.ready;
+  sieves = set_sieve _ _ c.args.k _ _ c.try_type.ensures.keeps c.requires.ready.sieves c.requires.inside
+      c.try_type.ensures.sieve;
   places = c.set_place.ensures.len ∙ c.requires.ready.places;
   findings = set_serves _ _ c.args.k _ _ c.requires.ready.findings c.requires.inside c.try_type.ensures.found;
 }

@@ -12,6 +12,7 @@ loop-done-init g c = record {
   keeps = view_kept _;
   ready = record {
     store = c.requires.ready.store;
+    sieves = c.requires.ready.sieves;
     places = c.requires.ready.places;
     findings = c.requires.ready.findings;
   };

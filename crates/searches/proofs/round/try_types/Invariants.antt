@@ -8,7 +8,7 @@ abbrev pub invariant-loop-done : goal.invariant-loop-done
 invariant-loop-done g l = record {
   within : l.done ≤ length l.hunt.list.now;
   keeps : Keeps (g.S.Space.view l.fn.space) (g.S.Space.view l.space);
-  ready : IsStocked l.hunt l.stock;
+  ready : IsStocked l.hunt (g.S.Space.view l.space) l.stock;
   tried : (first : SpaceView) → Keeps first (g.S.Space.view l.fn.space) →
       TriesTypes l.hunt first l.fn.at l.fn.stock.places.items l.done l.reach l.stock.places.items l.stock.text.items;
 }

@@ -2,6 +2,9 @@
 use Rattle.std.proofs.Common.{◌≡◌, ◌*◌, refl, sym, ap, subst, arith}
 use Rattle.std.proofs.lemmas.Result.{err_from_is_err_and}
 use Rattle.command_line.specs.declared.ask.Ask.{Ask}
+use Rattle.first_numbers.proofs.Screened.{sieve_since}
+use Rattle.first_numbers.specs.Screens.{IsSieve}
+use Rattle.poke_batch.specs.TypeRuns.{run_type}
 use Rattle.records.proofs.Mapped.{is_held}
 use Rattle.searches.specs.Trial.{GoesOn}
 use Rattle.searches.specs.declared.search.Reach.{Reach}
@@ -57,3 +60,26 @@ returns-in-Err-clause-err g c = λ first since.
     (record { table = refl; id = refl; terms = refl; ask = c.ask_for-ask.ensures })
     since c.attempt.ensures.keeps c.requires.on (8 * c.len-bits.result) (ap (λ len. 8 * len) c.len-bits.ensures)
     (g.O.Write.contents c.args.out.now) c.go_past.result c.go_past.ensures.err
+
+pub attempt-requires-clause-sieve : goal.attempt-requires-clause-sieve
+attempt-requires-clause-sieve g c =
+    subst
+    (λ (ask : Ask). IsSieve (run_type c.args.run.now) (g.S.Space.view c.args.space.now) ask.order c.args.sieve.now)
+    (sym c.ask_for-ask.ensures) c.requires.sieve
+
+pub returns-in_err-end-in-Ok-clause-sieve : goal.returns-in_err-end-in-Ok-clause-sieve
+returns-in_err-end-in-Ok-clause-sieve g c =
+    subst (λ (ask : Ask). IsSieve (run_type c.args.run.now) (g.S.Space.view c.write_held.new.space) ask.order
+    c.attempt.new.sieve) c.ask_for-ask.ensures
+    (sieve_since _ _ _ c.write_held.ensures.keeps c.attempt.ensures.sieve)
+
+pub returns-in_ok-end-in-Ok-clause-sieve : goal.returns-in_ok-end-in-Ok-clause-sieve
+returns-in_ok-end-in-Ok-clause-sieve g c =
+    subst (λ (ask : Ask). IsSieve (run_type c.args.run.now) (g.S.Space.view c.write_held.new.space) ask.order
+    c.attempt.new.sieve) c.ask_for-ask.ensures
+    (sieve_since _ _ _ c.write_held.ensures.keeps c.attempt.ensures.sieve)
+
+pub returns-in-Err-clause-sieve : goal.returns-in-Err-clause-sieve
+returns-in-Err-clause-sieve g c =
+    subst (λ (ask : Ask). IsSieve (run_type c.args.run.now) (g.S.Space.view c.attempt.new.space) ask.order
+    c.attempt.new.sieve) c.ask_for-ask.ensures c.attempt.ensures.sieve

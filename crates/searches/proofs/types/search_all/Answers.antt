@@ -30,6 +30,7 @@ loop-stock-init g c = record {
   keeps = view_kept _;
   ready = record {
     store = c.in-Ok.ensures.store;
+    sieves = c.in-Ok.ensures.sieves (g.S.Space.view c.args.space.now);
     places = ap length c.in-Ok.ensures.places ∙ first_length _;
     findings = new_serves _ _ c.in-Ok.ensures.findings;
   };

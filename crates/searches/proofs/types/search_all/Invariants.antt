@@ -7,7 +7,7 @@ use Rattle.searches.proofs.types.search_all.Given as goal
 abbrev pub invariant-loop-stock : goal.invariant-loop-stock
 invariant-loop-stock g l = record {
   keeps : Keeps (g.S.Space.view l.fn.space) (g.S.Space.view l.space);
-  ready : IsStocked l.hunt l.stock;
+  ready : IsStocked l.hunt (g.S.Space.view l.space) l.stock;
   inside : l.reach.place ≤ l.bits;
   hunted : IsHunted l.hunt (g.S.Space.view l.fn.space) l.reach l.stock.places.items
       (g.O.Write.contents l.fn.out) (g.O.Write.contents l.out);

@@ -25,72 +25,64 @@ returns-then-reach-bits-clause-writes g c =
     (sym c.fault_at-outcome.ensures)
     (writes_all none.searches (past_end (omega (arith, c.if-reach-bits.true, c.len-bits.ensures))) none.appends)
 
-pub loop-layout-init : goal.loop-layout-init
-loop-layout-init g c =
+pub loop-sieve-init : goal.loop-sieve-init
+loop-sieve-init g c =
     let few : 0 ≤ c.args.run.now.ask.now.start = omega arith in
     record {
       keeps = view_kept _;
       ready = c.in-Ok.ensures;
-      sound = c.in-Ok-type_layout.ensures.sound;
-      layout = c.in-Ok-type_layout.ensures.is;
+      sieve = c.in-Ok-of.ensures (g.S.Space.view c.args.space.now);
       few = subst (λ (at : Reach). IsFew at) (sym c.first-reach.ensures) (record { found = few; given_up = few });
       inside = omega (arith, c.if-reach-bits.false);
       searched = none_searched c.args.run.now c.args.search (g.S.Space.view c.args.space.now) c.first-reach.result
           (g.O.Write.contents c.args.out.now) c.first-reach.ensures;
     }
 
-pub loop-layout-smaller : goal.loop-layout-smaller
-loop-layout-smaller g c =
+pub loop-sieve-smaller : goal.loop-sieve-smaller
+loop-sieve-smaller g c =
     let first = g.S.Space.view c.args.space.now in
-    let so_far = c.loop-layout.invariant in
+    let so_far = c.loop-sieve.invariant in
     let next = c.in-Ok-try_start.ensures.ok first so_far.keeps in
-    let inside = still_on c.args.search c.loop-layout.reach (8 * c.len-bits.result)
-    (sym c.goes_on.ensures ∙ c.loop-layout-test.true) in
-    let moves = (has_moved c.args.run.now c.args.search first c.loop-layout.reach c.in-Ok-try_start.next _ _
+    let inside = still_on c.args.search c.loop-sieve.reach (8 * c.len-bits.result)
+    (sym c.goes_on.ensures ∙ c.loop-sieve-test.true) in
+    let moves = (has_moved c.args.run.now c.args.search first c.loop-sieve.reach c.in-Ok-try_start.next _ _
     c.requires.step so_far.few next).moves in
     omega (arith, inside, moves)
 
-pub loop-layout-preserved : goal.loop-layout-preserved
-loop-layout-preserved g c =
+pub loop-sieve-preserved : goal.loop-sieve-preserved
+loop-sieve-preserved g c =
     let first = g.S.Space.view c.args.space.now in
-    let so_far = c.loop-layout.invariant in
+    let so_far = c.loop-sieve.invariant in
     let next = c.in-Ok-try_start.ensures.ok first so_far.keeps in
-    let moved = has_moved c.args.run.now c.args.search first c.loop-layout.reach c.in-Ok-try_start.next _ _
+    let moved = has_moved c.args.run.now c.args.search first c.loop-sieve.reach c.in-Ok-try_start.next _ _
     c.requires.step so_far.few next in
     record {
       keeps = keeps_all so_far.keeps c.try_start.ensures.keeps;
       ready = c.try_start.ensures.ready;
-      sound = so_far.sound;
-      layout = so_far.layout;
+      sieve = c.try_start.ensures.sieve;
       few = moved.few;
       inside = let ends = moved.inside in omega (arith, ends, c.len-bits.ensures);
-      searched = one_searched c.args.run.now c.args.search first c.loop-layout.reach c.in-Ok-try_start.next _ _ _
+      searched = one_searched c.args.run.now c.args.search first c.loop-sieve.reach c.in-Ok-try_start.next _ _ _
           so_far.searched next;
     }
 
 pub returns-in-Err-clause-writes : goal.returns-in-Err-clause-writes
 returns-in-Err-clause-writes g c =
     let first = g.S.Space.view c.args.space.now in
-    let so_far = c.loop-layout.invariant in
-    ends_there c.args.run.now c.args.search first _ c.loop-layout.reach _ _ _ _ so_far.searched
+    let so_far = c.loop-sieve.invariant in
+    ends_there c.args.run.now c.args.search first _ c.loop-sieve.reach _ _ _ _ so_far.searched
     (c.in-Err.ensures.err first so_far.keeps)
 
 pub returns-clause-writes : goal.returns-clause-writes
 returns-clause-writes g c =
     let first = g.S.Space.view c.args.space.now in
-    ends_done c.args.run.now c.args.search first _ c.loop-layout.reach (8 * c.len-bits.result) _ _ _
-    (ap (λ len. 8 * len) c.len-bits.ensures) c.loop-layout.invariant.inside
-    (sym c.goes_on.ensures ∙ c.loop-layout-test.false) c.natural_end-outcome.ensures
-    c.loop-layout.invariant.searched
+    ends_done c.args.run.now c.args.search first _ c.loop-sieve.reach (8 * c.len-bits.result) _ _ _
+    (ap (λ len. 8 * len) c.len-bits.ensures) c.loop-sieve.invariant.inside
+    (sym c.goes_on.ensures ∙ c.loop-sieve-test.false) c.natural_end-outcome.ensures
+    c.loop-sieve.invariant.searched
 
-pub returns-in_default-type_layout-clause-writes : goal.returns-in_default-type_layout-clause-writes
-returns-in_default-type_layout-clause-writes g c =
+pub returns-in_default-of-clause-writes : goal.returns-in_default-of-clause-writes
+returns-in_default-of-clause-writes g c =
     let none = none_searched c.args.run.now c.args.search (g.S.Space.view c.args.space.now) c.first-reach.result
     (g.O.Write.contents c.args.out.now) c.first-reach.ensures in
     writes_all none.searches no_memory none.appends
-
-pub try_start-requires-clause-sound : goal.try_start-requires-clause-sound
-try_start-requires-clause-sound g c = c.loop-layout.invariant.sound
-
-pub try_start-requires-clause-layout : goal.try_start-requires-clause-layout
-try_start-requires-clause-layout g c = c.loop-layout.invariant.layout
