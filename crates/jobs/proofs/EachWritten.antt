@@ -1,64 +1,60 @@
 -- What is written of many files, one after another.
-use Rattle.std.proofs.Common.{◌≡◌, ◌≢◌, ◌∙◌, inl, inr, ◌==◌, ℕ, zero, suc, List, [], ◌∷◌, ◌++◌, if◌then◌else◌, Option, Some, None, Ok, false, String, string_bytes, take, refl, sym, ap, subst}
+use Rattle.std.proofs.Common.{◌≡◌, ◌∙◌, ◌==◌, ℕ, List, [], ◌∷◌, ◌++◌, if◌then◌else◌, Option, Some, None, Result, Ok, Err, IfOk, OnErr, false, refl, sym, ap, subst}
 use Rattle.std.specs.Io.Buffered.{reader_remaining, reader_inner, reader_buffer, reader_capacity}
 use Rattle.std.specs.declared.io.buffered.BufReader.{BufReader}
 use Rattle.std.proofs.KnownBytes.{Appends-nil, Appends-trans}
-use Rattle.std.specs.declared.alloc.Global.{Global}
 use Rattle.std.specs.Io.KnownBytes.{Keeps, prepend_known}
 use Rattle.std.specs.List.{concat}
 use Rattle.std.specs.Io.KnownBytes.{Appends}
 use Rattle.std.proofs.lemmas.List.{append-nil}
 use Rattle.std.proofs.lemmas.List.Folds.{concat-append}
 use Rattle.jobs.specs.Due.{End, Holds, early, output_fails, whole}
-use Rattle.jobs.specs.Jobs.{DueFiles, all_files, files_end, first_files}
+use Rattle.jobs.specs.Jobs.{DueFiles, DueList, all_files, files_end, first_files}
+use Rattle.jobs.specs.Lines.{StopsList, first_names, in_name, no_memory}
 use Rattle.jobs.specs.declared.ending.Ending.TheVariants.{Run, Silent}
 use Rattle.jobs.proofs.Holding.{upto_next, upto_whole}
 use Rattle.run_parts.specs.Told.{AppendsUpTo}
 use Rattle.run_parts.specs.declared.outcome.Failure.{Failure}
+use Rattle.run_parts.specs.declared.outcome.Failure.TheVariants as failure
 use Rattle.run_parts.specs.declared.outcome.Outcome.TheVariants.{Failed}
-use Rattle.jobs.specs.Every.{AppendsFile, AppendsNamed, CutsFile}
-use Rattle.jobs.specs.Files.{Every, no_files, one_more, greater}
+use Rattle.jobs.specs.Every.{AppendsFile, CutsFile}
+use Rattle.jobs.specs.Files.{AppendsFiles, AppendsLine, AppendsRun, CutsLine, CutsRun, EndsBy, Every, WritesEach, WritesWord, named, unnamed, no_files, one_more, greater}
 use Rattle.jobs.specs.Gives.{Gives}
-use Rattle.jobs.specs.Names.{AreListed, AreListedFirst, AreNamed, AreNamedFirst, StopsList, first_listed, none_listed}
-use Rattle.jobs.specs.FaultNames.{list_failure}
-use Rattle.jobs.specs.declared.names.ListFault.{ListFault}
-use Rattle.jobs.specs.declared.names.ListFault.TheVariants as listed
+use Rattle.jobs.specs.Names.{AreListedFirst, first_listed, none_listed}
 use Rattle.run_parts.specs.declared.status.Status.{Status}
 use Rattle.run_parts.specs.declared.status.Status.TheVariants.{Done}
 use Rattle.text_output.proofs.Parts.{Appends-keeps}
 
 -- before the first file
-pub none_written : (gives : Gives) (every : Every) (AreNames : List (List ℕ) → Type 0) (out : Option (List ℕ)) →
-    AreNames [] → AppendsNamed gives every AreNames out out Done
-none_written gives every AreNames out are =
-    record { names = []; are = are; lines = []; written = no_files; appends = Appends-nil out }
+pub none_written : {A : Type 0} (Writes : A → Status → List ℕ → Type 0) (Are : List A → Type 0) (out : Option (List ℕ))
+    → Are [] → AppendsFiles Writes Are out out Done
+none_written Writes Are out are =
+    record { files = []; are = are; lines = []; written = no_files; appends = Appends-nil out }
 
 -- the lines of some files, and one more
-joined : (lines : List (List ℕ)) (line : List ℕ) → concat (lines ++ line ∷ []) ≡ concat lines ++ line
-joined lines line = concat-append lines (line ∷ []) ∙ ap (λ last. concat lines ++ last) (append-nil line)
+pub lines_joined : (lines : List (List ℕ)) (line : List ℕ) → concat (lines ++ line ∷ []) ≡ concat lines ++ line
+lines_joined lines line = concat-append lines (line ∷ []) ∙ ap (λ last. concat lines ++ last) (append-nil line)
 
 -- after one more
-pub one_written : (gives : Gives) (every : Every) (AreNames AreMore : List (List ℕ) → Type 0) (name : List ℕ)
+pub one_written : {A : Type 0} (Writes : A → Status → List ℕ → Type 0) (Are AreMore : List A → Type 0) (file : A)
     (out out' out'' : Option (List ℕ)) (greatest status : Status)
-    → ((names : List (List ℕ)) → AreNames names → AreMore (names ++ name ∷ []))
-    → AppendsNamed gives every AreNames out out' greatest → AppendsFile gives every name out' out'' status
-    → AppendsNamed gives every AreMore out out'' (greater greatest status)
-one_written gives every AreNames AreMore name out out' out'' greatest status more h file = record {
-  names = h.names ++ name ∷ [];
-  are = more h.names h.are;
-  lines = h.lines ++ file.line ∷ [];
-  written = one_more h.written file.written;
-  appends = subst (λ text. Appends out out'' text) (sym (joined h.lines file.line))
-      (Appends-trans out out' out'' (concat h.lines) file.line h.appends file.appends);
+    → ((files : List A) → Are files → AreMore (files ++ file ∷ [])) → AppendsFiles Writes Are out out' greatest
+    → AppendsLine (Writes file) out' out'' status → AppendsFiles Writes AreMore out out'' (greater greatest status)
+one_written Writes Are AreMore file out out' out'' greatest status more h one = record {
+  files = h.files ++ file ∷ [];
+  are = more h.files h.are;
+  lines = h.lines ++ one.line ∷ [];
+  written = one_more h.written one.written;
+  appends = subst (λ text. Appends out out'' text) (sym (lines_joined h.lines one.line))
+      (Appends-trans out out' out'' (concat h.lines) one.line h.appends one.appends);
 }
 
 -- nothing more is written
-pub kept_written : (gives : Gives) (every : Every) (AreNames : List (List ℕ) → Type 0)
-    (out out' out'' : Option (List ℕ)) (greatest : Status)
-    → AppendsNamed gives every AreNames out out' greatest → Keeps out' out''
-    → AppendsNamed gives every AreNames out out'' greatest
-kept_written gives every AreNames out out' out'' greatest h keeps = record {
-  names = h.names;
+pub kept_written : {A : Type 0} (Writes : A → Status → List ℕ → Type 0) (Are : List A → Type 0)
+    (out out' out'' : Option (List ℕ)) (greatest : Status) → AppendsFiles Writes Are out out' greatest
+    → Keeps out' out'' → AppendsFiles Writes Are out out'' greatest
+kept_written Writes Are out out' out'' greatest h keeps = record {
+  files = h.files;
   are = h.are;
   lines = h.lines;
   written = h.written;
@@ -70,86 +66,104 @@ first_otherwise : (IsList Is : Option (List ℕ) → Type 0) → ((bytes : Optio
 first_otherwise IsList Is other _ none_listed = none_listed
 first_otherwise IsList Is other names (first_listed {list = list} is read) = first_listed (other list is) read
 
+stops_otherwise : (gives : Gives) (every : Every) (IsList Is : Option (List ℕ) → Type 0)
+    → ((bytes : Option (List ℕ)) → IsList bytes → Is bytes) → (stop : Option Failure) (lines : List (List ℕ))
+    → StopsList gives every IsList stop lines → StopsList gives every Is stop lines
+stops_otherwise gives every IsList Is other _ _ no_memory = no_memory
+stops_otherwise gives every IsList Is other stop _ (first_names {names = names} may are written) =
+    first_names may (first_otherwise IsList Is other names are) written
+stops_otherwise gives every IsList Is other _ _ (in_name {part = part} are written long line) = in_name {part = part}
+    (record { list = are.list; rest = are.rest; is = other are.list are.is; read = are.read; begins = are.begins })
+    written long line
+
 -- the same files, of a list that is told in another way
 pub listed_otherwise : (gives : Gives) (every : Every) (IsList Is : Option (List ℕ) → Type 0)
-    (MayEnd : Failure → Type 0)
     → ((bytes : Option (List ℕ)) → IsList bytes → Is bytes) → (lines : List (List ℕ)) (end : Option End)
-    → DueFiles gives every (AreListed IsList) (AreListedFirst IsList) MayEnd lines end
-    → DueFiles gives every (AreListed Is) (AreListedFirst Is) MayEnd lines end
-listed_otherwise gives every IsList Is MayEnd other lines _ (all_files are written) =
-    all_files (record { list = are.list; rest = are.rest; is = other are.list are.is; read = are.read; end = are.end })
-    written
-listed_otherwise gives every IsList Is MayEnd other lines _ (first_files {names = names} are written) =
-    first_files (first_otherwise IsList Is other names are) written
-listed_otherwise gives every IsList Is MayEnd other lines _ (files_end {names = names} may are written) =
-    files_end may (first_otherwise IsList Is other names are) written
+    → DueList gives every IsList lines end → DueList gives every Is lines end
+listed_otherwise gives every IsList Is other lines _ (all_files all) = all_files (record {
+  names = all.names;
+  are = record {
+    list = all.are.list;
+    rest = all.are.rest;
+    is = other all.are.list all.are.is;
+    read = all.are.read;
+    end = all.are.end;
+  };
+  written = all.written;
+})
+listed_otherwise gives every IsList Is other lines _ (first_files {stop = stop} stops) =
+    first_files (stops_otherwise gives every IsList Is other stop lines stops)
+listed_otherwise gives every IsList Is other lines _ (files_end {why = why} stops) =
+    files_end (stops_otherwise gives every IsList Is other (Some why) lines stops)
 
--- the same files, whose names are told in another way
-pub named_otherwise : (gives : Gives) (every : Every) (AreNames Are : List (List ℕ) → Type 0)
-    (out out' : Option (List ℕ)) (greatest : Status)
-    → ((names : List (List ℕ)) → AreNames names → Are names) → AppendsNamed gives every AreNames out out' greatest
-    → AppendsNamed gives every Are out out' greatest
-named_otherwise gives every AreNames Are out out' greatest other h =
-    record { names = h.names; are = other h.names h.are; lines = h.lines; written = h.written; appends = h.appends }
+module _ {A : Type 0} (Writes : A → Status → List ℕ → Type 0) (Are : List A → Type 0)
+    (WritesAll : Status → List (List ℕ) → Type 0) (Stops : Option Failure → List (List ℕ) → Type 0)
+    (out : Option (List ℕ)) (greatest : Status) where
+  -- all of them are written
+  pub all_hold : (out' : Option (List ℕ))
+      → ((files : List A) (lines : List (List ℕ)) → Are files → WritesEach Writes files greatest lines
+      → WritesAll greatest lines) → AppendsFiles Writes Are out out' greatest
+      → Holds (DueFiles WritesAll Stops) out out' (Ok (Silent greatest))
+  all_hold out' all h = whole (all_files (all h.files h.lines h.are h.written)) h.appends
 
--- a list whose names end early, but not by an output
-pub list_stops : (fault : ListFault) → fault ≢ listed.Write → StopsList (list_failure fault)
-list_stops listed.Read other = inr refl
-list_stops listed.Memory other = inl refl
-list_stops listed.Write other = absurd (other refl)
+  -- the first of them are, and a failure stops them
+  pub first_hold : (out' : Option (List ℕ)) (why : Failure)
+      → ((files : List A) (lines : List (List ℕ)) → Are files → WritesEach Writes files greatest lines
+      → Stops (Some why) lines) → AppendsFiles Writes Are out out' greatest
+      → Holds (DueFiles WritesAll Stops) out out' (Ok (Run (Failed why)))
+  first_hold out' why first h = whole (files_end (first h.files h.lines h.are h.written)) h.appends
 
--- all of them are written
-pub all_hold : (gives : Gives) (every : Every) (AreAll AreFirst : List (List ℕ) → Type 0) (MayEnd : Failure → Type 0)
-    (out out' : Option (List ℕ)) (greatest : Status) → AppendsNamed gives every AreAll out out' greatest
-    → Holds (DueFiles gives every AreAll AreFirst MayEnd) out out' (Ok (Silent greatest))
-all_hold gives every AreAll AreFirst MayEnd out out' greatest h = whole (all_files h.are h.written) h.appends
+  -- the first of them are, and the output fails
+  pub unflushed_hold : (out' : Option (List ℕ)) (stop : Option Failure)
+      → ((files : List A) (lines : List (List ℕ)) → Are files → WritesEach Writes files greatest lines
+      → Stops stop lines) → AppendsFiles Writes Are out out' greatest
+      → Holds (DueFiles WritesAll Stops) out out' output_fails
+  unflushed_hold out' stop first h =
+      early (first_files (first h.files h.lines h.are h.written)) (upto_whole out out' (concat h.lines) h.appends)
 
--- the first of them are, and a name is lacking
-pub first_hold : (gives : Gives) (every : Every) (AreAll AreFirst AreSome : List (List ℕ) → Type 0)
-    (MayEnd : Failure → Type 0) (out out' : Option (List ℕ)) (greatest : Status) (why : Failure)
-    → ((names : List (List ℕ)) → AreSome names → AreFirst names) → MayEnd why
-    → AppendsNamed gives every AreSome out out' greatest
-    → Holds (DueFiles gives every AreAll AreFirst MayEnd) out out' (Ok (Run (Failed why)))
-first_hold gives every AreAll AreFirst AreSome MayEnd out out' greatest why first may h =
-    whole (files_end may (first h.names h.are) h.written) h.appends
+  -- or it fails at the next of them
+  pub cut_hold : (file : A) (mid out' : Option (List ℕ)) (stop : Option Failure)
+      → ((files : List A) (lines : List (List ℕ)) (last : Status) → Are files
+      → WritesEach Writes (files ++ file ∷ []) last lines → Stops stop lines)
+      → AppendsFiles Writes Are out mid greatest → CutsLine (Writes file) mid out'
+      → Holds (DueFiles WritesAll Stops) out out' output_fails
+  cut_hold file mid out' stop first h one =
+      early (first_files (first h.files (h.lines ++ one.line ∷ []) (greater greatest one.status) h.are
+      (one_more h.written one.written)))
+      (subst (λ text. AppendsUpTo out out' text) (sym (lines_joined h.lines one.line))
+      (upto_next out mid out' (concat h.lines) one.line h.appends one.appends))
 
--- the first of them are, and the output fails
-pub unflushed_hold : (gives : Gives) (every : Every) (AreAll AreFirst AreSome : List (List ℕ) → Type 0)
-    (MayEnd : Failure → Type 0) (out out' : Option (List ℕ)) (greatest : Status)
-    → ((names : List (List ℕ)) → AreSome names → AreFirst names)
-    → AppendsNamed gives every AreSome out out' greatest
-    → Holds (DueFiles gives every AreAll AreFirst MayEnd) out out' output_fails
-unflushed_hold gives every AreAll AreFirst AreSome MayEnd out out' greatest first h =
-    early (first_files (first h.names h.are) h.written) (upto_whole out out' (concat h.lines) h.appends)
+-- the line of an argument is that of its name
+pub word_written : {E : Type 0} (gives : Gives) (every : Every) (word name : List ℕ) (r : Result Status E)
+    (out out' : Option (List ℕ)) → gives.is_name word name → IfOk r (AppendsFile gives every name out out')
+    → IfOk r (AppendsLine (WritesWord gives every word) out out')
+word_written gives every word name (Err e) out out' is h = tt
+word_written gives every word name (Ok status) out out' is h =
+    record { line = h.line; written = named is h.written; appends = h.appends }
 
--- or it fails at the next of them
-pub cut_hold : (gives : Gives) (every : Every) (AreAll AreFirst AreSome : List (List ℕ) → Type 0)
-    (MayEnd : Failure → Type 0) (name : List ℕ) (out mid out' : Option (List ℕ)) (greatest : Status)
-    → ((names : List (List ℕ)) → AreSome names → AreFirst (names ++ name ∷ []))
-    → AppendsNamed gives every AreSome out mid greatest → CutsFile gives every name mid out'
-    → Holds (DueFiles gives every AreAll AreFirst MayEnd) out out' output_fails
-cut_hold gives every AreAll AreFirst AreSome MayEnd name out mid out' greatest first h file =
-    early (first_files (first h.names h.are) (one_more h.written file.written))
-    (subst (λ text. AppendsUpTo out out' text) (sym (joined h.lines file.line))
-    (upto_next out mid out' (concat h.lines) file.line h.appends file.appends))
+pub word_cut : {T E : Type 0} (gives : Gives) (every : Every) (word name : List ℕ) (r : Result T E)
+    (out out' : Option (List ℕ)) → gives.is_name word name → OnErr r (CutsFile gives every name out out')
+    → OnErr r (CutsLine (WritesWord gives every word) out out')
+word_cut gives every word name (Ok value) out out' is h = tt
+word_cut gives every word name (Err e) out out' is h =
+    record { status = h.status; line = h.line; written = named is h.written; appends = h.appends }
 
--- the names of some arguments are the first of all
-pub named_first : (IsName : (word name : List ℕ) → Type 0) (words : List (String Global)) (count : ℕ)
-    (names : List (List ℕ)) → AreNamed IsName (take count words) names → AreNamedFirst IsName names words
-named_first IsName words count [] h = tt
-named_first IsName [] zero (name ∷ names) h = absurd h
-named_first IsName [] (suc count) (name ∷ names) h = absurd h
-named_first IsName (word ∷ words) zero (name ∷ names) h = absurd h
-named_first IsName (word ∷ words) (suc count) (name ∷ names) h = (h.0, named_first IsName words count names h.1)
+-- or that of the argument
+pub unnamed_written : {E : Type 0} (gives : Gives) (every : Every) (word : List ℕ) (r : Result Status E)
+    (out out' : Option (List ℕ)) → gives.is_unnamed word
+    → IfOk r (AppendsRun (EndsBy failure.Memory) every word out out')
+    → IfOk r (AppendsLine (WritesWord gives every word) out out')
+unnamed_written gives every word (Err e) out out' is h = tt
+unnamed_written gives every word (Ok status) out out' is h =
+    record { line = h.line; written = unnamed is h.written; appends = h.appends }
 
--- one more word stands for one more name
-pub word_named : (IsName : (word name : List ℕ) → Type 0) (words : List (String Global)) (names : List (List ℕ))
-    (word : String Global) (name : List ℕ) → IsName (string_bytes word) name
-    → AreNamed IsName words names → AreNamed IsName (words ++ word ∷ []) (names ++ name ∷ [])
-word_named IsName [] [] word name is h = (is, tt)
-word_named IsName [] (n ∷ names) word name is h = absurd h
-word_named IsName (w ∷ words) [] word name is h = absurd h
-word_named IsName (w ∷ words) (n ∷ names) word name is h = (h.0, word_named IsName words names word name is h.1)
+pub unnamed_cut : {T E : Type 0} (gives : Gives) (every : Every) (word : List ℕ) (r : Result T E)
+    (out out' : Option (List ℕ)) → gives.is_unnamed word
+    → OnErr r (CutsRun (EndsBy failure.Memory) every word out out')
+    → OnErr r (CutsLine (WritesWord gives every word) out out')
+unnamed_cut gives every word (Ok value) out out' is h = tt
+unnamed_cut gives every word (Err e) out out' is h =
+    record { status = h.status; line = h.line; written = unnamed is h.written; appends = h.appends }
 
 prepend_none : (known : Option (List ℕ)) → prepend_known [] known ≡ known
 prepend_none None = refl

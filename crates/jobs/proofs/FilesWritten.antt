@@ -30,7 +30,7 @@ use Rattle.jobs.proofs.Holding.{upto_part, upto_whole}
 use Rattle.spool.specs.Window.{seen}
 
 -- what is written of a run with its text, if its lines are quiet where no reasons are requested
-text_formed : (form : FileForm) (why : Bool) (name : List ℕ) (ended : Outcome) (text lines : List ℕ) →
+pub text_formed : (form : FileForm) (why : Bool) (name : List ℕ) (ended : Outcome) (text lines : List ℕ) →
     (why ≡ false → lines ≡ []) → IsFormed form why name ended text (run_text form name ended text lines)
 text_formed (Line faults) why name ended text lines quiet = refl
 text_formed Object why name ended text lines quiet = (lines, quiet, refl)

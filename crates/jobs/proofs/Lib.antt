@@ -7,6 +7,9 @@ mod Mapped
 mod Dumped
 mod FilesWritten
 mod EachWritten
+mod NamesRead
+mod LongNames
+mod ListRuns
 mod Asked
 mod Shown
 mod Among

@@ -1,7 +1,7 @@
 -- What is written about many files, by what their runs are given.
 use Rattle.std.specs.Prelude.{ℕ, List, [], Option}
 use Rattle.jobs.specs.Gives.{Gives}
-use Rattle.jobs.specs.Files.{Every, AppendsFiles, AppendsRun, CutsRun, IdentifiesFrom, Mapped, MapsFrom, RunsFile, WritesRuns}
+use Rattle.jobs.specs.Files.{Every, AppendsRun, CutsRun, IdentifiesFrom, Mapped, MapsFrom, RunsFile}
 use Rattle.jobs.specs.Aims.{aim_of}
 use Rattle.jobs.specs.declared.file_run.FileForm.{FileForm}
 use Rattle.jobs.specs.declared.file_run.FileForm.TheVariants.{Line, Object}
@@ -67,8 +67,3 @@ AppendsFile gives every name = AppendsRun (RunsFile gives every name) every name
 -- the output failed at it
 abbrev pub CutsFile : Gives → Every → (name : List ℕ) → (out out' : Option (List ℕ)) → Type 0
 CutsFile gives every name = CutsRun (RunsFile gives every name) every name
-
--- those of many files whose names are these
-abbrev pub AppendsNamed : Gives → Every → (AreNames : List (List ℕ) → Type 0) → (out out' : Option (List ℕ)) →
-    (greatest : Status) → Type 0
-AppendsNamed gives every = AppendsFiles (WritesRuns gives every)

@@ -1,5 +1,5 @@
 -- What is written about many files.
-use Rattle.std.specs.Prelude.{◌≡◌, ℕ, Bool, false, List, [], ◌∷◌, ◌++◌, Option, Some, None, nat_lt, if◌then◌else◌, IsUtf8}
+use Rattle.std.specs.Prelude.{◌≡◌, ◌<◌, ◌≤◌, length, ℕ, Bool, false, List, [], ◌∷◌, ◌++◌, Option, Some, None, nat_lt, if◌then◌else◌, IsUtf8}
 use Rattle.std.specs.List.{concat}
 use Rattle.std.specs.Io.KnownBytes.{Appends}
 use Rattle.bit_space.specs.SpaceView.{HasRisen, SpaceView}
@@ -15,6 +15,7 @@ use Rattle.identity_text.specs.Identities.{IdentifiesFile}
 use Rattle.jobs.specs.FaultNames.{failure_of}
 use Rattle.jobs.specs.Gives.{Gives}
 use Rattle.jobs.specs.Aims.{Aim, IsAskAt}
+use Rattle.jobs.specs.Names.{most_name}
 use Rattle.jobs.specs.declared.fault.FileFault.{FileFault}
 use Rattle.jobs.specs.declared.file_run.FileForm.{FileForm}
 use Rattle.jobs.specs.declared.file_run.FileForm.TheVariants.{Line, Object}
@@ -22,6 +23,7 @@ use Rattle.poke_batch.specs.FileLine.{file_line, in_memory}
 use Rattle.poke_batch.specs.FileObject.{file_object}
 use Rattle.poke_batch.specs.RunsUnder.{MapsUnder}
 use Rattle.run_parts.specs.Outcomes.{EndsAs, outcome_status}
+use Rattle.run_parts.specs.declared.outcome.Failure.{Failure}
 use Rattle.run_parts.specs.declared.outcome.Failure.TheVariants as failure
 use Rattle.run_parts.specs.declared.outcome.Outcome.{Outcome}
 use Rattle.run_parts.specs.declared.outcome.Outcome.TheVariants as outcome
@@ -119,34 +121,61 @@ module _ (gives : Gives) where
         → every.runs start (seen every.window start file) (gives.is_failing name) ended text
         → RunsFile every name ended text
 
-  -- the lines that are written of files, one after the other, with the greatest exit status
-  pub data WritesRuns (every : Every) : (names : List (List ℕ)) → Status → (lines : List (List ℕ)) → Type 0 where
-    no_files : WritesRuns every [] Done []
-    one_more : {names lines : List (List ℕ)} {name line : List ℕ} {greatest status : Status}
-        → WritesRuns every names greatest lines
-        → WritesRun (RunsFile every name) every name status line
-        → WritesRuns every (names ++ name ∷ []) (greater greatest status) (lines ++ line ∷ [])
+-- a run that a failure ended, without a text
+pub record EndsBy (why : Failure) (ended : Outcome) (text : List ℕ) : Type 0 where
+  pub ended_is : ended ≡ outcome.Failed why
+  pub text_is : text ≡ []
 
--- the run of a file is written after what is there
-pub record AppendsRun (Runs : Outcome → (text : List ℕ) → Type 0) (every : Every) (name : List ℕ)
-    (out out' : Option (List ℕ)) (status : Status) : Type 0 where
+-- The line of the file that an argument represents. If memory for its name lacks, the line has the argument instead.
+pub data WritesWord (gives : Gives) (every : Every) (word : List ℕ) : Status → (line : List ℕ) → Type 0 where
+  named : {name line : List ℕ} {status : Status} → gives.is_name word name
+      → WritesRun (RunsFile gives every name) every name status line → WritesWord gives every word status line
+  unnamed : {line : List ℕ} {status : Status} → gives.is_unnamed word
+      → WritesRun (EndsBy failure.Memory) every word status line → WritesWord gives every word status line
+
+-- The line of the file of a name in a list. That of a longer name isn't opened.
+pub data WritesName (gives : Gives) (every : Every) (name : List ℕ) : Status → (line : List ℕ) → Type 0 where
+  short_name : {line : List ℕ} {status : Status} → length name ≤ most_name
+      → WritesRun (RunsFile gives every name) every name status line → WritesName gives every name status line
+  long_name : {line : List ℕ} {status : Status} → most_name < length name
+      → WritesRun (EndsBy failure.Open) every name status line → WritesName gives every name status line
+
+-- the lines that are written of files, one after the other, with the greatest exit status
+pub data WritesEach {A : Type 0} (Writes : A → Status → (line : List ℕ) → Type 0) : (files : List A) → Status →
+    (lines : List (List ℕ)) → Type 0 where
+  no_files : WritesEach Writes [] Done []
+  one_more : {files : List A} {lines : List (List ℕ)} {file : A} {line : List ℕ} {greatest status : Status}
+      → WritesEach Writes files greatest lines → Writes file status line
+      → WritesEach Writes (files ++ file ∷ []) (greater greatest status) (lines ++ line ∷ [])
+
+-- a line is written after what is there
+pub record AppendsLine (Writes : Status → (line : List ℕ) → Type 0) (out out' : Option (List ℕ)) (status : Status) :
+    Type 0 where
   pub line : List ℕ
-  pub written : WritesRun Runs every name status line
+  pub written : Writes status line
   pub appends : Appends out out' line
 
 -- the output failed at it: its first bytes are written, or all of them
-pub record CutsRun (Runs : Outcome → (text : List ℕ) → Type 0) (every : Every) (name : List ℕ)
-    (out out' : Option (List ℕ)) : Type 0 where
+pub record CutsLine (Writes : Status → (line : List ℕ) → Type 0) (out out' : Option (List ℕ)) : Type 0 where
   pub status : Status
   pub line : List ℕ
-  pub written : WritesRun Runs every name status line
+  pub written : Writes status line
   pub appends : AppendsUpTo out out' line
 
--- what is written of many files whose names are these, one after the other, with the greatest exit status
-pub record AppendsFiles (Writes : (names : List (List ℕ)) → Status → (lines : List (List ℕ)) → Type 0)
-    (AreNames : List (List ℕ) → Type 0) (out out' : Option (List ℕ)) (greatest : Status) : Type 0 where
-  pub names : List (List ℕ)
-  pub are : AreNames names
+-- the same of the line of a run
+abbrev pub AppendsRun : (Runs : Outcome → (text : List ℕ) → Type 0) → Every → (name : List ℕ) →
+    (out out' : Option (List ℕ)) → Status → Type 0
+AppendsRun Runs every name = AppendsLine (WritesRun Runs every name)
+
+abbrev pub CutsRun : (Runs : Outcome → (text : List ℕ) → Type 0) → Every → (name : List ℕ) →
+    (out out' : Option (List ℕ)) → Type 0
+CutsRun Runs every name = CutsLine (WritesRun Runs every name)
+
+-- what is written of many files, which are these, one after the other, with the greatest exit status
+pub record AppendsFiles {A : Type 0} (Writes : A → Status → (line : List ℕ) → Type 0) (Are : List A → Type 0)
+    (out out' : Option (List ℕ)) (greatest : Status) : Type 0 where
+  pub files : List A
+  pub are : Are files
   pub lines : List (List ℕ)
-  pub written : Writes names greatest lines
+  pub written : WritesEach Writes files greatest lines
   pub appends : Appends out out' (concat lines)

@@ -16,9 +16,8 @@ use Rattle.jobs.specs.Due.{DueRun, End, Holds}
 use Rattle.jobs.specs.FaultNames.{list_failure}
 use Rattle.jobs.specs.Gives.{Gives}
 use Rattle.jobs.specs.Files.{Every}
-use Rattle.jobs.specs.Jobs.{DueBound, DueCheckIn, DueFiles, DueIfAny, DueMapping, DueTextBound, DueTightBound, DueTypesIn, HoldsDump}
+use Rattle.jobs.specs.Jobs.{DueBound, DueCheckIn, DueIfAny, DueList, DueMapping, DueTextBound, DueTightBound, DueTypesIn, DueWords, HoldsDump}
 use Rattle.jobs.specs.Spaces.{DueSpace, MayShow}
-use Rattle.jobs.specs.Names.{AreListed, AreListedFirst, AreNamed, AreNamedFirst, StopsList}
 use Rattle.jobs.specs.declared.dumps.Range.{Range}
 use Rattle.jobs.specs.declared.ending.Ending.{Ending}
 use Rattle.jobs.specs.declared.ending.Ending.TheVariants.{Run, Silent}
@@ -125,15 +124,12 @@ abbrev pub files_ending : Result Status ListFault → Ending
 files_ending (Ok greatest) = Silent greatest
 files_ending (Err fault) = Run (outcome.Failed (list_failure fault))
 
--- what standard output holds of files that arguments name, and of files that a list names
+-- what standard output holds of files that arguments represent, and of files that a list names
 abbrev pub HoldsWords : Gives → Every → List (String Global) → (out out' : Option (List ℕ)) →
-    Result Status ListFault → Type 0
-HoldsWords gives every words out out' result =
-    Holds (DueFiles gives every (AreNamed gives.is_name words) (λ names. AreNamedFirst gives.is_name names words)
-    (λ why. why ≡ failure.Memory)) out out' (Ok (files_ending result))
+    Result Status WriteFault → Type 0
+HoldsWords gives every words out out' result = Holds (DueWords gives every words) out out' (Ok (ending_of result))
 
 abbrev pub HoldsList : Gives → Every → (list : Option (List ℕ)) → (out out' : Option (List ℕ)) →
     Result Status ListFault → Type 0
 HoldsList gives every list out out' result =
-    Holds (DueFiles gives every (AreListed (λ bytes. bytes ≡ list)) (AreListedFirst (λ bytes. bytes ≡ list)) StopsList)
-    out out' (Ok (files_ending result))
+    Holds (DueList gives every (λ bytes. bytes ≡ list)) out out' (Ok (files_ending result))

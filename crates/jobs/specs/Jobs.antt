@@ -1,6 +1,7 @@
 -- What each job is due to write to standard output, and how it ends then, by what an opener gives for its arguments.
-use Rattle.std.specs.Prelude.{◌≡◌, ◌≢◌, ◌<◌, ℕ, Bool, true, List, [], ◌∷◌, ◌++◌, Option, Some, None, IsSome, Result, Ok, Err, length, codes, string_bytes}
+use Rattle.std.specs.Prelude.{◌≡◌, ◌≢◌, ◌<◌, ℕ, Bool, true, List, [], ◌∷◌, ◌++◌, Option, Some, None, IsSome, Result, Ok, Err, String, length, codes, string_bytes}
 use Rattle.std.specs.Io.KnownBytes.{Keeps}
+use Rattle.std.specs.declared.alloc.Global.{Global}
 use Rattle.bit_space.specs.SpaceView.{HasRisen, SpaceView}
 use Rattle.command_line.specs.Found.{no_terms}
 use Rattle.command_line.specs.Starts.{start_bit}
@@ -10,6 +11,7 @@ use Rattle.command_line.specs.declared.answer_form.AnswerForm.TheVariants as ans
 use Rattle.command_line.specs.declared.ask.Ask.{Ask}
 use Rattle.command_line.specs.declared.identification.Identification.{Identification}
 use Rattle.command_line.specs.declared.request.FileNames.{FileNames}
+use Rattle.command_line.specs.declared.request.FileNames.TheVariants.{Words, EndedByZero}
 use Rattle.command_line.specs.declared.request.Over.{Over}
 use Rattle.command_line.specs.declared.request.Over.TheVariants.{Bytes, File, Files, Records, Search}
 use Rattle.command_line.specs.declared.request.Request.{Request}
@@ -21,7 +23,7 @@ use Rattle.jobs.specs.Aims.{IsAskOf, Requested, of_request, plain_request}
 use Rattle.jobs.specs.Chosen.{bound_type}
 use Rattle.jobs.specs.Due.{DueOver, DueRun, End, Holds}
 use Rattle.jobs.specs.Formats.{DueFormats}
-use Rattle.jobs.specs.Files.{Every, IdentifiesFrom, MapsFrom, WritesRuns, answer_form, file_form}
+use Rattle.jobs.specs.Files.{Every, IdentifiesFrom, MapsFrom, answer_form, file_form}
 use Rattle.identification.specs.declared.format.Formats.{Formats}
 use Rattle.jobs.specs.Gives.{Gives}
 use Rattle.jobs.specs.Installed.{DueAmong, folder_of}
@@ -30,7 +32,7 @@ use Rattle.jobs.specs.declared.task.Task.TheVariants as task
 use Rattle.jobs.specs.Hunted.{DueHuntedFile}
 use Rattle.jobs.specs.Identified.{DueIdentifiedFile}
 use Rattle.jobs.specs.Spaces.{DueSpace}
-use Rattle.jobs.specs.Names.{AreFirstOf, AreNamesOf, StopsNames}
+use Rattle.jobs.specs.Lines.{StopsList, StopsWords, WritesList, WritesWords}
 use Rattle.jobs.specs.declared.ending.Ending.{Ending}
 use Rattle.jobs.specs.declared.ending.Ending.TheVariants.{Run, Silent}
 use Rattle.jobs.specs.declared.fault.FileFault.{FileFault}
@@ -149,23 +151,26 @@ abbrev pub DueTextBound : (word name : List ℕ) (bits : ℕ) → Style → Opti
 DueTextBound word name bits style mode pickle =
     DueIfAny (λ type. DueRun (TextBoundsAs pickle type bits style mode)) (bound_type word name pickle)
 
--- of files: a line for each, and the greatest exit status; before the rest of them, or if a name is lacking, a line for
--- each of the first
-pub data DueFiles (gives : Gives) (every : Every) (AreAll AreFirst : (names : List (List ℕ)) → Type 0)
-    (MayEnd : Failure → Type 0) : (lines : List (List ℕ)) → Option End → Type 0 where
-  all_files : {names lines : List (List ℕ)} {greatest : Status} → AreAll names
-      → WritesRuns gives every names greatest lines
-      → DueFiles gives every AreAll AreFirst MayEnd lines (Some (Ok (Silent greatest)))
-  first_files : {names lines : List (List ℕ)} {greatest : Status} → AreFirst names
-      → WritesRuns gives every names greatest lines → DueFiles gives every AreAll AreFirst MayEnd lines None
-  files_end : {names lines : List (List ℕ)} {greatest : Status} {why : Failure} → MayEnd why → AreFirst names
-      → WritesRuns gives every names greatest lines
-      → DueFiles gives every AreAll AreFirst MayEnd lines (Some (Ok (Run (outcome.Failed why))))
+-- Of files: the lines of all of them, and the greatest exit status. A failure may stop them, and so does an output that
+-- fails.
+pub data DueFiles (WritesAll : Status → (lines : List (List ℕ)) → Type 0)
+    (Stops : Option Failure → (lines : List (List ℕ)) → Type 0) : (lines : List (List ℕ)) → Option End → Type 0 where
+  all_files : {lines : List (List ℕ)} {greatest : Status} → WritesAll greatest lines →
+      DueFiles WritesAll Stops lines (Some (Ok (Silent greatest)))
+  first_files : {lines : List (List ℕ)} {stop : Option Failure} → Stops stop lines → DueFiles WritesAll Stops lines None
+  files_end : {lines : List (List ℕ)} {why : Failure} → Stops (Some why) lines →
+      DueFiles WritesAll Stops lines (Some (Ok (Run (outcome.Failed why))))
 
--- of files with these names
+-- of the files that arguments represent, and of those that a list names
+abbrev pub DueWords : Gives → Every → (words : List (String Global)) → (lines : List (List ℕ)) → Option End → Type 0
+DueWords gives every words = DueFiles (WritesWords gives every words) (StopsWords gives every words)
+
+abbrev pub DueList : Gives → Every → (IsList : Option (List ℕ) → Type 0) → (lines : List (List ℕ)) → Option End → Type 0
+DueList gives every IsList = DueFiles (WritesList gives every IsList) (StopsList gives every IsList)
+
 abbrev pub DueNamed : Gives → Every → FileNames → (lines : List (List ℕ)) → Option End → Type 0
-DueNamed gives every files =
-    DueFiles gives every (AreNamesOf gives files) (AreFirstOf gives files) (StopsNames files)
+DueNamed gives every (Words words) = DueWords gives every words.items
+DueNamed gives every (EndedByZero path) = DueList gives every (gives.is_list (string_bytes path))
 
 -- What the jobs are due to write of what an opener gives. Reasons may be requested.
 module _ (gives : Gives) (why : Bool) where

@@ -15,6 +15,8 @@ pub mod Tasks
 pub mod Hunted
 pub mod Identified
 pub mod Files
+pub mod LongNames
+pub mod Lines
 pub mod Every
 pub mod Jobs
 pub mod Given

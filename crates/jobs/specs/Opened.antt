@@ -4,6 +4,8 @@ use Rattle.bit_space.specs.declared.file.OpenFault.TheVariants.{NotOpened}
 use Rattle.jobs.specs.Gives.{Gives}
 use Rattle.jobs.specs.declared.fault.FileFault.{FileFault}
 use Rattle.jobs.specs.declared.fault.FileFault.TheVariants as file
+use Rattle.jobs.specs.declared.opener.GivenName.{GivenName}
+use Rattle.jobs.specs.declared.opener.GivenName.TheVariants as given
 use Rattle.jobs.specs.declared.opener.Lengthless.{Lengthless}
 use Rattle.jobs.specs.declared.opener.Lengthless.TheVariants.{Reads, NeedsSpool}
 
@@ -17,3 +19,8 @@ pub data FailsNamed (gives : Gives) (name : List ℕ) (spool : Option ℕ) : Fil
 abbrev pub lengthless_with : (spool : Option ℕ) → Lengthless
 lengthless_with (Some most) = Reads
 lengthless_with None = NeedsSpool
+
+-- the bytes of a name
+abbrev pub name_bytes : GivenName → List ℕ
+name_bytes (given.Word word) = word.now
+name_bytes (given.Bytes bytes) = bytes.items

@@ -94,7 +94,7 @@ fn put_some_notes<O: Write>(lines: &[u8], out: &mut O) -> Result<(), WriteFault>
 }
 
 // How a job ends that wrote its answer, or whose output failed.
-fn ending_of(written: Result<Status, WriteFault>) -> Ending
+pub fn ending_of(written: Result<Status, WriteFault>) -> Ending
     ensures { result ≡ ending_of written }
 {
     match written {

@@ -7,7 +7,7 @@ ghost use Rattle.pickle_types.specs.TypeTable.{nodes_of};
 ghost use Rattle.poke_batch.specs.Ready.{IsReady};
 ghost use Rattle.run_parts.specs.Outcomes.{outcome_status};
 ghost use Rattle.jobs.specs.Every.{AppendsFile, CutsFile, IsReadyFor, IsSet, IsTyped, every_of, mapped_of, run_text, runs_of};
-ghost use Rattle.jobs.specs.Files.{AppendsRun, CutsRun, IdentifiesFrom, MapsFrom, answer_form, file_form};
+ghost use Rattle.jobs.specs.Files.{AppendsRun, CutsRun, EndsBy, IdentifiesFrom, MapsFrom, answer_form, file_form};
 ghost use Rattle.jobs.specs.Opened.{FailsNamed};
 
 use crate::aside::Aside;
@@ -144,11 +144,43 @@ pub fn run_name<P: Opener, A: Aside, O: Write>(
         Ok(bytes) => run_opened(opener, task, kept, name, bytes, aside, out)?,
         Err(fault) => run_unopened(opener, task, name, fault, aside, out)?,
     };
+    finish_file(task, aside, out)?;
+    Ok(status)
+}
+
+/// Writes what waits to be written of a file, if that is requested, and counts the file as done.
+pub fn finish_file<A: Aside, O: Write>(
+    task: Task<'_>,
+    aside: &mut A,
+    out: &mut O,
+) -> Result<(), WriteFault>
+    ensures { Keeps (O.contents out.old) (O.contents out.new) }
+{
     if task.flush {
         aside.clear();
         flush(out)?;
     }
     aside.count();
+    Ok(())
+}
+
+/// Writes the line of a file that a failure kept from being run.
+pub fn put_failed<A: Aside, O: Write>(
+    task: Task<'_>,
+    name: &[u8],
+    failure: Failure,
+    aside: &mut A,
+    out: &mut O,
+) -> Result<Status, WriteFault>
+    ensures ok { IfOk result
+        (AppendsRun (EndsBy failure) (every_of task.entry) name.now (O.contents out.old) (O.contents out.new)) }
+    ensures err { OnErr result
+        (CutsRun (EndsBy failure) (every_of task.entry) name.now (O.contents out.old) (O.contents out.new)) }
+{
+    aside.show();
+    let outcome = Outcome::Failed(failure);
+    let status = put_run(task.form, name, outcome, b"", b"", out)?;
+    finish_file(task, aside, out)?;
     Ok(status)
 }
 
@@ -350,7 +382,8 @@ fn unopened_lines<P: Opener>(opener: &P, task: Task<'_>, name: &[u8], fault: Fil
     lines
 }
 
-fn put_line(lines: &mut Vec<u8>, reason: &str) -> Result<(), WriteFault> {
+/// Adds a line that says why a file isn't opened.
+pub fn put_line(lines: &mut Vec<u8>, reason: &str) -> Result<(), WriteFault> {
     put(lines, b"  ")?;
     put(lines, reason.as_bytes())?;
     put(lines, b"\n")
@@ -422,8 +455,8 @@ fn reason_lines<S: Space>(
     }
 }
 
-// Writes the reasons of a file aside. Those of an object are in it.
-fn tell_reasons<A: Aside, O: Write>(
+/// Writes the reasons of a file aside. Those of an object are in it.
+pub fn tell_reasons<A: Aside, O: Write>(
     task: Task<'_>,
     name: &[u8],
     lines: &[u8],

@@ -1,10 +1,10 @@
 //! Where the pickles and files of jobs come from.
 
-ghost use Rattle.std.specs.Prelude.{◌≡◌, ℕ, List, Option, IfOk, IfErr, IfSome, map, option_map};
+ghost use Rattle.std.specs.Prelude.{◌≡◌, ℕ, List, Option, IfOk, IfErr, IfSome, OnErr, map, option_map};
 ghost use Rattle.bit_space.specs.SpaceView.{HasRisen, Keeps};
 ghost use Rattle.jobs.specs.Gives.{Gives};
 ghost use Rattle.jobs.specs.Installed.{installed_pickle};
-ghost use Rattle.jobs.specs.Opened.{lengthless_with};
+ghost use Rattle.jobs.specs.Opened.{lengthless_with, name_bytes};
 ghost use Rattle.spool.specs.Window.{cut_at};
 
 use crate::fault::FileFault;
@@ -18,6 +18,27 @@ use std::io::Read;
 pub struct NamedPickle {
     pub path: String,
     pub bytes: Vec<u8>,
+}
+
+/// The name of the file that an argument represents.
+#[derive(Drop)]
+pub enum GivenName<'a> {
+    /// The argument itself.
+    Word(&'a str),
+    /// The bytes of an argument that isn't UTF-8.
+    Bytes(Vec<u8>),
+}
+
+impl GivenName<'_> {
+    /// The bytes of the name.
+    pub fn as_bytes(&self) -> &[u8]
+        ensures { result.now ≡ name_bytes self.now }
+    {
+        match self {
+            GivenName::Word(word) => word.as_bytes(),
+            GivenName::Bytes(bytes) => bytes.as_slice(),
+        }
+    }
 }
 
 /// What a job does with a file that has no length, such as a FIFO.
@@ -65,9 +86,10 @@ pub trait Opener {
         ensures ok { IfOk result (λ space. (gives self.now).is_file path.now spool (Self.Bytes.view space)) }
         ensures err { IfErr result ((gives self.now).is_unopened path.now spool) };
 
-    /// The name of the file that an argument represents.
-    fn file_name(&self, word: &str) -> Result<Vec<u8>, AllocError>
-        ensures { IfOk result (λ name. (gives self.now).is_name word.now name.items) };
+    /// The name of the file that an argument represents. It fails if memory for that name lacks, which isn't the argument.
+    fn file_name<'a>(&self, word: &'a str) -> Result<GivenName<'a>, AllocError>
+        ensures ok { IfOk result (λ name. (gives self.now).is_name word.now (name_bytes name)) }
+        ensures err { OnErr result ((gives self.now).is_unnamed word.now) };
 
     /// Opens the list of names at a path; `None` if it can't be opened.
     fn open_list(&self, path: &str) -> Option<Self::List>

@@ -42,10 +42,13 @@ abbrev pub written_of : FaultForm → Outcome → (text : List ℕ) → List ℕ
 written_of faults outcome.Done text = text
 written_of faults ended text = outcome_text faults ended
 
--- name, status and what was written, which ends with a line feed
+-- status and what was written, which ends with a line feed
+abbrev pub after_name : FaultForm → Outcome → (text : List ℕ) → List ℕ
+after_name faults ended text = status_text (outcome_status ended) ++ written_of faults ended text
+
+-- the same after the name
 abbrev pub file_line : FaultForm → (name : List ℕ) → Outcome → (text : List ℕ) → List ℕ
-file_line faults name ended text =
-    shown_name name ++ (status_text (outcome_status ended) ++ written_of faults ended text)
+file_line faults name ended text = shown_name name ++ after_name faults ended text
 
 -- a run that writes into memory fails to write only where an allocation fails
 abbrev pub failed_in_memory : Failure → Outcome

@@ -73,11 +73,15 @@ abbrev pub why_member : (reasons : List ℕ) → List ℕ
 why_member [] = []
 why_member (byte ∷ reasons) = reasons_member (byte ∷ reasons)
 
+-- the members after the name, and the end of the object and of its line
+abbrev pub later_members : Outcome → (text reasons : List ℕ) → List ℕ
+later_members ended text reasons =
+    status_member (outcome_status ended) ++ (result_members ended text ++ (why_member reasons ++ codes "}\n"))
+
 -- the object, on a line
 abbrev pub file_object : (name : List ℕ) → Outcome → (text reasons : List ℕ) → List ℕ
 file_object name ended text reasons =
-    codes "{\"name\":" ++ (name_json name
-    ++ (status_member (outcome_status ended) ++ (result_members ended text ++ (why_member reasons ++ codes "}\n"))))
+    codes "{\"name\":" ++ (name_json name ++ later_members ended text reasons)
 
 -- the object of a file whose run is stored
 abbrev pub kept_object : Kept → (name reasons : List ℕ) → List ℕ

@@ -3,7 +3,7 @@
 ghost use Rattle.std.specs.Prelude.{◌≡◌, ◌<◌, ◌≤◌, ◌++◌, take, length, IfOk, OnErr, OnOk};
 ghost use Rattle.std.specs.Io.KnownBytes.{Appends};
 ghost use Rattle.text_output.specs.Written.{AppendsPart};
-ghost use Rattle.poke_batch.specs.FileLine.{name_byte, shown_name, status_text, file_line, written_of};
+ghost use Rattle.poke_batch.specs.FileLine.{after_name, name_byte, shown_name, status_text, file_line, written_of};
 
 use crate::report::put_outcome;
 use command_line::fault_form::FaultForm;
@@ -30,6 +30,22 @@ pub fn put_file_line<W: Write>(
         (file_line faults name.now outcome text.now)) }
 {
     put_name(w, name)?;
+    put_after_name(w, outcome, faults, text)?;
+    Ok(())
+}
+
+/// Writes what the line of a file has after the name.
+#[tactic(auto, using(text_output::proofs::Parts::written))]
+pub fn put_after_name<W: Write>(
+    w: &mut W,
+    outcome: Outcome,
+    faults: FaultForm,
+    text: &[u8],
+) -> Result<(), WriteFault>
+    ensures ok { OnOk result (Appends (W.contents w.old) (W.contents w.new) (after_name faults outcome text.now)) }
+    ensures err { OnErr result (AppendsPart (W.contents w.old) (W.contents w.new)
+        (after_name faults outcome text.now)) }
+{
     put(w, column(outcome.status()))?;
     put_written(w, outcome, faults, text)?;
     Ok(())

@@ -7,7 +7,7 @@ ghost use Rattle.text_output.specs.Written.{AppendsPart};
 ghost use Rattle.value_text.specs.ValueText.{comma, spelled};
 ghost use Rattle.value_text.specs.JsonText.{json_escape};
 ghost use Rattle.poke_batch.specs.FileLine.{name_byte, shown_name};
-ghost use Rattle.poke_batch.specs.FileObject.{file_object, first_line_json, line_length, lines_json, name_json, reasons_member, result_members, status_member, text_lines, value_member, why_member, without_end, without_indent};
+ghost use Rattle.poke_batch.specs.FileObject.{file_object, first_line_json, later_members, line_length, lines_json, name_json, reasons_member, result_members, status_member, text_lines, value_member, why_member, without_end, without_indent};
 
 use run_parts::outcome::Outcome;
 use run_parts::status::Status;
@@ -35,6 +35,23 @@ pub fn put_file_object<W: Write>(
 {
     put(w, b"{\"name\":")?;
     put_name_string(w, name)?;
+    put_later_members(w, outcome, text, reasons)?;
+    Ok(())
+}
+
+/// Writes what the object of a file has after the name, and its end.
+#[tactic(auto, using(text_output::proofs::Parts::written))]
+pub fn put_later_members<W: Write>(
+    w: &mut W,
+    outcome: Outcome,
+    text: &[u8],
+    reasons: &[u8],
+) -> Result<(), WriteFault>
+    ensures ok { OnOk result (Appends (W.contents w.old) (W.contents w.new)
+        (later_members outcome text.now reasons.now)) }
+    ensures err { OnErr result (AppendsPart (W.contents w.old) (W.contents w.new)
+        (later_members outcome text.now reasons.now)) }
+{
     put_status(w, outcome)?;
     put_result(w, outcome, text)?;
     put_why(w, reasons)?;
@@ -187,7 +204,8 @@ fn put_name_string<W: Write>(w: &mut W, name: &[u8]) -> Result<(), WriteFault>
     Ok(())
 }
 
-fn put_name_bytes<W: Write>(w: &mut W, name: &[u8]) -> Result<(), WriteFault>
+/// Writes the bytes of a name, or of a part of one, as they are in the JSON string of a file's name.
+pub fn put_name_bytes<W: Write>(w: &mut W, name: &[u8]) -> Result<(), WriteFault>
     ensures ok { OnOk result (Appends (W.contents w.old) (W.contents w.new)
         (spelled json_escape (shown_name name.now))) }
     ensures err { OnErr result (AppendsPart (W.contents w.old) (W.contents w.new)

@@ -7,7 +7,7 @@ use crate::installed::{pickle_path, read_all};
 use crate::own_streams::OwnStreams;
 use crate::with_progress::ShownSpace;
 use bit_space::{FileSpace, MemSpace, OpenFault, Space};
-use jobs::{FileFault, Installed, Lengthless, NamedPickle, Opener};
+use jobs::{FileFault, GivenName, Installed, Lengthless, NamedPickle, Opener};
 use poke_batch::pickle::{PickleFault, read_pickle};
 use spool::{Source, read_stream};
 use std::alloc::AllocError;
@@ -75,10 +75,10 @@ impl<
         Ok(ShownSpace::new(source, self.rt.clone()?, self.err, shows))
     }
 
-    fn file_name(&self, word: &str) -> Result<Vec<u8>, AllocError> {
+    fn file_name<'a>(&self, word: &'a str) -> Result<GivenName<'a>, AllocError> {
         match stands_for(word) {
-            Some(place) => argument(&self.rt, place),
-            None => Ok(String::from_str(self.rt.alloc(), word)?.into_bytes()),
+            Some(place) => Ok(GivenName::Bytes(argument(&self.rt, place)?)),
+            None => Ok(GivenName::Word(word)),
         }
     }
 

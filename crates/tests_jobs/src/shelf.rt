@@ -3,7 +3,7 @@
 ghost use Rattle.jobs.specs.Gives.{anything};
 
 use bit_space::{MemSpace, OpenFault};
-use jobs::{Aside, FileFault, Installed, Lengthless, NamedPickle, Opener};
+use jobs::{Aside, FileFault, GivenName, Installed, Lengthless, NamedPickle, Opener};
 use poke_batch::pickle::PickleFault;
 use std::alloc::{AllocError, Global};
 use tests_kit::streams::OneByOne;
@@ -88,8 +88,8 @@ impl Opener for Shelf {
         }
     }
 
-    fn file_name(&self, word: &str) -> Result<Vec<u8>, AllocError> {
-        word.as_bytes().to_vec(self.alloc)
+    fn file_name<'a>(&self, word: &'a str) -> Result<GivenName<'a>, AllocError> {
+        Ok(GivenName::Word(word))
     }
 
     fn open_list(&self, path: &str) -> Option<OneByOne<'static>> {

@@ -1,14 +1,12 @@
-use Rattle.std.proofs.KnownBytes.{Keeps-refl}
-use Rattle.std.specs.Io.KnownBytes.{Keeps}
 use Rattle.jobs.specs.Every.{AppendsFile, every_of}
 use Rattle.jobs.specs.Files.{RunsFile}
 use Rattle.jobs.proofs.FilesWritten.{run_kept, run_unflushed}
 use Rattle.run_parts.proofs.Sayings.{on_err}
-use Rattle.jobs.proofs.file_run.run_name.Goals.{in-Ok+in_ok-status-in-Ok, in-Err+in_ok-status-in-Err, then-task+in_ok-flush, else-task}
+use Rattle.jobs.proofs.file_run.run_name.Goals.{in-Ok+in_ok-status-in-Ok, in-Err+in_ok-status-in-Err}
 use Rattle.jobs.proofs.file_run.run_name.Goals as goal
 
-pub returns-in_err-flush-clause-err : goal.returns-in_err-flush-clause-err
-returns-in_err-flush-clause-err g c =
+pub returns-in_err-finish_file-clause-err : goal.returns-in_err-finish_file-clause-err
+returns-in_err-finish_file-clause-err g c =
     let gives = g.P.Opener.gives c.args.opener.now in
     let every = every_of c.args.task in
     let written : AppendsFile gives every c.args.name.now (g.O.Write.contents c.args.out.now)
@@ -17,9 +15,9 @@ returns-in_err-flush-clause-err g c =
       | in-Ok+in_ok-status-in-Ok w ↦ rw (w.status-is, w.out-is) w.in_ok-status-in-Ok.ensures.ok
       | in-Err+in_ok-status-in-Err w ↦ rw (w.status-is, w.out-is) w.in_ok-status-in-Err.ensures.ok
     ] in
-    on_err c.from_residual-in_err-flush.result
+    on_err c.from_residual-in_err-finish_file.result
     (run_unflushed (RunsFile gives every c.args.name.now) every c.args.name.now _ _ _ c.match-open_named.status written
-    c.in_err-flush.ensures)
+    c.in_err-finish_file.ensures)
 
 pub returns-clause-ok : goal.returns-clause-ok
 returns-clause-ok g c =
@@ -31,9 +29,5 @@ returns-clause-ok g c =
       | in-Ok+in_ok-status-in-Ok w ↦ rw (w.status-is, w.out-is) w.in_ok-status-in-Ok.ensures.ok
       | in-Err+in_ok-status-in-Err w ↦ rw (w.status-is, w.out-is) w.in_ok-status-in-Err.ensures.ok
     ] in
-    let keeps : Keeps (g.O.Write.contents c.match-open_named.out) (g.O.Write.contents c.if-task.out) =
-    elim c.if-task.branch [
-      | then-task+in_ok-flush w ↦ rw w.out-is w.flush.ensures
-      | else-task w ↦ rw w.out-is (Keeps-refl _)
-    ] in
-    run_kept (RunsFile gives every c.args.name.now) every c.args.name.now _ _ _ c.match-open_named.status written keeps
+    run_kept (RunsFile gives every c.args.name.now) every c.args.name.now _ _ _ c.match-open_named.status written
+    c.in_ok-finish_file.ensures

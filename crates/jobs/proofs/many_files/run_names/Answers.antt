@@ -1,30 +1,32 @@
-use Rattle.std.proofs.Common.{Ok, refl, inr, sym, subst}
+use Rattle.std.proofs.Common.{Ok, refl, sym, subst}
 use Rattle.std.proofs.KnownBytes.{Appends-nil}
 use Rattle.jobs.specs.Due.{whole}
 use Rattle.jobs.specs.Every.{every_of}
 use Rattle.jobs.specs.Files.{no_files}
 use Rattle.jobs.specs.Given.{HoldsWords, files_ending}
 use Rattle.jobs.specs.Jobs.{files_end}
-use Rattle.jobs.specs.Names.{StopsList, none_listed}
+use Rattle.jobs.specs.Lines.{first_names}
+use Rattle.jobs.specs.Names.{none_listed}
 use Rattle.jobs.proofs.EachWritten.{listed_otherwise}
 use Rattle.jobs.proofs.Holding.{holds_more}
 use Rattle.jobs.proofs.many_files.run_names.Goals as goal
 
 pub returns-in-Words : goal.returns-in-Words
 returns-in-Words g c =
-    rw c.in-Words.is
+    rw (c.in-Words.is, c.ending_of.ensures)
     (subst (λ words. HoldsWords (g.P.Opener.gives c.args.opener.now) (every_of c.args.task) words
     (g.O.Write.contents c.args.out.now) (g.O.Write.contents c.run_words.new.out) c.run_words.result)
     c.as_slice.ensures.value c.run_words.ensures)
 
 pub returns-in-Some : goal.returns-in-Some
 returns-in-Some g c =
-    rw c.in-EndedByZero.is
+    rw (c.in-EndedByZero.is, c.files_ending.ensures)
     (holds_more _ _ (Ok (files_ending c.run_list.result)) _ _
-    (listed_otherwise (g.P.Opener.gives c.args.opener.now) (every_of c.args.task) _ _ StopsList
+    (listed_otherwise (g.P.Opener.gives c.args.opener.now) (every_of c.args.task) _ _
     (λ bytes is. rw is (rw (sym c.deref.ensures) c.in-Some.ensures)))
     c.run_list.ensures)
 
 pub returns-in-None : goal.returns-in-None
 returns-in-None g c =
-    rw c.in-EndedByZero.is (whole (files_end (inr refl) none_listed no_files) (Appends-nil _))
+    rw (c.in-EndedByZero.is, c.files_ending-in-None.ensures)
+    (whole (files_end (first_names refl none_listed no_files)) (Appends-nil _))

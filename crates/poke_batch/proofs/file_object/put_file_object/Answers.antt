@@ -11,24 +11,8 @@ pub returns-in_err-put_name_string-clause-err : goal.returns-in_err-put_name_str
 returns-in_err-put_name_string-clause-err g c = on_err c.from_residual-in_err-put_name_string.result (part_next _ _ _
     (codes "{\"name\":") _ c.in_ok-put.ensures.ok (part_first _ _ _ _ c.in_err-put_name_string.ensures.err))
 
-pub returns-in_err-put_status-clause-err : goal.returns-in_err-put_status-clause-err
-returns-in_err-put_status-clause-err g c =
-    on_err c.from_residual-in_err-put_status.result (part_next _ _ _ (codes "{\"name\":") _ c.in_ok-put.ensures.ok
-    (part_next _ _ _ _ _ c.in_ok-put_name_string.ensures.ok (part_first _ _ _ _ c.in_err-put_status.ensures.err)))
-
-pub returns-in_err-put_result-clause-err : goal.returns-in_err-put_result-clause-err
-returns-in_err-put_result-clause-err g c = on_err c.from_residual-in_err-put_result.result (part_next _ _ _
-    (codes "{\"name\":") _ c.in_ok-put.ensures.ok (part_next _ _ _ _ _ c.in_ok-put_name_string.ensures.ok
-    (part_next _ _ _ _ _ c.in_ok-put_status.ensures.ok (part_first _ _ _ _ c.in_err-put_result.ensures.err))))
-
-pub returns-in_err-put_why-clause-err : goal.returns-in_err-put_why-clause-err
-returns-in_err-put_why-clause-err g c =
-    on_err c.from_residual-in_err-put_why.result (part_next _ _ _ (codes "{\"name\":") _ c.in_ok-put.ensures.ok
-    (part_next _ _ _ _ _ c.in_ok-put_name_string.ensures.ok (part_next _ _ _ _ _ c.in_ok-put_status.ensures.ok
-    (part_next _ _ _ _ _ c.in_ok-put_result.ensures.ok (part_first _ _ _ _ c.in_err-put_why.ensures.err)))))
-
-pub returns-in_err-put-2-clause-err : goal.returns-in_err-put-2-clause-err
-returns-in_err-put-2-clause-err g c = on_err c.from_residual-in_err-put-2.result
-    (part_next _ _ _ (codes "{\"name\":") _ c.in_ok-put.ensures.ok (part_next _ _ _ _ _
-    c.in_ok-put_name_string.ensures.ok (part_next _ _ _ _ _ c.in_ok-put_status.ensures.ok (part_next _ _ _ _ _
-    c.in_ok-put_result.ensures.ok (part_next _ _ _ _ _ c.in_ok-put_why.ensures.ok c.in_err-put-2.ensures.err)))))
+pub returns-in_err-put_later_members-clause-err : goal.returns-in_err-put_later_members-clause-err
+returns-in_err-put_later_members-clause-err g c =
+    on_err c.from_residual-in_err-put_later_members.result (part_next _ _ _ (codes "{\"name\":") _
+    c.in_ok-put.ensures.ok (part_next _ _ _ _ _ c.in_ok-put_name_string.ensures.ok
+    c.in_err-put_later_members.ensures.err))

@@ -1,0 +1,11 @@
+use Rattle.std.proofs.Common.{◌≡◌, ◌≢◌, ◌≤◌, All, length, vec_capacity, vec_len}
+use Rattle.std.specs.Io.KnownBytes.{Consumes}
+use Rattle.jobs.proofs.names.read_name.Given as goal
+
+abbrev pub invariant-loop : goal.invariant-loop
+invariant-loop g l = record {
+  read : Consumes (g.L.Read.remaining l.initial.list) (g.L.Read.remaining l.list) l.name.items;
+  within : All (λ byte. byte ≢ 0) l.name.items;
+  count : length l.name.items ≡ l.counter;
+  capacity : vec_capacity l.initial.name ≤ vec_capacity l.name;
+}
