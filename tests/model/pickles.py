@@ -321,6 +321,57 @@ def random_pickle(choose):
     return "".join(pickle.texts), name, of
 
 
+@dataclass
+class Mark:
+    """A constant number of whole bytes at the start of a type. `order` is empty if it is that of the run."""
+
+    number: int
+    width: int
+    order: str
+
+    def content(self, order):
+        return self.number.to_bytes(self.width // 8, self.order or order)
+
+
+def marked(pickle, of):
+    """A struct that begins with a constant number, maybe after other bytes or at a label, and goes on with a type; and its mark."""
+    choose = pickle.choose
+    width = choose.choice([8, 8, 16, 24, 32, 32, 40, 64])
+    mark = Mark(choose.randrange(1 << width), width, choose.choice(["", "", "big", "little"]))
+    name, sides = Term("named", ("mark",)), [Term("literal", (Number(mark.number, 64, False),))]
+    sides.insert(choose.randrange(2), name)
+    texts = [it.of[0] if it is name else f"{mark.number}UL" for it in sides]
+    constraint, text = Term("infix", ("==", *sides)), " == ".join(texts)
+    if choose.random() < 0.3:
+        constraint, text = Term("bracket", (constraint,)), f"({text})"
+    fields, before = [], choose.choice([0, 0, 0, 1, 2])
+    fields += [Field(Scalar(8, False)) for _ in range(before)]
+    at = choose.choice([None, None, None, choose.randrange(before, 5)])
+    label = None if at is None else Term("in_unit", (8, Term("literal", (Number(at, 32, True),))))
+    fields += [Field(Scalar(width, False), "mark", mark.order, constraint, label), Field(of.it, "rest")]
+    words = f"{mark.order} uint<{width}> mark : {text}{'' if at is None else f' @ {at}#B'}"
+    text = f"struct {{ {'uint<8>; ' * before}{words.strip()}; {of.text} rest; }}"
+    return pickle.declared(Written(text, Struct(fields), None)), mark
+
+
+def random_search(choose):
+    """The text of a pickle, its last type by name and as a type, and the marks with which values of it begin; many have none."""
+    pickle, marks = Pickle(choose), []
+    for _ in range(choose.randint(1, 4)):
+        pickle.declare()
+    last = pickle.named[-1]
+    for _ in range(choose.choice([0, 0, 1, 1, 1, 2])):
+        of, mark = marked(pickle, last)
+        marks.append((of, mark))
+    if len(marks) == 2:
+        fields = [Field(of.it, name) for (of, _), name in zip(marks, "ab")]
+        texts = " ".join(f"{of.text} {name};" for (of, _), name in zip(marks, "ab"))
+        last = pickle.declared(Written(f"union {{ {texts} }}", Union(fields), None))
+    elif marks:
+        last = marks[0][0]
+    return "".join(pickle.texts), last.text, last.it.type, [mark for _, mark in marks]
+
+
 def random_list(choose):
     """The text of a pickle, and its last type: the name, the type, and the places of the fields that lead to a list in it."""
     pickle = Pickle(choose)
