@@ -119,6 +119,7 @@ complete -c poke_batch -n '__poke_batch_is records' -l report-end -d 'Print at l
 complete -c poke_batch -n '__poke_batch_is records' -l of -x -d 'The records are those of the array at PATH in TYPE'
 complete -c poke_batch -n '__poke_batch_is records' -l resume -xa '(__poke_batch_offsets)' -d 'Where in FILE the list goes on, with --of'
 complete -c poke_batch -n '__poke_batch_is find' -l step -xa '(__poke_batch_offsets)' -d 'How far each start is from the one before'
+complete -c poke_batch -n '__poke_batch_is find' -l header -d 'Print the names of the columns first'
 complete -c poke_batch -n '__poke_batch_is find' -l apart -d 'After a value go on at or after its end'
 complete -c poke_batch -n '__poke_batch_is find' -l count -x -d 'Stop after the lines of N values'
 complete -c poke_batch -n '__poke_batch_is find' -l attempt-limit -x -d 'The most steps of the attempt at one start'

@@ -13,6 +13,12 @@ fails_weaker A A' B B' f g (Help text) h = h
 fails_weaker A A' B B' f g Offset h = g h
 fails_weaker A A' B B' f g Memory h = tt
 
+-- the same of what may have failed
+pub fails_more : {T : Type 0} (r : Result T WordFault) (A A' B B' : Type 0) → (A → A') → (B → B')
+    → IfErr r (FailsFor A B) → IfErr r (FailsFor A' B')
+fails_more (Ok x) A A' B B' f g h = tt
+fails_more (Err y) A A' B B' f g h = fails_weaker A A' B B' f g y h
+
 -- one of the words is such
 pub word_at : (IsSuch : List ℕ → Type 0) (words : List (Bor (List ℕ))) (i : ℕ) (default : Bor (List ℕ))
     → i < length words → IsSuch (get_or words i default).now

@@ -150,6 +150,7 @@ mapping_options =
     ∷ option (only (codes "records")) (codes "of") (codes "PATH")
     ∷ option (only (codes "records")) (codes "resume") (codes "OFFSET")
     ∷ defaulted (option (only (codes "find")) (codes "step") (codes "OFFSET")) (codes "1#B")
+    ∷ flag (only (codes "find")) (codes "header")
     ∷ flag (only (codes "find")) (codes "apart")
     ∷ number (only (codes "find")) (codes "count") (codes "N")
     ∷ defaulted (number (only (codes "find")) (codes "attempt-limit") (codes "N")) (codes "1000000")

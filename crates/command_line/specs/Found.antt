@@ -274,6 +274,7 @@ pub record AsksSearch (found : Found) (search : ValueSearch) : Type 0 where
   pub counts : NumberIfAny (first_value found (codes "count")) search.count
   pub apart : FlagIn (one_text found (codes "apart")) search.apart
   pub flush : FlagIn (one_text found (codes "flush")) search.flush
+  pub header : HasHeader found search.header
   pub grows : GrowsLimit found search.grows
 
 -- a type's own name is by the head of its pickle
@@ -346,17 +347,21 @@ SelectsOne (Files names flush) terms = Unit {0}
 SelectsOne (Records file of list) terms = Unit {0}
 SelectsOne (Search file search) terms = Unit {0}
 
+-- what values a request writes, over what and how, is what arguments request
+pub record AsksValues (found : Found) (terms : Terms) (form : Form) (subject : Subject) (over : Over) : Type 0 where
+  pub subject_is : AsksSubjectIn found (type_over found over) form over subject
+  pub terms_are : HasTerms found (choice_of form over) (style_by_default form) terms
+  pub selects : SelectsOne over terms
+  pub form_is : IsInForm found over form
+  pub over_is : IsOver found over
+
 -- a request is what arguments request
 pub record AsksRequest (found : Found) (request : Request) : Type 0 where
-  pub subject : AsksSubjectIn found (type_over found request.over) request.form request.over request.subject
   pub mapping : AsksMapping found request.start request.window request.limit
   pub order : AsksOrder found request.order
   pub spools : Spools found request.spool
-  pub terms : HasTerms found (choice_of request.form request.over) (style_by_default request.form) request.terms
-  pub selects : SelectsOne request.over request.terms
-  pub form : IsInForm found request.over request.form
+  pub values : AsksValues found request.terms request.form request.subject request.over
   pub progress : ShowsProgress found request.progress
-  pub over : IsOver found request.over
 
 -- the formats of files are what arguments request
 pub record AsksFormats (found : Found) (asked : Identification) : Type 0 where
@@ -484,9 +489,10 @@ IsNoListExtent found = IsNoExtent found ⊎ IsNoOffsetIfAny (first_value found (
 abbrev pub IsNoStep : Found → Type 0
 IsNoStep found = IsNoOffset (word_in found (codes "step"))
 
--- the arguments for a search have something else than a number where one belongs, or places that don't move
+-- the arguments for a search have something else than a number where one belongs, places that don't move, or names of
+-- columns in JSON
 abbrev pub IsNoSearch : Found → Type 0
-IsNoSearch found = IsNoNumberIfAny (first_value found (codes "attempt-limit"))
+IsNoSearch found = (IsNoNumberIfAny (first_value found (codes "attempt-limit")) ⊎ IsNoHeader found)
     ⊎ (IsNoNumberIfAny (first_value found (codes "count")) ⊎ IsOffsetWord (word_in found (codes "step")) 0)
 
 -- whether parts of values are requested

@@ -10,7 +10,7 @@ use Rattle.command_line.specs.declared.words.WordFault.TheVariants.{Usage, Help,
 use Rattle.command_line.specs.Flags.{FlagIn}
 use Rattle.command_line.specs.Found.{is_raw, IsNoBound, IsNoByteExtent, IsNoExtent, IsNoList, IsNoListExtent, IsNoNumberIfAny, IsNoRange, IsNoSearch, IsNoStep, SeeksParts}
 use Rattle.command_line.specs.Patterns.{PatternPart, IsPattern}
-use Rattle.command_line.specs.Selects.{ArePatterns, HasRows, IsNoPath, Selects, column_path, is_one_path, words_in}
+use Rattle.command_line.specs.Selects.{ArePatterns, HasKeys, HasRows, IsNoPath, Selects, column_path, is_one_path, words_in}
 use Rattle.command_line.specs.declared.selection.Selection.{Selection}
 use Rattle.command_line.specs.Styles.{IsNoElementsIfAny}
 
@@ -39,27 +39,30 @@ IsNoOnePath word =
 abbrev pub IsNoColumn : List ℕ → Type 0
 IsNoColumn word = IsNoPath (column_path word)
 
--- rows have no such pattern, no such columns, or no such mode
+-- rows have no such pattern, no such columns, no such mode, or two columns of one name in JSON
 pub data MisreadRows (found : Found) (pattern : List ℕ) (words : List (List ℕ)) : Type 0 where
   pattern_wrong : IsNoPattern pattern → MisreadRows found pattern words
   columns_wrong : AnyWord IsNoColumn words → MisreadRows found pattern words
   mode_wrong : (header : Bool) → FlagIn (one_text found (codes "header")) header
       → ¬ (HasRows (unwrap_or (first_value found (codes "mode")) []) header) → MisreadRows found pattern words
+  keys_wrong : ¬ (HasKeys (unwrap_or (first_value found (codes "mode")) []) words) → MisreadRows found pattern words
 
 abbrev pub MisreadParts : Found → (rows : Option (List ℕ)) → (words : List (List ℕ)) → Type 0
 MisreadParts found None words = AnyWord IsNoPattern words
 MisreadParts found (Some pattern) words = MisreadRows found pattern words
 
-pub data MisreadColumns (words : List (List ℕ)) : Type 0 where
-  path_wrong : AnyWord IsNoPath words → MisreadColumns words
-  column_wrong : AnyWord IsNoColumn words → MisreadColumns words
-  lone_wrong : AnyWord IsNoOnePath words → MisreadColumns words
+pub data MisreadColumns (mode : List ℕ) (words : List (List ℕ)) : Type 0 where
+  path_wrong : AnyWord IsNoPath words → MisreadColumns mode words
+  column_wrong : AnyWord IsNoColumn words → MisreadColumns mode words
+  lone_wrong : AnyWord IsNoOnePath words → MisreadColumns mode words
+  keys_wrong : ¬ (HasKeys mode words) → MisreadColumns mode words
 
 -- the parts that are requested are none, by what a command offers
 abbrev pub MisreadSelection : Found → Choice → Type 0
 MisreadSelection found choice.Parts =
     MisreadParts found (first_value found (codes "rows")) (words_in found (codes "get"))
-MisreadSelection found choice.Columns = MisreadColumns (words_in found (codes "get"))
+MisreadSelection found choice.Columns =
+    MisreadColumns (unwrap_or (first_value found (codes "mode")) []) (words_in found (codes "get"))
 
 -- an option of a mapping is wrong
 pub data MisreadRequest (found : Found) (offered : Choice) : Type 0 where

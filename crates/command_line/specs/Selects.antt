@@ -3,6 +3,7 @@ use Rattle.std.specs.Prelude.{◌≡◌, ◌≢◌, ◌==◌, ◌&&◌, ◌||◌
 use Rattle.std.specs.List.{position_or_len, before_first, after_first}
 use Rattle.std.specs.Option.{option_map_or}
 use Rattle.std.specs.List.{list_all}
+use Rattle.std.specs.Str.{bytes_eq}
 use Rattle.clap.specs.Matches.{first_value, one_text, matched_of, raw_values}
 use Rattle.clap.specs.declared.parser.matches.Found.{Found}
 use Rattle.command_line.specs.Flags.{FlagIn}
@@ -67,6 +68,20 @@ AreColumns [] (column ∷ columns) = ⊥
 AreColumns (word ∷ words) [] = ⊥
 AreColumns (word ∷ words) (column ∷ columns) = IsColumn word column × AreColumns words columns
 
+-- a column has the name of one of some others
+abbrev pub is_among : List ℕ → List (List ℕ) → Bool
+is_among word [] = false
+is_among word (other ∷ words) = bytes_eq (column_name word) (column_name other) || is_among word words
+
+-- no two columns have one name
+abbrev pub are_distinct : List (List ℕ) → Bool
+are_distinct [] = true
+are_distinct (word ∷ words) = not (is_among word words) && are_distinct words
+
+-- in JSON, whose objects name each column, they don't
+abbrev pub HasKeys : (mode : List ℕ) → (words : List (List ℕ)) → Type 0
+HasKeys mode words = mode ≡ codes "json" → are_distinct words ≡ true
+
 -- whether patterns are one path
 abbrev pub is_one_path : List Pattern → Bool
 is_one_path [] = false
@@ -87,6 +102,7 @@ pub record NamesRows (found : Found) (pattern : List ℕ) (words : List (List �
   pub columns : AreColumns words rows.columns.items
   pub header : FlagIn (one_text found (codes "header")) rows.header
   pub mode : HasRows (unwrap_or (first_value found (codes "mode")) []) rows.header
+  pub keys : HasKeys (unwrap_or (first_value found (codes "mode")) []) words
 
 -- each text is a path
 abbrev pub ArePaths : List (List ℕ) → Type 0
@@ -120,11 +136,11 @@ IsLonePath [] given patterns = ⊥
 IsLonePath (word ∷ []) given patterns = IsOnePath word patterns × (given ≡ absent.Empty)
 IsLonePath (word ∷ more ∷ words) given patterns = ⊥
 
--- a row is printed, in place of one part: of many columns, or of one that has a name
-abbrev pub is_row : List (List ℕ) → Bool
-is_row [] = false
-is_row (word ∷ []) = is_named word
-is_row (word ∷ more ∷ words) = true
+-- a row is printed, in place of one part: of many columns, or of one that has a name or is below a header
+abbrev pub is_row : (header : Bool) → List (List ℕ) → Bool
+is_row header [] = false
+is_row header (word ∷ []) = header || is_named word
+is_row header (word ∷ more ∷ words) = true
 
 -- one row, the value itself, with the columns that the texts say
 abbrev pub IsRow : List (List ℕ) → Shape → Type 0
@@ -135,14 +151,23 @@ IsRow words (shape.Rows rows) =
 abbrev pub IsRowOf : List (List ℕ) → Absent → Selection → Type 0
 IsRowOf words absent selection = IsRow words selection.shape × (selection.absent ≡ absent)
 
-abbrev pub IsShapeOfColumns : List (List ℕ) → Absent → Shape → Type 0
-IsShapeOfColumns words absent (shape.Parts patterns) = IsLonePath words absent patterns.items × (is_row words ≡ false)
-IsShapeOfColumns words absent (shape.Rows rows) = (is_row words ≡ true) × IsRow words (shape.Rows rows)
+abbrev pub IsShapeOfColumns : (mode : List ℕ) → (header : Bool) → List (List ℕ) → Absent → Shape → Type 0
+IsShapeOfColumns mode header words absent (shape.Parts patterns) =
+    IsLonePath words absent patterns.items × (is_row header words ≡ false)
+IsShapeOfColumns mode header words absent (shape.Rows rows) =
+    (is_row header words ≡ true) × IsRow words (shape.Rows rows) × HasKeys mode words
 
-abbrev pub SelectsColumns : List (List ℕ) → Absent → Option Selection → Type 0
-SelectsColumns words absent None = IsOneAtMost words absent × (is_row words ≡ false)
-SelectsColumns words absent (Some selection) =
-    (selection.absent ≡ absent) × IsShapeOfColumns words absent selection.shape
+abbrev pub SelectsColumns : (mode : List ℕ) → (header : Bool) → List (List ℕ) → Absent → Option Selection → Type 0
+SelectsColumns mode header words absent None = IsOneAtMost words absent × (is_row header words ≡ false)
+SelectsColumns mode header words absent (Some selection) =
+    (selection.absent ≡ absent) × IsShapeOfColumns mode header words absent selection.shape
+
+-- the same of the arguments of a command, which may request a header
+pub record SelectsTable (found : Found) (absent : Absent) (selection : Option Selection) : Type 0 where
+  pub header : Bool
+  pub given : FlagIn (one_text found (codes "header")) header
+  pub selected : SelectsColumns (unwrap_or (first_value found (codes "mode")) []) header
+      (words_in found (codes "get")) absent selection
 
 -- what `map` prints: rows if a pattern of rows is given
 abbrev pub IsShapeOfRows : Found → (pattern : List ℕ) → Shape → Type 0
@@ -161,7 +186,7 @@ SelectsAny found (Some pattern) absent selection = SelectsRows found pattern abs
 -- what a command prints that offers a choice, where this is what an absent part is
 abbrev pub SelectsBy : Found → Choice → Absent → Option Selection → Type 0
 SelectsBy found choice.Parts absent selection = SelectsAny found (first_value found (codes "rows")) absent selection
-SelectsBy found choice.Columns absent selection = SelectsColumns (words_in found (codes "get")) absent selection
+SelectsBy found choice.Columns absent selection = SelectsTable found absent selection
 
 -- the selection that the arguments of a command request
 pub record Selects (found : Found) (choice : Choice) (selection : Option Selection) : Type 0 where

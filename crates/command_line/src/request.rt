@@ -119,7 +119,7 @@ pub struct RecordList {
     pub flush: bool,
     /// Whether a line says at last where the list is then, and how many records there were.
     pub report_end: bool,
-    /// Whether a line with the names of the columns comes first, where columns are printed.
+    /// Whether a line with the names of the columns comes first, if columns are printed.
     pub header: bool,
     /// Whether the limit of steps, that of all records together, grows with the file, since none is given.
     pub grows: bool,
@@ -140,6 +140,8 @@ pub struct ValueSearch {
     pub apart: bool,
     /// Whether each line is written at once.
     pub flush: bool,
+    /// Whether a line with the names of the columns comes first.
+    pub header: bool,
     /// Whether the limit of steps, that of all attempts together, grows with the number of places, since none is given.
     pub grows: bool,
 }

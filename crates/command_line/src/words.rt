@@ -22,7 +22,7 @@ ghost use Rattle.command_line.specs.Lines.{command_line};
 ghost use Rattle.command_line.specs.Selects.{IsNoPathIfAny, Selects};
 ghost use Rattle.command_line.specs.Words.{IsCheckOf, IsBareCheckOf, NamesMode, NamesModeIfAny};
 ghost use Rattle.command_line.specs.Found.{word_in, NumberIfAny, NumberIn, HasTerms, no_terms, NamesFiles, IsNoExtent, NamesOrderIfAny, NamesOrderOrBig, after_type_in, file_in};
-ghost use Rattle.command_line.specs.Found.{Asks, AsksList, AsksSearch, NamesStep, SeeksParts, SeeksSubject, asks_parts, type_in, is_raw, over_file, IsJobOf, HasHeader, IsListOver, IsSource, IsNoHeader, IsNoList, IsNoListExtent, IsNoRange, IsNoSearch, IsNoStep, IsNoBound, IsNoNumberIfAny, IsNoByteExtent};
+ghost use Rattle.command_line.specs.Found.{Asks, AsksList, AsksMappingOf, AsksRequest, AsksSearch, AsksValues, NamesStep, SeeksParts, SeeksSubject, Spools, asks_parts, type_in, is_raw, over_file, IsJobOf, HasHeader, IsListOver, IsSource, IsNoHeader, IsNoList, IsNoListExtent, IsNoRange, IsNoSearch, IsNoStep, IsNoBound, IsNoNumberIfAny, IsNoByteExtent};
 ghost use Rattle.command_line.specs.OffsetWord.{IsOffsetWord};
 ghost use Rattle.command_line.specs.Styles.{IsNoElementsIfAny};
 ghost use Rattle.text_output.specs.Styles.{plain};
@@ -45,7 +45,7 @@ use clap::error::ErrorKind;
 use commands::{ATTEMPT_LIMIT, PROGRAM, SHOWN_LEVELS, program};
 use found::{after_type, flag_of, number_if_any, number_of, type_word, word, word_if_any, word_of};
 use line::{command_line, without_help_of_help};
-use mapping::{mapping_words, shown_subject, subject_by_part, subject_of};
+use mapping::{MappingWords, mapping_words, shown_subject, subject_by_part, subject_of};
 use parser::Ties;
 use selected::{part_beside, path_if_any, selection_of};
 use shown::shown_words;
@@ -453,18 +453,41 @@ fn read_map(alloc: Global, found: &ArgMatches<'_>) -> Result<Job, WordFault>
                 file,
             },
         ),
-        (start, subject, faults) => Ok(Job::Request(Request {
-            start,
-            window: mapping.window,
-            order: mapping.order,
-            limit: mapping.limit,
-            spool,
-            terms,
-            form: Form::Printed { mode, faults },
-            progress,
-            subject,
-            over: over_file(file, raw),
-        })),
+        (_, subject, faults) => {
+            let form = Form::Printed { mode, faults };
+            let over = over_file(file, raw);
+            Ok(Job::Request(request(found, mapping, spool, terms, form, subject, over)))
+        }
+    }
+}
+
+// The request to write values of a subject over something, in a form.
+fn request(
+    found: &ArgMatches<'_>,
+    mapping: MappingWords,
+    spool: Option<u64>,
+    terms: Terms,
+    form: Form,
+    subject: Subject,
+    over: Over,
+) -> Request
+    requires mapping { AsksMappingOf (found_of found.now) mapping }
+    requires spools { Spools (found_of found.now) spool }
+    requires values { AsksValues (found_of found.now) terms form subject over }
+    ensures asks { AsksRequest (found_of found.now) result }
+    ensures is { (result.form ≡ form) × (result.over ≡ over) }
+{
+    Request {
+        start: mapping.start,
+        window: mapping.window,
+        order: mapping.order,
+        limit: mapping.limit,
+        spool,
+        terms,
+        form,
+        progress: flag_of(found, "progress"),
+        subject,
+        over,
     }
 }
 
@@ -532,23 +555,14 @@ fn read_show(alloc: Global, found: &ArgMatches<'_>) -> Result<Job, WordFault>
     let file = file_of(alloc, found)?;
     let subject = shown_subject(alloc, found)?;
     let mapping = mapping_words(alloc, found)?;
-    Ok(Job::Request(Request {
-        start: mapping.start,
-        window: mapping.window,
-        order: mapping.order,
-        limit: mapping.limit,
-        spool,
-        terms,
-        form: Form::Shown {
-            color: color_of(word(found, "color")),
-            depth,
-            numbers: numbers_if_any(found),
-            beside: beside_of(found),
-        },
-        progress: flag_of(found, "progress"),
-        subject,
-        over: Over::File(file),
-    }))
+    let form = Form::Shown {
+        color: color_of(word(found, "color")),
+        depth,
+        numbers: numbers_if_any(found),
+        beside: beside_of(found),
+    };
+    let over = Over::File(file);
+    Ok(Job::Request(request(found, mapping, spool, terms, form, subject, over)))
 }
 
 fn read_each(alloc: Global, found: &ArgMatches<'_>) -> Result<Job, WordFault>
@@ -563,24 +577,15 @@ fn read_each(alloc: Global, found: &ArgMatches<'_>) -> Result<Job, WordFault>
     let names = names_in(alloc, found)?;
     let subject = subject_of(alloc, found, found.get_str("TYPE"))?;
     let mapping = mapping_words(alloc, found)?;
-    Ok(Job::Request(Request {
-        start: mapping.start,
-        window: mapping.window,
-        order: mapping.order,
-        limit: mapping.limit,
-        spool,
-        terms,
-        form: Form::Printed {
-            mode: mode_of(word(found, "mode")),
-            faults: faults_of(word(found, "faults")),
-        },
-        progress: flag_of(found, "progress"),
-        subject,
-        over: Over::Files {
-            names,
-            flush: flag_of(found, "flush"),
-        },
-    }))
+    let over = Over::Files {
+        names,
+        flush: flag_of(found, "flush"),
+    };
+    let form = Form::Printed {
+        mode: mode_of(word(found, "mode")),
+        faults: faults_of(word(found, "faults")),
+    };
+    Ok(Job::Request(request(found, mapping, spool, terms, form, subject, over)))
 }
 
 fn read_records(alloc: Global, found: &ArgMatches<'_>) -> Result<Job, WordFault>
@@ -596,21 +601,11 @@ fn read_records(alloc: Global, found: &ArgMatches<'_>) -> Result<Job, WordFault>
     let name = type_word(found, "FILE");
     let subject = subject_by_part(alloc, found, name, HeadType::Records)?;
     let mapping = mapping_words(alloc, found)?;
-    Ok(Job::Request(Request {
-        start: mapping.start,
-        window: mapping.window,
-        order: mapping.order,
-        limit: mapping.limit,
-        spool,
-        terms,
-        form: Form::Printed {
-            mode: mode_of(word(found, "mode")),
-            faults: faults_of(word(found, "faults")),
-        },
-        progress: flag_of(found, "progress"),
-        subject,
-        over,
-    }))
+    let form = Form::Printed {
+        mode: mode_of(word(found, "mode")),
+        faults: faults_of(word(found, "faults")),
+    };
+    Ok(Job::Request(request(found, mapping, spool, terms, form, subject, over)))
 }
 
 // The records of a list in a file.
@@ -686,21 +681,12 @@ fn read_find(alloc: Global, found: &ArgMatches<'_>) -> Result<Job, WordFault>
     let file = file_of(alloc, found)?;
     let subject = found_subject(alloc, found, &terms)?;
     let mapping = mapping_words(alloc, found)?;
-    Ok(Job::Request(Request {
-        start: mapping.start,
-        window: mapping.window,
-        order: mapping.order,
-        limit: mapping.limit,
-        spool,
-        terms,
-        form: Form::Printed {
-            mode: mode_of(word(found, "mode")),
-            faults: faults_of(word(found, "faults")),
-        },
-        progress: flag_of(found, "progress"),
-        subject,
-        over: Over::Search { file, search },
-    }))
+    let over = Over::Search { file, search };
+    let form = Form::Printed {
+        mode: mode_of(word(found, "mode")),
+        faults: faults_of(word(found, "faults")),
+    };
+    Ok(Job::Request(request(found, mapping, spool, terms, form, subject, over)))
 }
 
 // What is looked for: a type, or if one argument alone is the file, all formats, whose values have no parts in common.
@@ -745,6 +731,7 @@ fn search_of(alloc: Global, found: &ArgMatches<'_>) -> Result<ValueSearch, WordF
         count: number_if_any(alloc, found, "count", "--count <N>")?,
         apart: flag_of(found, "apart"),
         flush: flag_of(found, "flush"),
+        header: header_of(alloc, found)?,
         grows: found.get_str("limit").is_none(),
     })
 }

@@ -1,5 +1,5 @@
 -- What standard output holds where installed pickles aren't formats.
-use Rattle.std.proofs.Common.{◌≡◌, inl, inr, ℕ, List, [], Option, Some, Ok, sym, subst}
+use Rattle.std.proofs.Common.{◌≡◌, inl, inr, ℕ, List, [], Option, Some, sym, subst}
 use Rattle.std.specs.Io.KnownBytes.{Keeps}
 use Rattle.identification.specs.declared.format.Formats.{Formats}
 use Rattle.jobs.specs.Due.{End, Holds}

@@ -7,7 +7,7 @@ use Rattle.command_line.specs.declared.request.Request.{Request}
 use Rattle.command_line.specs.declared.request.ValueSearch.{ValueSearch}
 use Rattle.identification.specs.declared.format.Formats.{Formats}
 use Rattle.jobs.specs.Due.{Holds, early, whole}
-use Rattle.jobs.specs.Hunted.{DueHunt, IsHuntOf, all_found, first_found}
+use Rattle.jobs.specs.Hunted.{DueFound, IsHuntOf, all_found, first_found}
 use Rattle.jobs.specs.declared.ending.Ending.TheVariants.{Run}
 use Rattle.jobs.proofs.Holding.{upto_next}
 use Rattle.run_parts.specs.Told.{AppendsUpTo}
@@ -19,7 +19,7 @@ use Rattle.searches.specs.declared.search.Reach.{Reach}
 pub hunt_holds : (request : Request) (search : ValueSearch) (formats : Formats) (start : ℕ) (file after : SpaceView)
     (hunt : Hunt) (at : Reach) (ended : Outcome) (out out' : Option (List ℕ))
     → IsHuntOf request search formats start (8 * file.len) hunt → WritesTypes hunt file after out out' at ended
-    → Holds (DueHunt request search formats start file after) out out' (Ok (Run ended))
+    → Holds (DueFound request search formats start file after) out out' (Ok (Run ended))
 hunt_holds request search formats start file after hunt at ended out out' is
     (writes_all {text = text} rounds ends appends) =
     whole (all_found is rounds ends) (subst (λ text. Appends out out' text) (sym (append-nil text)) appends)

@@ -1,13 +1,11 @@
 -- What standard output holds of a list inside a value.
-use Rattle.std.proofs.Common.{◌≡◌, ◌≢◌, ◌∙◌, ℕ, Bool, true, false, List, [], ◌∷◌, ◌++◌, Option, Some, None, Ok, sym, ap, subst, refl}
-use Rattle.std.specs.Prelude.{option_copied, option_map, unwrap_or, is_some, not, ◌&&◌}
+use Rattle.std.proofs.Common.{◌≡◌, ◌≢◌, ◌∙◌, ℕ, Bool, true, false, List, [], Option, Some, None, Ok, sym, ap, subst, refl}
+use Rattle.std.specs.Prelude.{option_copied, option_map, unwrap_or, not}
 use Rattle.std.specs.Borrow.{Bor}
 use Rattle.std.specs.List.{concat}
-use Rattle.std.specs.Io.KnownBytes.{Appends}
 use Rattle.std.proofs.lemmas.List.Folds.{concat-append}
 use Rattle.bit_space.specs.SpaceView.{SpaceView}
 use Rattle.command_line.specs.Paths.{IsPath, PathStep, steps_of}
-use Rattle.command_line.specs.declared.path.Path.{Path}
 use Rattle.command_line.specs.declared.request.RecordList.{RecordList}
 use Rattle.inner_records.specs.Elements.{EndsElements, IsElement}
 use Rattle.inner_records.specs.Find.{fields_in}
@@ -25,7 +23,7 @@ use Rattle.run_parts.specs.declared.outcome.Outcome.{Outcome}
 use Rattle.run_parts.specs.declared.outcome.Outcome.TheVariants as outcome
 use Rattle.jobs.specs.Chosen.{list_path}
 use Rattle.jobs.specs.Due.{Holds, early, whole}
-use Rattle.jobs.specs.Tasks.{DueElements, IsHeadPath, LacksHeadPath, all_elements, first_elements, listing_of, no_elements, unsaid}
+use Rattle.jobs.specs.Tasks.{DueElements, LacksHeadPath, all_elements, first_elements, listing_of, no_elements, unsaid}
 use Rattle.jobs.specs.declared.ending.Ending.TheVariants.{Run}
 use Rattle.jobs.proofs.Holding.{no_text, upto_next}
 

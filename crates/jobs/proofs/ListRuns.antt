@@ -1,5 +1,5 @@
 -- The lines of the names of a list, one name after another.
-use Rattle.std.proofs.Common.{◌≡◌, ◌<◌, ℕ, List, [], ◌∷◌, ◌++◌, Option, Some, None, Ok, Err, length, length-append, refl, sym, subst, arith}
+use Rattle.std.proofs.Common.{◌<◌, ℕ, List, ◌++◌, Option, None, Ok, Err, length, length-append, refl, sym, subst, arith}
 use Rattle.std.proofs.KnownBytes.{Appends-trans}
 use Rattle.std.specs.Io.KnownBytes.{Appends}
 use Rattle.std.specs.List.{concat}

@@ -6,11 +6,10 @@ use Rattle.std.proofs.lemmas.List.Elements.{All-nil, All-push}
 use Rattle.std.specs.Io.KnownBytes.{Appends, Consumes, IsAtEnd, Keeps}
 use Rattle.jobs.specs.Every.{run_text}
 use Rattle.jobs.specs.Files.{AppendsRun, CutsRun, EndsBy, Every, WritesRun}
-use Rattle.jobs.specs.LongNames.{CopiesRest, CutsLong, CutsRest, IsRead, before_name, end_of_name, name_part, rest_failure}
+use Rattle.jobs.specs.LongNames.{CopiesRest, CutsLong, CutsRest, before_name, end_of_name, name_part}
 use Rattle.jobs.specs.Names.{BeginsName}
 use Rattle.jobs.specs.declared.file_run.FileForm.{FileForm}
 use Rattle.jobs.specs.declared.file_run.FileForm.TheVariants.{Line, Object}
-use Rattle.jobs.specs.declared.long_name.Rest.{Rest}
 use Rattle.jobs.specs.declared.long_name.Rest.TheVariants.{Ended, Unread}
 use Rattle.jobs.proofs.FilesWritten.{text_formed}
 use Rattle.jobs.proofs.Holding.{upto_next, upto_part, upto_whole}

@@ -1,5 +1,5 @@
 -- What standard output holds of the records of a list.
-use Rattle.std.proofs.Common.{ℕ, List, ◌++◌, Option, Ok, sym, subst}
+use Rattle.std.proofs.Common.{ℕ, List, Option, Ok, sym, subst}
 use Rattle.std.proofs.lemmas.List.Folds.{concat-append}
 use Rattle.std.specs.List.{concat}
 use Rattle.bit_space.specs.SpaceView.{SpaceView}

@@ -1,5 +1,5 @@
 -- What is written about many files, by what their runs are given.
-use Rattle.std.specs.Prelude.{ℕ, List, [], Option}
+use Rattle.std.specs.Prelude.{ℕ, List, Option}
 use Rattle.jobs.specs.Gives.{Gives}
 use Rattle.jobs.specs.Files.{Every, AppendsRun, CutsRun, IdentifiesFrom, Mapped, MapsFrom, RunsFile}
 use Rattle.jobs.specs.Aims.{aim_of}

@@ -1,5 +1,5 @@
 -- What jobs give to their runs, and what these write.
-use Rattle.std.specs.Prelude.{◌≡◌, ◌≤◌, Bool, ℕ, List, Option, Some, Result, Ok, Err, String, option_map, string_bytes}
+use Rattle.std.specs.Prelude.{◌≡◌, ◌≤◌, Bool, ℕ, List, Option, Result, Ok, Err, String, option_map, string_bytes}
 use Rattle.std.specs.Borrow.{Bor}
 use Rattle.std.specs.declared.alloc.Global.{Global}
 use Rattle.std.specs.Io.KnownBytes.{Appends, Keeps}
@@ -21,7 +21,6 @@ use Rattle.jobs.specs.Spaces.{DueSpace, MayShow}
 use Rattle.jobs.specs.declared.dumps.Range.{Range}
 use Rattle.jobs.specs.declared.ending.Ending.{Ending}
 use Rattle.jobs.specs.declared.ending.Ending.TheVariants.{Run, Silent}
-use Rattle.jobs.specs.declared.fault.FileFault.{FileFault}
 use Rattle.jobs.specs.declared.fault.FileFault.TheVariants as fault
 use Rattle.jobs.specs.declared.names.ListFault.{ListFault}
 use Rattle.jobs.specs.declared.pickles.Question.{Question}

@@ -11,10 +11,11 @@ use Rattle.command_line.specs.declared.request.ValueSearch.{ValueSearch}
 use Rattle.identification.specs.declared.format.Format.{Format}
 use Rattle.identification.specs.declared.format.Formats.{Formats}
 use Rattle.jobs.specs.Aims.{IsAskAt, of_type}
-use Rattle.jobs.specs.Due.{End, Holds}
+use Rattle.jobs.specs.Due.{DueAfter, End, Holds}
 use Rattle.jobs.specs.Gives.{Gives, InstalledPickle}
 use Rattle.jobs.specs.Growth.{grow_limit, places_in}
 use Rattle.jobs.specs.Installed.{DueAmong}
+use Rattle.jobs.specs.PlaceNames.{place_names_due}
 use Rattle.jobs.specs.Tasks.{search_of}
 use Rattle.jobs.specs.declared.ending.Ending.TheVariants.{Run}
 use Rattle.jobs.specs.declared.fault.FileFault.{FileFault}
@@ -104,16 +105,25 @@ pub record IsHuntOf (request : Request) (search : ValueSearch) (formats : Format
   pub terms : hunt.terms.now ≡ request.terms
   pub searches : hunt.search ≡ search_of search
 
--- of what is seen of a file, from its view before to its view after
-pub data DueHunt (request : Request) (search : ValueSearch) (formats : Formats) (start : ℕ) (file after : SpaceView) :
+-- of the places in what is seen of a file, from its view before to its view after
+pub data DueFound (request : Request) (search : ValueSearch) (formats : Formats) (start : ℕ) (file after : SpaceView) :
     (lines : List (List ℕ)) → Option End → Type 0 where
   all_found : {hunt : Hunt} {at : Reach} {places text : List ℕ} {ended : Outcome}
       → IsHuntOf request search formats start (8 * file.len) hunt → Rounds hunt file at places text
       → EndsRounds hunt file after at places ended
-      → DueHunt request search formats start file after (text ∷ []) (Some (Ok (Run ended)))
+      → DueFound request search formats start file after (text ∷ []) (Some (Ok (Run ended)))
   first_found : {hunt : Hunt} {at : Reach} {places text : List ℕ}
       → IsHuntOf request search formats start (8 * file.len) hunt → Rounds hunt file at places text
-      → DueHunt request search formats start file after (text ∷ []) None
+      → DueFound request search formats start file after (text ∷ []) None
+  only_names : DueFound request search formats start file after [] None
+
+-- the same after the names of the columns; nothing if memory doesn't suffice for the types
+pub data DueHunt (request : Request) (search : ValueSearch) (formats : Formats) (start : ℕ) (file after : SpaceView) :
+    (lines : List (List ℕ)) → Option End → Type 0 where
+  found_due : {lines : List (List ℕ)} {end : Option End}
+      → DueAfter (place_names_due search true request.terms)
+      (DueFound request search formats start file after) lines end
+      → DueHunt request search formats start file after lines end
   no_list : DueHunt request search formats start file after [] (Some (Ok (Run (outcome.Failed failure.Memory))))
 
 -- that of a run over a space; the view at the run's end has no more failures

@@ -1,5 +1,5 @@
 -- What each job is due to write to standard output, and how it ends then, by what an opener gives for its arguments.
-use Rattle.std.specs.Prelude.{◌≡◌, ◌≢◌, ◌<◌, ℕ, Bool, true, List, [], ◌∷◌, ◌++◌, Option, Some, None, IsSome, Result, Ok, Err, String, length, codes, string_bytes}
+use Rattle.std.specs.Prelude.{◌≡◌, ◌≢◌, ◌<◌, ℕ, Bool, true, List, [], ◌∷◌, ◌++◌, Option, Some, None, Ok, Err, String, length, codes, string_bytes}
 use Rattle.std.specs.Io.KnownBytes.{Keeps}
 use Rattle.std.specs.declared.alloc.Global.{Global}
 use Rattle.bit_space.specs.SpaceView.{HasRisen, SpaceView}
@@ -15,8 +15,6 @@ use Rattle.command_line.specs.declared.request.FileNames.TheVariants.{Words, End
 use Rattle.command_line.specs.declared.request.Over.{Over}
 use Rattle.command_line.specs.declared.request.Over.TheVariants.{Bytes, File, Files, Records, Search}
 use Rattle.command_line.specs.declared.request.Request.{Request}
-use Rattle.command_line.specs.declared.terms.Terms.{Terms}
-use Rattle.command_line.specs.declared.words.Asked.{Asked}
 use Rattle.command_line.specs.declared.words.Job.{Job}
 use Rattle.command_line.specs.declared.words.Job.TheVariants as job
 use Rattle.jobs.specs.Aims.{IsAskOf, Requested, of_request, plain_request}
@@ -33,7 +31,6 @@ use Rattle.jobs.specs.Hunted.{DueHuntedFile}
 use Rattle.jobs.specs.Identified.{DueIdentifiedFile}
 use Rattle.jobs.specs.Spaces.{DueSpace}
 use Rattle.jobs.specs.Lines.{StopsList, StopsWords, WritesList, WritesWords}
-use Rattle.jobs.specs.declared.ending.Ending.{Ending}
 use Rattle.jobs.specs.declared.ending.Ending.TheVariants.{Run, Silent}
 use Rattle.jobs.specs.declared.fault.FileFault.{FileFault}
 use Rattle.jobs.specs.declared.fault.FileFault.TheVariants as fault
@@ -43,7 +40,7 @@ use Rattle.poke_batch.specs.FileObject.{lines_json, text_lines}
 use Rattle.pickle_types.specs.Types.{PokeType}
 use Rattle.part_lists.specs.PartRuns.{PartsAs}
 use Rattle.poke_batch.specs.Runs.{ChecksAs, BoundsAs, IsAsked}
-use Rattle.poke_batch.specs.RunsUnder.{HasNoRun, MapsRequested}
+use Rattle.poke_batch.specs.RunsUnder.{HasNoRun}
 use Rattle.type_parts.specs.CanHave.{can_have_requested}
 use Rattle.run_parts.specs.Accepted.{Refuses}
 use Rattle.run_parts.specs.DumpText.{dump_text}
@@ -57,7 +54,7 @@ use Rattle.run_parts.specs.declared.outcome.Failure.TheVariants as failure
 use Rattle.run_parts.specs.declared.outcome.Outcome.{Outcome}
 use Rattle.run_parts.specs.declared.outcome.Outcome.TheVariants as outcome
 use Rattle.run_parts.specs.declared.status.Status.{Status}
-use Rattle.run_parts.specs.declared.status.Status.TheVariants.{Done, Fault, Refused}
+use Rattle.run_parts.specs.declared.status.Status.TheVariants.{Done, Refused}
 use Rattle.text_bounds.specs.TextRuns.{TextBoundsAs}
 use Rattle.tight_bounds.specs.TightRuns.{TightBoundsAs}
 use Rattle.text_output.specs.declared.mode.Mode.{Mode}

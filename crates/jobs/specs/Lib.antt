@@ -11,6 +11,7 @@ pub mod Installed
 pub mod Formats
 pub mod Spaces
 pub mod Growth
+pub mod PlaceNames
 pub mod Tasks
 pub mod Hunted
 pub mod Identified

@@ -1,5 +1,5 @@
 -- The line of a name of a list that is too long to be opened: it is written as the name is read.
-use Rattle.std.specs.Prelude.{◌≡◌, ◌<◌, ℕ, List, [], ◌++◌, Option, codes, length}
+use Rattle.std.specs.Prelude.{ℕ, List, [], ◌++◌, Option, codes}
 use Rattle.std.specs.Io.KnownBytes.{Appends}
 use Rattle.jobs.specs.Files.{AppendsRun, CutsRun, EndsBy, Every}
 use Rattle.jobs.specs.Names.{BeginsName, IsRestOfName}

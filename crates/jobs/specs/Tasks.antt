@@ -20,6 +20,7 @@ use Rattle.jobs.specs.Due.{DueAfter, End, Holds}
 use Rattle.jobs.specs.Gives.{Gives}
 use Rattle.jobs.specs.Chosen.{list_path}
 use Rattle.jobs.specs.Growth.{bytes_from, grow_limit, places_in}
+use Rattle.jobs.specs.PlaceNames.{place_names_due}
 use Rattle.jobs.specs.declared.ending.Ending.TheVariants.{Run}
 use Rattle.jobs.specs.declared.fault.FileFault.{FileFault}
 use Rattle.jobs.specs.declared.fault.FileFault.TheVariants as fault
@@ -189,7 +190,8 @@ abbrev pub DueOf : (pickle : List ℕ) → TypeRun → Task → (file after : Sp
     Option End → Type 0
 DueOf pickle run (task.List of list) = λ file after. DueRecords pickle run list file after of.now
 DueOf pickle run task.Copy = DueCopy pickle run
-DueOf pickle run (task.Search search faults) = DueSearch run search
+DueOf pickle run (task.Search search faults) = λ file after.
+    DueAfter (place_names_due search false run.terms.now) (DueSearch run search file after)
 
 -- a run is of a type that a pickle has under the requested name
 abbrev pub IsRunOf : (pickle : List ℕ) → TypeRun → Type 0

@@ -14,6 +14,7 @@ use crate::growth::{grow_limit, places_in};
 use crate::installed::formats_among;
 use crate::one_file::tell_start;
 use crate::opener::Opener;
+use crate::place_names::write_place_names;
 use crate::settings::Mapping;
 use crate::usage::end_formatless;
 use crate::value_search::{search_of, tell_given_up};
@@ -23,6 +24,7 @@ use command_line::request::{Request, ValueSearch};
 use identification::{Format, Formats};
 use poke_batch::ask::Ask;
 use poke_batch::outcome::{Failure, Outcome};
+use poke_batch::write::WriteFault;
 use searches::{Sought, search_types};
 use spool::Window;
 use std::alloc::{AllocError, Global};
@@ -93,6 +95,10 @@ fn hunt_space<S: Space, O: Write>(
     let Ok(list) = sought_among(alloc, formats, request.order) else {
         return Outcome::Failed(Failure::Memory);
     };
+    match write_place_names(search, true, &request.terms, out) {
+        Ok(()) => {}
+        Err(WriteFault) => return Outcome::Failed(Failure::Write),
+    }
     let ask = &hunt_ask(request, search, list.len(), start, 8 * space.len());
     let terms = &request.terms;
     let searched = search_types(alloc, &list, ask, terms, search_of(search), space, out);

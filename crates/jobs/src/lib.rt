@@ -26,6 +26,7 @@ pub mod one_file;
 pub mod opener;
 mod part_copy;
 mod pickles;
+mod place_names;
 mod record_list;
 pub mod run;
 pub mod settings;

@@ -4,12 +4,14 @@ ghost use Rattle.bit_space.specs.SpaceView.{Keeps};
 ghost use Rattle.jobs.specs.Tasks.{SearchesSpace, search_of};
 
 use crate::one_file::tell;
+use crate::place_names::write_place_names;
 use crate::why::Why;
 use bit_space::Space;
 use command_line::fault_form::FaultForm;
 use command_line::request::ValueSearch;
-use poke_batch::outcome::Outcome;
+use poke_batch::outcome::{Failure, Outcome};
 use poke_batch::type_run::TypeRun;
+use poke_batch::write::WriteFault;
 use searches::{GivenUp, Search, Searched, search_values};
 use std::alloc::Global;
 use std::io::Write;
@@ -28,6 +30,10 @@ pub fn search_run<S: Space, O: Write>(
         (O.contents out.old) (O.contents out.new) result }
     ensures keeps { Keeps (S.view space.old) (S.view space.new) }
 {
+    match write_place_names(search, false, run.terms, out) {
+        Ok(()) => {}
+        Err(WriteFault) => return Outcome::Failed(Failure::Write),
+    }
     let searched = search_values(run, search_of(search), space, out);
     tell_given_up(run.alloc, searched, faults, why);
     tell_lacking(run.alloc, searched, why);

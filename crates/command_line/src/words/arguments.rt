@@ -400,6 +400,14 @@ const MAPPING: &[Argument] = &[
         help: "How far each start is from the one before",
         ..OPTION
     },
+    // Print the names of the columns first: `at` and `size`, with a FILE alone `format` and `endian`, and those of `--get`.
+    Argument {
+        of: &["find"],
+        name: "header",
+        is_rare: true,
+        help: "Print the names of the columns first [default: no]",
+        ..FLAG
+    },
     // After a value go on at the first start that is at or after its end.
     Argument {
         of: &["find"],

@@ -18,6 +18,7 @@ Options of find:
   --get PATH       print a part of the value after its place and size: . or steps of .name, .place, [place]
                    [default: none]
   --step OFFSET    how far each start is from the one before [default: 1#B]
+  --header         print the names of the columns first [default: no]
   --apart          after a value go on at or after its end [default: at the next start]
   --count N        stop after the lines of N values [default: at the end of FILE]
   --attempt-limit N  the most steps of the attempt at one start [default: 1000000]

@@ -4,7 +4,7 @@ ghost use Rattle.clap.specs.Matches.{found_of, first_value};
 ghost use Rattle.command_line.specs.Paths.{steps_of, IsPath};
 ghost use Rattle.command_line.specs.Patterns.{parts_of, IsPattern};
 ghost use Rattle.command_line.specs.Misread.{FailsFor, AnyWord, IsNoPattern, IsNoOnePath, IsNoColumn, MisreadSelection, MisreadColumns, MisreadRows};
-ghost use Rattle.command_line.specs.Selects.{IsNoPath, IsNoPathIfAny, PathIfAny, NamesAbsent, ArePatterns, AreColumns, IsOnePath, NamesRows, SelectsParts, IsRowOf, SelectsColumns, Selects, PartBeside, HasRows, IsColumn, begins_path, column_name, column_path, is_named, is_one_path, is_row};
+ghost use Rattle.command_line.specs.Selects.{IsNoPath, IsNoPathIfAny, PathIfAny, NamesAbsent, ArePatterns, AreColumns, IsOnePath, NamesRows, SelectsParts, IsRowOf, SelectsColumns, Selects, PartBeside, HasKeys, HasRows, IsColumn, are_distinct, begins_path, column_name, column_path, is_among, is_named, is_one_path, is_row};
 ghost use Rattle.command_line.specs.declared.words.WordFault.TheVariants.{Offset};
 
 use crate::path::{Path, PathFault, read_path};
@@ -23,6 +23,10 @@ const ROWS: &str = "--rows <PATTERN>";
 
 /// What is wrong with an argument that is no path.
 const NO_PATH: &str = "not a path";
+
+/// The usage error for two columns of one name in JSON.
+const SAME_NAME: &str =
+    "error: two columns have one name, and json has each once: --get <NAME=PATH> names one\n\nFor more information, try '--help'.\n";
 
 /// The selection that the options request, if they request more than one part at most.
 pub fn selection_of(
@@ -44,7 +48,10 @@ pub fn selection_of(
             })),
             None => parts_of(alloc, words, absent),
         },
-        Choice::Columns => columns_selection(alloc, words, absent),
+        Choice::Columns => {
+            let header = flag_of(found, "header");
+            columns_selection(alloc, word(found, "mode"), header, words, absent)
+        }
     }
 }
 
@@ -120,18 +127,20 @@ fn is_one_path(patterns: &[Pattern]) -> bool
     }
 }
 
-// The columns of the value itself, which the arguments say. One alone that has no name is a part.
+// The columns of the value itself, which the arguments say. One alone that has no name and no header is a part.
 fn columns_selection(
     alloc: Global,
+    mode: &str,
+    header: bool,
     words: &[&str],
     absent: Absent,
 ) -> Result<Option<Selection>, WordFault>
-    ensures ok { IfOk result (SelectsColumns (map (λ word. word.now) words.now) absent) }
+    ensures ok { IfOk result (SelectsColumns mode.now header (map (λ word. word.now) words.now) absent) }
     ensures fault { IfErr result (λ fault. fault ≢ Offset) }
-    ensures misread { IfErr result (FailsFor (MisreadColumns (map (λ word. word.now) words.now)) ⊥) }
+    ensures misread { IfErr result (FailsFor (MisreadColumns mode.now (map (λ word. word.now) words.now)) ⊥) }
 {
-    if is_row(words) {
-        return Ok(Some(row_of(alloc, words, absent)?));
+    if is_row(header, words) {
+        return Ok(Some(row_of(alloc, mode, words, absent)?));
     }
     match (words, absent) {
         ([word], Absent::Empty) => Ok(Some(Selection {
@@ -142,28 +151,30 @@ fn columns_selection(
     }
 }
 
-// Whether a row is printed, in place of one part: of many columns, or of one that has a name.
-fn is_row(words: &[&str]) -> bool
-    ensures { result ≡ is_row (map (λ word. word.now) words.now) }
+// Whether a row is printed, in place of one part: of many columns, or of one that has a name or is below a header.
+fn is_row(header: bool, words: &[&str]) -> bool
+    ensures { result ≡ is_row header (map (λ word. word.now) words.now) }
 {
     match words {
         [] => false,
-        [word] => is_named(word),
+        [word] => header || is_named(word),
         _ => true,
     }
 }
 
 // One row, the value itself, with the columns that the arguments say.
-fn row_of(alloc: Global, words: &[&str], absent: Absent) -> Result<Selection, WordFault>
+fn row_of(alloc: Global, mode: &str, words: &[&str], absent: Absent) -> Result<Selection, WordFault>
     ensures ok { IfOk result (IsRowOf (map (λ word. word.now) words.now) absent) }
+    ensures keys { IfOk result (λ row. HasKeys mode.now (map (λ word. word.now) words.now)) }
     ensures fault { IfErr result (λ fault. fault ≢ Offset) }
-    ensures misread { IfErr result (FailsFor (MisreadColumns (map (λ word. word.now) words.now)) ⊥) }
+    ensures misread { IfErr result (FailsFor (MisreadColumns mode.now (map (λ word. word.now) words.now)) ⊥) }
 {
     let rows = Rows {
         pattern: Pattern::root(alloc),
         columns: columns_of(alloc, words)?,
         header: false,
     };
+    check_names(alloc, mode, words)?;
     Ok(Selection {
         shape: Shape::Rows(rows),
         absent,
@@ -197,11 +208,56 @@ fn rows_of(
 {
     let header = flag_of(found, "header");
     check_mode(alloc, word(found, "mode"), header)?;
+    let pattern = pattern_of(alloc, pattern, ROWS, "not a pattern")?;
+    let columns = columns_of(alloc, words)?;
+    check_names(alloc, word(found, "mode"), words)?;
     Ok(Rows {
-        pattern: pattern_of(alloc, pattern, ROWS, "not a pattern")?,
-        columns: columns_of(alloc, words)?,
+        pattern,
+        columns,
         header,
     })
+}
+
+// Refuses two columns of one name in JSON.
+fn check_names(alloc: Global, mode: &str, words: &[&str]) -> Result<(), WordFault>
+    ensures ok { OnOk result (HasKeys mode.now (map (λ word. word.now) words.now)) }
+    ensures fault { IfErr result (λ fault. fault ≢ Offset) }
+    ensures misread { IfErr result (FailsFor (¬ (HasKeys mode.now (map (λ word. word.now) words.now))) ⊥) }
+{
+    if mode != "json" || are_distinct(words) {
+        return Ok(());
+    }
+    Err(WordFault::Usage(String::from_str(alloc, SAME_NAME)?))
+}
+
+// Whether no two arguments say columns of one name.
+fn are_distinct(words: &[&str]) -> bool
+    ensures { result ≡ are_distinct (map (λ word. word.now) words.now) }
+{
+    let mut rest = words;
+    while let [word, others @ ..] = rest {
+        if is_among(word, others) {
+            return false;
+        }
+        rest = others;
+    }
+    true
+}
+
+// Whether an argument says a column that has the name of one of others.
+fn is_among(word: &str, others: &[&str]) -> bool
+    ensures { result ≡ is_among word.now (map (λ other. other.now) others.now) }
+{
+    let (name, _) = split_column(word);
+    let mut rest = others;
+    while let [other, more @ ..] = rest {
+        let (others_name, _) = split_column(other);
+        if name == others_name {
+            return true;
+        }
+        rest = more;
+    }
+    false
 }
 
 // Refuses a mode that has no rows, or no header.

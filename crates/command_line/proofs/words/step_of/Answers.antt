@@ -1,4 +1,4 @@
-use Rattle.std.proofs.Common.{codes, subst}
+use Rattle.std.proofs.Common.{subst}
 use Rattle.std.proofs.lemmas.Result.{err_from_is_err_and}
 use Rattle.command_line.specs.OffsetWord.{IsNoOffset}
 use Rattle.command_line.proofs.words.step_of.Goals as goal

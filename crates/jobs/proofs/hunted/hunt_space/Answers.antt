@@ -1,8 +1,8 @@
 use Rattle.std.proofs.Common.{◌≡◌, ◌∙◌, ◌*◌, ℕ, List, length, map, refl, sym, subst, arith}
 use Rattle.std.proofs.KnownBytes.{Keeps-refl}
 use Rattle.std.specs.List.{flat_map}
-use Rattle.jobs.specs.Hunted.{IsHuntAsk, no_list, quarries_in, quarry_of}
-use Rattle.jobs.proofs.Holding.{no_text}
+use Rattle.jobs.specs.Hunted.{IsHuntAsk, found_due, no_list, only_names, quarries_in, quarry_of}
+use Rattle.jobs.proofs.Holding.{holds_cut, holds_more, holds_next, no_text}
 use Rattle.jobs.proofs.Hunts.{hunt_holds}
 use Rattle.searches.specs.declared.sought.Sought.{Sought}
 use Rattle.jobs.proofs.hunted.hunt_space.Goals as goal
@@ -14,6 +14,13 @@ returns-in_default-clause-hunts g c = record {
   holds = no_text _ _ _ _ no_list (Keeps-refl _);
 }
 
+pub returns-in-Err-clause-hunts : goal.returns-in-Err-clause-hunts
+returns-in-Err-clause-hunts g c = record {
+  after = g.S.Space.view c.args.space.now;
+  failures = omega arith;
+  holds = holds_more _ _ _ _ _ (λ lines end due. found_due due) (holds_cut _ _ _ _ only_names c.in-Err.ensures.err);
+}
+
 pub returns-clause-hunts : goal.returns-clause-hunts
 returns-clause-hunts g c =
     let request = c.args.request.now in
@@ -23,7 +30,9 @@ returns-clause-hunts g c =
     record {
       after = g.S.Space.view c.search_types-searched.new.space;
       failures = omega arith;
-      holds = hunt_holds request c.args.search c.args.formats.now c.args.start file _ _ _ _ _ _
+      holds = holds_more _ _ _ _ _ (λ lines end due. found_due due)
+          (holds_next _ _ _ _ _ _ c.in-Ok-write_place_names.ensures.ok
+          (hunt_holds request c.args.search c.args.formats.now c.args.start file _ _ _ _ _ _
           (record {
             types = subst
                 (λ (items : List Sought). map quarry_of items
@@ -38,5 +47,5 @@ returns-clause-hunts g c =
             terms = refl;
             searches = c.search_of.ensures;
           })
-          c.search_types-searched.ensures.writes;
+          c.search_types-searched.ensures.writes));
     }

@@ -1,9 +1,9 @@
-use Rattle.std.proofs.Common.{◌≡◌, Ok, map, inl, inr, sym, subst}
+use Rattle.std.proofs.Common.{◌≡◌, Ok, map, sym, subst}
 use Rattle.std.proofs.KnownBytes.{Keeps-refl}
 use Rattle.std.proofs.lemmas.Result.{err_from_is_err_and}
 use Rattle.bit_space.specs.SpaceView.{HasRisen}
 use Rattle.jobs.specs.Due.{Holds}
-use Rattle.jobs.specs.Identified.{DueSeen, DueSeenFile, many_files, many_unwritten, no_pages, seen_due, starts_nowhere, unopened}
+use Rattle.jobs.specs.Identified.{DueSeen, no_pages, seen_due, starts_nowhere, unopened}
 use Rattle.jobs.specs.Installed.{installed_pickle}
 use Rattle.jobs.specs.declared.ending.Ending.TheVariants.{Run}
 use Rattle.jobs.proofs.Holding.{holds_more, no_text}

@@ -1,4 +1,4 @@
-use Rattle.std.proofs.Common.{None, Ok, map}
+use Rattle.std.proofs.Common.{None, map}
 use Rattle.std.proofs.KnownBytes.{Keeps-refl}
 use Rattle.std.proofs.lemmas.Result.{err_from_is_err_and}
 use Rattle.jobs.specs.Identified.{DueSeenFile}

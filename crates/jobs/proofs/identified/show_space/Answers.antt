@@ -1,9 +1,8 @@
-use Rattle.std.proofs.Common.{◌≡◌, ◌∷◌, Ok, arith, map, refl, sym, subst}
+use Rattle.std.proofs.Common.{Ok, arith, sym, subst}
 use Rattle.std.proofs.KnownBytes.{Keeps-refl}
 use Rattle.bit_space.specs.Bits.{bits_of}
-use Rattle.bit_space.specs.SpaceView.{Keeps}
 use Rattle.identification.specs.Fits.{IsIdentified}
-use Rattle.jobs.specs.Identified.{DueAs, stopped, taken, unidentified, untaken}
+use Rattle.jobs.specs.Identified.{stopped, taken, unidentified, untaken}
 use Rattle.jobs.specs.declared.ending.Ending.TheVariants.{Run}
 use Rattle.jobs.proofs.Holding.{holds_more, no_text}
 use Rattle.jobs.proofs.Shown.{first_then, none_first}

@@ -1,4 +1,4 @@
-use Rattle.std.proofs.Common.{◌≡◌, ◌∙◌, ap, arith, map, refl, subst, sym, None}
+use Rattle.std.proofs.Common.{◌∙◌, ap, arith, map, refl, sym}
 use Rattle.std.proofs.lemmas.List.{take_all}
 use Rattle.jobs.specs.Installed.{first_unread, installed_pickle}
 use Rattle.jobs.proofs.Readable.{unread_step, unread_there}

@@ -101,7 +101,7 @@ loop-preserved g c =
       ready = c.run_next.ensures.ready;
       capacity = c.run_next.ensures.capacity;
       written = rw c.greater-greatest.ensures (one_written (WritesName gives every)
-          _ _ next.name _ _ _ c.loop.greatest c.in-Some.status (λ names read. one_read {name = next.name} read next.is)
+          _ _ next.name _ _ _ c.loop.greatest c.in-Some.status (λ names read. one_read read next.is)
           (kept_written (WritesName gives every) _ _ _ _ c.loop.greatest c.loop.invariant.written keeps)
           next.written);
     }

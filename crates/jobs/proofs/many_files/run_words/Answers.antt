@@ -2,7 +2,6 @@ use Rattle.std.proofs.Common.{◌≡◌, ◌∙◌, [], ◌∷◌, ◌++◌, ◌
 use Rattle.std.proofs.lemmas.List.{take_all, take_more}
 use Rattle.std.proofs.lemmas.Result.{err_from_is_err_and}
 use Rattle.jobs.specs.Every.{every_of}
-use Rattle.jobs.specs.Files.{AppendsLine, CutsLine, WritesEach, WritesWord}
 use Rattle.jobs.specs.Lines.{StopsWords, WritesWords, first_words, word_line}
 use Rattle.jobs.proofs.EachWritten.{all_hold, cut_hold, none_written, one_written}
 use Rattle.jobs.proofs.many_files.run_words.Goals as goal

@@ -1,4 +1,4 @@
-use Rattle.std.proofs.Common.{rules, sym}
+use Rattle.std.proofs.Common.{rules}
 use Rattle.jobs.proofs.Asked.{only_formats}
 use Rattle.jobs.proofs.run.run_plain.Goals as goal
 
