@@ -1,12 +1,13 @@
 -- The tighter bound is a bound on steps, and never above the other one.
 use Rattle.std.proofs.Common.{◌≡◌, ℕ, ◌+◌, ◌*◌, ◌≤◌, length, Result, Ok, Err, refl, subst, arith}
+use Rattle.pickle_meaning.specs.Answer.{in_time, too_long}
 use Rattle.pickle_meaning.specs.Values.{Value, end_of}
 use Rattle.pickle_meaning.specs.Clauses.{FaultAt}
 use Rattle.pickle_meaning.specs.Means.{Means}
 use Rattle.mapping_plans.proofs.OnBits.{outcomes_bounded}
 use Rattle.mapping_plans.proofs.Widths.{means_inside}
 use Rattle.tight_bounds.specs.Tight.{grain, own, fixed, rate, attempt, tight}
-use Rattle.tight_bounds.specs.Laws.{OutcomesAreTight, TightIsLess}
+use Rattle.tight_bounds.specs.Laws.{AnswersAreOutcomes, OutcomesAreTight, TightIsLess}
 use Rattle.tight_bounds.proofs.Sums.{in_steps}
 use Rattle.tight_bounds.proofs.Spent.{Spent, grain_positive, fixed_less}
 use Rattle.tight_bounds.proofs.Spending.{means_spent}
@@ -25,6 +26,12 @@ outcomes_tight bits ty order levels s r k j h =
     (λ v is. means_inside (subst (λ x. Means bits ty order levels s x k j) is h)) (means_spent h) in
     let t = in_steps grain k (attempt ty m + rate ty m * m) grain_positive g in
     omega arith
+
+pub answers_outcomes : AnswersAreOutcomes
+answers_outcomes bits ty order s limit r k j enough (in_time means within) = means
+answers_outcomes bits ty order s limit _ _ _ enough (too_long {r} {k} {j} means beyond more) =
+    let t = outcomes_tight bits ty order _ s r k j means in
+    absurd (omega arith)
 
 pub tight_less : TightIsLess
 unfolding tight

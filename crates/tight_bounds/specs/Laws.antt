@@ -4,7 +4,8 @@ use Rattle.bit_space.specs.declared.order.Order.{Order}
 use Rattle.bit_space.specs.Bits.{bits_of}
 use Rattle.pickle_types.specs.Types.{PokeType}
 use Rattle.pickle_types.specs.Bounds.{cost}
-use Rattle.pickle_meaning.specs.Values.{Value, Levels}
+use Rattle.pickle_meaning.specs.Answer.{Answer}
+use Rattle.pickle_meaning.specs.Values.{Value, Levels, no_values}
 use Rattle.pickle_meaning.specs.Clauses.{FaultAt}
 use Rattle.pickle_meaning.specs.Means.{Means}
 use Rattle.pickle_meaning.specs.Numbers.{number_at}
@@ -19,6 +20,12 @@ abbrev pub OutcomesAreTight : Type 0
 OutcomesAreTight =
     (bits : List ℕ) (ty : PokeType) (order : Order) (levels : Levels) (s : ℕ) (r : Result Value FaultAt) (k j : ℕ) →
     Means bits ty order levels s r k j → k ≤ tight ty (length bits)
+
+-- under a limit that it is not above, the answer is the outcome
+abbrev pub AnswersAreOutcomes : Type 0
+AnswersAreOutcomes =
+    (bits : List ℕ) (ty : PokeType) (order : Order) (s limit : ℕ) (r : Result Value FaultAt) (k j : ℕ) →
+    tight ty (length bits) ≤ limit → Answer bits ty order s limit r k j → Means bits ty order no_values s r k j
 
 -- it is never above the other bound
 abbrev pub TightIsLess : Type 0
