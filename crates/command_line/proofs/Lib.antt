@@ -6,5 +6,6 @@ pub mod Misreads
 pub mod NumberLaws
 pub mod OffsetWords
 pub mod PathTexts
+pub mod Printed
 pub mod PatternTexts
 pub mod SelectedWords

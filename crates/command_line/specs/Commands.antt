@@ -129,8 +129,8 @@ mapping_options =
     ∷ option trying (codes "length") (codes "BYTES")
     ∷ flag mapping (codes "inside")
     ∷ choice trying (codes "endian") (codes "ORDER") (codes "big" ∷ codes "little" ∷ [])
-    ∷ defaulted (number mapping (codes "limit") (codes "N")) (codes "1000000000")
-    ∷ number (only (codes "records")) (codes "limit") (codes "N")
+    ∷ defaulted (option mapping (codes "limit") (codes "N")) (codes "1000000000")
+    ∷ option (only (codes "records")) (codes "limit") (codes "N")
     ∷ flag mapping (codes "whole")
     ∷ number mapping (codes "max-output") (codes "N")
     ∷ number trying (codes "slots") (codes "N")
@@ -154,7 +154,7 @@ mapping_options =
     ∷ flag (only (codes "find")) (codes "apart")
     ∷ number (only (codes "find")) (codes "count") (codes "N")
     ∷ defaulted (number (only (codes "find")) (codes "attempt-limit") (codes "N")) (codes "1000000")
-    ∷ number (only (codes "find")) (codes "limit") (codes "N")
+    ∷ option (only (codes "find")) (codes "limit") (codes "N")
     ∷ []
 
 -- those of formats of files

@@ -1,5 +1,5 @@
 -- What the arguments of a command request, by what clap found among them.
-use Rattle.std.specs.Prelude.{◌≡◌, ◌≢◌, ◌⊎◌, ◌<◌, ◌||◌, ℕ, Bool, true, false, is_none, is_some, not, List, [], map, Option, Some, None, option_map, String, string_bytes, codes}
+use Rattle.std.specs.Prelude.{◌≡◌, ◌≢◌, ◌⊎◌, ◌<◌, ◌||◌, ℕ, Bool, true, false, is_some, not, List, [], map, Option, Some, None, option_map, String, string_bytes, codes}
 use Rattle.std.specs.Option.{unwrap_or, option_map_or}
 use Rattle.std.specs.declared.alloc.Global.{Global}
 use Rattle.std.specs.Str.{bytes_eq}
@@ -38,6 +38,8 @@ use Rattle.command_line.specs.declared.words.Job.TheVariants.{Map, Bound, BoundT
 use Rattle.command_line.specs.declared.identification.Identification.{Identification}
 use Rattle.command_line.specs.declared.request.Request.{Request}
 use Rattle.command_line.specs.declared.fault_form.FaultForm.{FaultForm}
+use Rattle.command_line.specs.declared.limit.Limit.{Limit}
+use Rattle.command_line.specs.declared.limit.Limit.TheVariants.{Steps, Auto}
 use Rattle.command_line.specs.declared.fault_form.FaultForm.TheVariants.{Text}
 use Rattle.command_line.specs.declared.request.Form.{Form}
 use Rattle.command_line.specs.declared.request.Form.TheVariants.{Printed, Shown}
@@ -142,11 +144,25 @@ SeeksBy false found type subject = AsksPart found head.Inside type subject
 abbrev pub SeeksSubject : (found : Found) → (type : Option (List ℕ)) → Subject → Type 0
 SeeksSubject found type subject = SeeksBy (shows_file_alone found) found type subject
 
+-- `auto` is a limit that fits the type and the file, any other text a number of steps
+abbrev pub NamesLimit : List ℕ → Limit → Type 0
+NamesLimit word Auto = word ≡ codes "auto"
+NamesLimit word (Steps most) = IsNumber word most
+
+abbrev pub NamesLimitIn : Option (List ℕ) → Limit → Type 0
+NamesLimitIn None limit = limit ≡ Steps 1000000000
+NamesLimitIn (Some word) limit = NamesLimit word limit
+
+-- an argument was given, and is neither
+abbrev pub IsNoLimitIfAny : Option (List ℕ) → Type 0
+IsNoLimitIfAny None = ⊥
+IsNoLimitIfAny (Some word) = (word ≢ codes "auto") × IsNoNumber word
+
 -- where a mapping starts, after how many bytes from there its file ends, and its limit of steps
-pub record AsksMapping (found : Found) (start : Start) (window : Option ℕ) (limit : ℕ) : Type 0 where
+pub record AsksMapping (found : Found) (start : Start) (window : Option ℕ) (limit : Limit) : Type 0 where
   pub starts : StartsAt found start
   pub ends : NamesWindow (first_value found (codes "length")) window
-  pub most_steps : NumberIn (first_value found (codes "limit")) 1000000000 limit
+  pub most_steps : NamesLimitIn (first_value found (codes "limit")) limit
 
 -- its byte order, if one is named
 abbrev pub AsksOrder : Found → Option Order → Type 0
@@ -237,9 +253,13 @@ style_by_default (Shown color depth numbers beside) = for_the_eye
 abbrev pub file_in : Found → List ℕ
 file_in found = unwrap_or (after_type_in found (codes "FILE")) (word_in found (codes "PICKLE"))
 
--- the limit of steps grows with the file where none is given
+-- the limit of steps grows with the file where no number is given
+abbrev pub is_without_number : Option (List ℕ) → Bool
+is_without_number None = true
+is_without_number (Some word) = bytes_eq word (codes "auto")
+
 abbrev pub GrowsLimit : Found → Bool → Type 0
-GrowsLimit found grows = grows ≡ is_none (first_value found (codes "limit"))
+GrowsLimit found grows = grows ≡ is_without_number (first_value found (codes "limit"))
 
 -- the offset that an argument is, and none if it wasn't given
 abbrev pub NamesOffsetIfAny : Option (List ℕ) → Option ℕ → Type 0
@@ -387,7 +407,7 @@ DumpsBytes found size = NamesBytes (first_value found (codes "length")) (word_in
 abbrev pub Asks : Found → Job → Type 0
 Asks found (Map at order limit mode pickle name file) =
     AsksSubject found (type_in found (codes "FILE")) (Named pickle name)
-    × AsksMapping found (Bit at) None limit × NamesOrderOrBig (first_value found (codes "endian")) order
+    × AsksMapping found (Bit at) None (Steps limit) × NamesOrderOrBig (first_value found (codes "endian")) order
     × IsInMode found mode × (is_raw found ≡ false) × ReportsIn found Text × Spools found None
     × ShowsProgress found false
     × HasTerms found Parts plain no_terms

@@ -8,7 +8,7 @@ use Rattle.command_line.specs.declared.selection.Choice.TheVariants as choice
 use Rattle.command_line.specs.declared.words.WordFault.{WordFault}
 use Rattle.command_line.specs.declared.words.WordFault.TheVariants.{Usage, Help, Offset, Memory}
 use Rattle.command_line.specs.Flags.{FlagIn}
-use Rattle.command_line.specs.Found.{is_raw, IsNoBound, IsNoByteExtent, IsNoExtent, IsNoList, IsNoListExtent, IsNoNumberIfAny, IsNoRange, IsNoSearch, IsNoStep, SeeksParts}
+use Rattle.command_line.specs.Found.{is_raw, IsNoBound, IsNoByteExtent, IsNoExtent, IsNoLimitIfAny, IsNoList, IsNoListExtent, IsNoNumberIfAny, IsNoRange, IsNoSearch, IsNoStep, SeeksParts}
 use Rattle.command_line.specs.Patterns.{PatternPart, IsPattern}
 use Rattle.command_line.specs.Selects.{ArePatterns, HasKeys, HasRows, IsNoPath, Selects, column_path, is_one_path, words_in}
 use Rattle.command_line.specs.declared.selection.Selection.{Selection}
@@ -70,7 +70,7 @@ pub data MisreadRequest (found : Found) (offered : Choice) : Type 0 where
   most_output_wrong : IsNoNumberIfAny (first_value found (codes "max-output")) → MisreadRequest found offered
   most_slots_wrong : IsNoNumberIfAny (first_value found (codes "slots")) → MisreadRequest found offered
   spool_wrong : IsNoNumberIfAny (first_value found (codes "spool")) → MisreadRequest found offered
-  limit_wrong : IsNoNumberIfAny (first_value found (codes "limit")) → MisreadRequest found offered
+  limit_wrong : IsNoLimitIfAny (first_value found (codes "limit")) → MisreadRequest found offered
   elements_wrong : IsNoElementsIfAny (first_value found (codes "elements")) → MisreadRequest found offered
   depth_wrong : IsNoElementsIfAny (first_value found (codes "depth")) → MisreadRequest found offered
 

@@ -6,6 +6,7 @@ pub mod ask;
 pub mod color;
 pub mod fault_form;
 pub mod identification;
+pub mod limit;
 pub mod numerals;
 pub mod offset_word;
 pub mod path;

@@ -5,6 +5,7 @@ ghost use Rattle.command_line.specs.Requests.{faults_in};
 
 use crate::color::Color;
 use crate::fault_form::FaultForm;
+use crate::limit::Limit;
 use crate::path::Path;
 use crate::start::Start;
 use crate::subject::Subject;
@@ -25,7 +26,7 @@ pub struct Request {
     /// else big-endian.
     pub order: Option<Order>,
     /// The most steps of each mapping.
-    pub limit: u64,
+    pub limit: Limit,
     /// The most bytes of a file without a length that are read into memory. `None` opens no such file.
     pub spool: Option<u64>,
     /// What each value must meet, and how it looks.
@@ -121,7 +122,7 @@ pub struct RecordList {
     pub report_end: bool,
     /// Whether a line with the names of the columns comes first, if columns are printed.
     pub header: bool,
-    /// Whether the limit of steps, that of all records together, grows with the file, since none is given.
+    /// Whether the limit of steps, that of all records together, grows with the file, since no number is given.
     pub grows: bool,
     /// The bit where a list inside a value goes on. `None` is its start.
     pub resume: Option<u64>,
@@ -142,7 +143,8 @@ pub struct ValueSearch {
     pub flush: bool,
     /// Whether a line with the names of the columns comes first.
     pub header: bool,
-    /// Whether the limit of steps, that of all attempts together, grows with the number of places, since none is given.
+    /// Whether the limit of steps, that of all attempts together, grows with the number of places, since no number is
+    /// given.
     pub grows: bool,
 }
 

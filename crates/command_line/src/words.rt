@@ -31,6 +31,7 @@ ghost use Rattle.command_line.specs.declared.words.WordFault.TheVariants.{Memory
 use crate::answer_form::AnswerForm;
 use crate::fault_form::FaultForm;
 use crate::identification::Identification;
+use crate::limit::Limit;
 use crate::numerals::whole_number;
 use crate::request::{FileNames, Form, Over, RecordList, RecordsOf, Request, ValueSearch};
 use crate::selection::{Choice, Selection};
@@ -45,7 +46,9 @@ use clap::error::ErrorKind;
 use commands::{ATTEMPT_LIMIT, PROGRAM, SHOWN_LEVELS, program};
 use found::{after_type, flag_of, number_if_any, number_of, type_word, word, word_if_any, word_of};
 use line::{command_line, without_help_of_help};
-use mapping::{MappingWords, mapping_words, shown_subject, subject_by_part, subject_of};
+use mapping::{
+    MappingWords, grows_limit, mapping_words, shown_subject, subject_by_part, subject_of,
+};
 use parser::Ties;
 use selected::{part_beside, path_if_any, selection_of};
 use shown::shown_words;
@@ -441,19 +444,19 @@ fn read_map(alloc: Global, found: &ArgMatches<'_>) -> Result<Job, WordFault>
     let progress = flag_of(found, "progress");
     let raw = raw_of(alloc, found, &terms.selection)?;
     let is_plain = is_plain(raw, spool, mapping.window, progress, &terms);
-    match (mapping.start, subject, faults_of(word(found, "faults"))) {
-        (Start::Bit(at), Subject::Named { pickle, name }, FaultForm::Text) if is_plain => Ok(
-            Job::Map {
-                at,
-                order: order_or_big(mapping.order),
-                limit: mapping.limit,
-                mode,
-                pickle,
-                name,
-                file,
-            },
-        ),
-        (_, subject, faults) => {
+    let faults = faults_of(word(found, "faults"));
+    match (mapping.start, mapping.limit, subject, faults) {
+        (Start::Bit(at), Limit::Steps(limit), Subject::Named { pickle, name }, FaultForm::Text)
+            if is_plain => Ok(Job::Map {
+            at,
+            order: order_or_big(mapping.order),
+            limit,
+            mode,
+            pickle,
+            name,
+            file,
+        }),
+        (_, _, subject, faults) => {
             let form = Form::Printed { mode, faults };
             let over = over_file(file, raw);
             Ok(Job::Request(request(found, mapping, spool, terms, form, subject, over)))
@@ -648,7 +651,7 @@ fn list_of(alloc: Global, found: &ArgMatches<'_>) -> Result<RecordList, WordFaul
         flush: flag_of(found, "flush"),
         report_end: flag_of(found, "report-end"),
         header: header_of(alloc, found)?,
-        grows: found.get_str("limit").is_none(),
+        grows: grows_limit(found),
         resume: bits_if_any(found, "resume")?,
     })
 }
@@ -732,7 +735,7 @@ fn search_of(alloc: Global, found: &ArgMatches<'_>) -> Result<ValueSearch, WordF
         apart: flag_of(found, "apart"),
         flush: flag_of(found, "flush"),
         header: header_of(alloc, found)?,
-        grows: found.get_str("limit").is_none(),
+        grows: grows_limit(found),
     })
 }
 

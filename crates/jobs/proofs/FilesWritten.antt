@@ -77,7 +77,8 @@ text_cut Runs every name ended text lines (Err e) out out' quiet run part = reco
 line_of : {Takes : Option (List ℕ) → Option (List ℕ) → List ℕ → Type 0} (every : Every) (mapped : Mapped) (start : ℕ)
     (file after : SpaceView)
     (MayFail : Type 0) (ask : Ask) (faults : FaultForm) (name : List ℕ) (status : Status) (out out' : Option (List ℕ))
-    → IsAskAt mapped.aim start ask → every.form ≡ Line faults → (HasRisen file.failures after.failures → MayFail)
+    → IsAskAt mapped.aim start file.len ask → every.form ≡ Line faults
+    → (HasRisen file.failures after.failures → MayFail)
     → (h : TellsFile faults (MapsUnder mapped.pickle ask mapped.terms file after) Takes name status out out')
     → WritesRun (MapsFrom mapped start file MayFail) every name status
     (file_line faults name (in_memory h.ended) h.text)
@@ -94,7 +95,8 @@ line_of every mapped start file after MayFail ask faults name status out out' as
 pub line_written : (every : Every) (mapped : Mapped) (start : ℕ) (file after : SpaceView) (MayFail : Type 0) (ask : Ask)
     (faults : FaultForm)
     (name : List ℕ) (status : Status) (out out' out'' : Option (List ℕ))
-    → IsAskAt mapped.aim start ask → every.form ≡ Line faults → (HasRisen file.failures after.failures → MayFail)
+    → IsAskAt mapped.aim start file.len ask → every.form ≡ Line faults
+    → (HasRisen file.failures after.failures → MayFail)
     → TellsFile faults (MapsUnder mapped.pickle ask mapped.terms file after) Appends name status out out'
     → Keeps out' out''
     → AppendsRun (MapsFrom mapped start file MayFail) every name out out'' status
@@ -109,7 +111,8 @@ line_written every mapped start file after MayFail ask faults name status out ou
 pub line_unflushed : (every : Every) (mapped : Mapped) (start : ℕ) (file after : SpaceView) (MayFail : Type 0)
     (ask : Ask) (faults : FaultForm)
     (name : List ℕ) (status : Status) (out out' out'' : Option (List ℕ))
-    → IsAskAt mapped.aim start ask → every.form ≡ Line faults → (HasRisen file.failures after.failures → MayFail)
+    → IsAskAt mapped.aim start file.len ask → every.form ≡ Line faults
+    → (HasRisen file.failures after.failures → MayFail)
     → TellsFile faults (MapsUnder mapped.pickle ask mapped.terms file after) Appends name status out out'
     → Keeps out' out''
     → CutsRun (MapsFrom mapped start file MayFail) every name out out''
@@ -124,7 +127,8 @@ line_unflushed every mapped start file after MayFail ask faults name status out 
 pub line_cut : (every : Every) (mapped : Mapped) (start : ℕ) (file after : SpaceView) (MayFail : Type 0) (ask : Ask)
     (faults : FaultForm)
     (name : List ℕ) (status : Status) (out out' : Option (List ℕ))
-    → IsAskAt mapped.aim start ask → every.form ≡ Line faults → (HasRisen file.failures after.failures → MayFail)
+    → IsAskAt mapped.aim start file.len ask → every.form ≡ Line faults
+    → (HasRisen file.failures after.failures → MayFail)
     → TellsFile faults (MapsUnder mapped.pickle ask mapped.terms file after) AppendsPart name status out out'
     → CutsRun (MapsFrom mapped start file MayFail) every name out out'
 line_cut every mapped start file after MayFail ask faults name status out out' asked form may h = record {
@@ -137,7 +141,7 @@ line_cut every mapped start file after MayFail ask faults name status out out' a
 -- the object of a file that was mapped
 object_of : (every : Every) (mapped : Mapped) (start : ℕ) (file after : SpaceView) (MayFail : Type 0) (ask : Ask)
     (name lines : List ℕ) (kept : Kept)
-    (status : Status) → IsAskAt mapped.aim start ask → every.form ≡ Object → (every.why ≡ false → lines ≡ [])
+    (status : Status) → IsAskAt mapped.aim start file.len ask → every.form ≡ Object → (every.why ≡ false → lines ≡ [])
     → (HasRisen file.failures after.failures → MayFail)
     → HoldsRun (MapsUnder mapped.pickle ask mapped.terms file after) kept → status ≡ outcome_status kept.outcome
     → WritesRun (MapsFrom mapped start file MayFail) every name status (kept_object kept name lines)
@@ -153,7 +157,7 @@ object_of every mapped start file after MayFail ask name lines kept status asked
 pub object_written : {E : Type 0} (every : Every) (mapped : Mapped) (start : ℕ) (file after : SpaceView)
     (MayFail : Type 0) (ask : Ask)
     (name lines : List ℕ) (kept : Kept) (r : Result Status E) (out out' : Option (List ℕ))
-    → IsAskAt mapped.aim start ask → every.form ≡ Object → (every.why ≡ false → lines ≡ [])
+    → IsAskAt mapped.aim start file.len ask → every.form ≡ Object → (every.why ≡ false → lines ≡ [])
     → (HasRisen file.failures after.failures → MayFail)
     → HoldsRun (MapsUnder mapped.pickle ask mapped.terms file after) kept
     → IfOk r (λ status. status ≡ outcome_status kept.outcome) → OnOk r (Appends out out' (kept_object kept name lines))
@@ -171,7 +175,7 @@ object_written every mapped start file after MayFail ask name lines kept (Ok sta
 pub object_cut : {E : Type 0} (every : Every) (mapped : Mapped) (start : ℕ) (file after : SpaceView)
     (MayFail : Type 0) (ask : Ask)
     (name lines : List ℕ) (kept : Kept) (r : Result Status E) (out out' : Option (List ℕ))
-    → IsAskAt mapped.aim start ask → every.form ≡ Object → (every.why ≡ false → lines ≡ [])
+    → IsAskAt mapped.aim start file.len ask → every.form ≡ Object → (every.why ≡ false → lines ≡ [])
     → (HasRisen file.failures after.failures → MayFail)
     → HoldsRun (MapsUnder mapped.pickle ask mapped.terms file after) kept
     → OnErr r (AppendsPart out out' (kept_object kept name lines))

@@ -18,7 +18,7 @@ use Rattle.searches.specs.declared.search.Reach.{Reach}
 
 pub hunt_holds : (request : Request) (search : ValueSearch) (formats : Formats) (start : ℕ) (file after : SpaceView)
     (hunt : Hunt) (at : Reach) (ended : Outcome) (out out' : Option (List ℕ))
-    → IsHuntOf request search formats start (8 * file.len) hunt → WritesTypes hunt file after out out' at ended
+    → IsHuntOf request search formats start file.len hunt → WritesTypes hunt file after out out' at ended
     → Holds (DueFound request search formats start file after) out out' (Ok (Run ended))
 hunt_holds request search formats start file after hunt at ended out out' is
     (writes_all {text = text} rounds ends appends) =

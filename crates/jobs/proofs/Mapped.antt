@@ -5,6 +5,7 @@ use Rattle.std.specs.Io.KnownBytes.{Keeps}
 use Rattle.bit_space.specs.SpaceView.{HasRisen, SpaceView}
 use Rattle.command_line.specs.declared.ask.Ask.{Ask}
 use Rattle.command_line.specs.declared.terms.Terms.{Terms}
+use Rattle.jobs.specs.Aims.{Aim, IsAskAt}
 use Rattle.jobs.specs.Due.{DueRun, Holds}
 use Rattle.jobs.specs.Given.{AddsMet, adds_met, adds_none, cuts_met}
 use Rattle.jobs.specs.Spaces.{DueSpace, met_due, run_due}
@@ -17,6 +18,11 @@ use Rattle.run_parts.specs.declared.outcome.Outcome.{Outcome}
 use Rattle.run_parts.specs.declared.status.Status.{Status}
 use Rattle.run_parts.specs.declared.status.Status.TheVariants.{Done, Fault, Refused, Outside}
 use Rattle.text_output.proofs.Parts.{Appends-keeps}
+
+-- what a run is given over a file, by the length that a call returned
+pub asked_over : (aim : Aim) (start len len' : ℕ) (ask : Ask) → len ≡ len' → IsAskAt aim start len ask →
+    IsAskAt aim start len' ask
+asked_over aim start len len' ask same asked = subst (λ length. IsAskAt aim start length ask) same asked
 
 -- a run, after which nothing more is written
 pub ends_keep : (IsRight : Saying → Type 0) (ended : Outcome) (out mid out' : Option (List ℕ))

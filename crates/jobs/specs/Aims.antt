@@ -2,12 +2,13 @@
 use Rattle.std.specs.Prelude.{◌≡◌, ◌||◌, ℕ, Bool, true, false, List, Option, Some, None, option_map}
 use Rattle.bit_space.specs.declared.order.Order.{Order}
 use Rattle.command_line.specs.Requests.{faults_in}
-use Rattle.command_line.specs.Starts.{start_bit}
 use Rattle.command_line.specs.declared.ask.Ask.{Ask}
 use Rattle.command_line.specs.declared.color.Color.{Color}
 use Rattle.command_line.specs.declared.color.Color.TheVariants.{Auto, Always, Never}
 use Rattle.command_line.specs.declared.fault_form.FaultForm.{FaultForm}
 use Rattle.command_line.specs.declared.fault_form.FaultForm.TheVariants.{Text}
+use Rattle.command_line.specs.declared.limit.Limit.{Limit}
+use Rattle.command_line.specs.declared.limit.Limit.TheVariants.{Steps}
 use Rattle.command_line.specs.declared.request.Form.{Form}
 use Rattle.command_line.specs.declared.request.Form.TheVariants.{Printed, Shown}
 use Rattle.command_line.specs.declared.request.Request.{Request}
@@ -15,6 +16,7 @@ use Rattle.command_line.specs.declared.start.Start.{Start}
 use Rattle.command_line.specs.declared.start.Start.TheVariants.{Bit}
 use Rattle.command_line.specs.declared.terms.Terms.{Terms}
 use Rattle.jobs.specs.Chosen.{ChosenType, chosen, first_order}
+use Rattle.jobs.specs.Growth.{limit_over}
 use Rattle.jobs.specs.declared.settings.Mapping.{Mapping}
 use Rattle.text_output.specs.declared.mode.Mode.{Mode}
 use Rattle.text_output.specs.declared.mode.Mode.TheVariants.{Flat}
@@ -25,7 +27,7 @@ pub record Aim : Type 0 where
   pub name : List ℕ
   pub start : Start
   pub order : Order
-  pub limit : ℕ
+  pub limit : Limit
   pub mode : Mode
 
 abbrev pub aim_of : Mapping → Aim
@@ -39,7 +41,8 @@ aim_of mapping = record {
 
 -- that of a mapping which starts at a bit
 abbrev pub plain_aim : (name : List ℕ) (at : ℕ) → Order → (limit : ℕ) → Mode → Aim
-plain_aim name at order limit mode = record { name = name; start = Bit at; order = order; limit = limit; mode = mode }
+plain_aim name at order limit mode =
+    record { name = name; start = Bit at; order = order; limit = Steps limit; mode = mode }
 
 -- a value that is shown to the eye has no mode of its own
 abbrev pub form_mode : Form → Mode
@@ -123,18 +126,10 @@ of_mapping mapping = record {
   faults = mapping.faults;
 }
 
--- what the run of an aim is given over a file of so many bytes
-pub record IsAskOf (aim : Aim) (length : ℕ) (ask : Ask) : Type 0 where
-  pub name : ask.name.now ≡ aim.name
-  pub start : start_bit aim.start length ≡ Some ask.start
-  pub order : ask.order ≡ aim.order
-  pub limit : ask.limit ≡ aim.limit
-  pub mode : ask.mode ≡ aim.mode
-
--- what it is given from a bit on
-pub record IsAskAt (aim : Aim) (start : ℕ) (ask : Ask) : Type 0 where
+-- what the run of an aim is given from a bit on, over a file of so many bytes
+pub record IsAskAt (aim : Aim) (start length : ℕ) (ask : Ask) : Type 0 where
   pub name : ask.name.now ≡ aim.name
   pub start_is : ask.start ≡ start
   pub order : ask.order ≡ aim.order
-  pub limit : ask.limit ≡ aim.limit
+  pub limit : ask.limit ≡ limit_over aim.limit length
   pub mode : ask.mode ≡ aim.mode

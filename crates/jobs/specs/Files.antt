@@ -87,7 +87,7 @@ pub data MapsOver (mapped : Mapped) (ask : Ask) (file : SpaceView) (MayFail : Ty
 -- the same of what is mapped from a bit on
 pub data MapsFrom (mapped : Mapped) (start : ℕ) (file : SpaceView) (MayFail : Type 0) : Outcome →
     (text : List ℕ) → Type 0 where
-  maps_from : {ask : Ask} {ended : Outcome} {text : List ℕ} → IsAskAt mapped.aim start ask
+  maps_from : {ask : Ask} {ended : Outcome} {text : List ℕ} → IsAskAt mapped.aim start file.len ask
       → MapsOver mapped ask file MayFail ended text → MapsFrom mapped start file MayFail ended text
 
 -- how a file is identified from a bit on, by what is seen of it

@@ -92,16 +92,16 @@ quarries_in given format = quarries format (orders_in format.orders.little given
 -- ---- the search
 
 -- what it is given: its limit may grow with the starts and the types
-pub record IsHuntAsk (request : Request) (search : ValueSearch) (count start bits : ℕ) (ask : Ask) : Type 0 where
+pub record IsHuntAsk (request : Request) (search : ValueSearch) (count start length : ℕ) (ask : Ask) : Type 0 where
   pub base : Ask
-  pub is_base : IsAskAt (of_type request [] Big request.terms).aim start base
+  pub is_base : IsAskAt (of_type request [] Big request.terms).aim start length base
   pub is : ask ≡ grow_limit search.grows
-      (min (2 ^ 64 - 1) (places_in (bits - start) (max 1 search.step) * count)) base
+      (min (2 ^ 64 - 1) (places_in (8 * length - start) (max 1 search.step) * count)) base
 
-pub record IsHuntOf (request : Request) (search : ValueSearch) (formats : Formats) (start bits : ℕ) (hunt : Hunt) :
+pub record IsHuntOf (request : Request) (search : ValueSearch) (formats : Formats) (start len : ℕ) (hunt : Hunt) :
     Type 0 where
   pub types : map quarry_of hunt.list.now ≡ flat_map (quarries_in request.order) formats.list.items
-  pub asks : IsHuntAsk request search (length hunt.list.now) start bits hunt.ask.now
+  pub asks : IsHuntAsk request search (length hunt.list.now) start len hunt.ask.now
   pub terms : hunt.terms.now ≡ request.terms
   pub searches : hunt.search ≡ search_of search
 
@@ -109,11 +109,11 @@ pub record IsHuntOf (request : Request) (search : ValueSearch) (formats : Format
 pub data DueFound (request : Request) (search : ValueSearch) (formats : Formats) (start : ℕ) (file after : SpaceView) :
     (lines : List (List ℕ)) → Option End → Type 0 where
   all_found : {hunt : Hunt} {at : Reach} {places text : List ℕ} {ended : Outcome}
-      → IsHuntOf request search formats start (8 * file.len) hunt → Rounds hunt file at places text
+      → IsHuntOf request search formats start file.len hunt → Rounds hunt file at places text
       → EndsRounds hunt file after at places ended
       → DueFound request search formats start file after (text ∷ []) (Some (Ok (Run ended)))
   first_found : {hunt : Hunt} {at : Reach} {places text : List ℕ}
-      → IsHuntOf request search formats start (8 * file.len) hunt → Rounds hunt file at places text
+      → IsHuntOf request search formats start file.len hunt → Rounds hunt file at places text
       → DueFound request search formats start file after (text ∷ []) None
   only_names : DueFound request search formats start file after [] None
 

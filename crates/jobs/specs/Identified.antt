@@ -61,7 +61,7 @@ of_documented request documented order =
 pub data DueAs (why : Bool) (request : Request) (pickle : List ℕ) (documented : Documented) (order : Order) (start : ℕ)
     (file after : SpaceView) : (lines : List (List ℕ)) → Option End → Type 0 where
   as_due : {ask : Ask} {lines : List (List ℕ)} {end : Option End}
-      → IsAskAt (of_documented request documented order).aim start ask
+      → IsAskAt (of_documented request documented order).aim start file.len ask
       → DueSpace pickle ask (of_documented request documented order).terms file after why lines end
       → DueAs why request pickle documented order start file after lines end
 

@@ -17,7 +17,7 @@ use Rattle.command_line.specs.declared.request.Over.TheVariants.{Bytes, File, Fi
 use Rattle.command_line.specs.declared.request.Request.{Request}
 use Rattle.command_line.specs.declared.words.Job.{Job}
 use Rattle.command_line.specs.declared.words.Job.TheVariants as job
-use Rattle.jobs.specs.Aims.{IsAskOf, Requested, of_request, plain_request}
+use Rattle.jobs.specs.Aims.{IsAskAt, Requested, of_request, plain_request}
 use Rattle.jobs.specs.Chosen.{bound_type}
 use Rattle.jobs.specs.Due.{DueOver, DueRun, End, Holds}
 use Rattle.jobs.specs.Formats.{DueFormats}
@@ -177,10 +177,11 @@ module _ (gives : Gives) (why : Bool) where
     starts_nowhere : {file : SpaceView} → gives.is_file path requested.spool file
         → start_bit requested.aim.start file.len ≡ None
         → DueFile requested path pickle [] (Some (Ok (Run outcome.Offset)))
-    maps : {file after : SpaceView} {lines : List (List ℕ)} {end : Option End} (ask : Ask)
-        → gives.is_file path requested.spool file → IsAskOf requested.aim file.len ask
+    maps : {file after : SpaceView} {lines : List (List ℕ)} {end : Option End} (start : ℕ) (ask : Ask)
+        → gives.is_file path requested.spool file → start_bit requested.aim.start file.len ≡ Some start
+        → IsAskAt requested.aim start (seen requested.window start file).len ask
         → (HasRisen file.failures after.failures → gives.is_failing path)
-        → DueSpace pickle ask requested.terms (seen requested.window ask.start file) after why lines end
+        → DueSpace pickle ask requested.terms (seen requested.window start file) after why lines end
         → DueFile requested path pickle lines end
     unopened : {fault : FileFault} → gives.is_unopened path requested.spool fault →
         DueFile requested path pickle [] (Some (Err fault))

@@ -15,7 +15,7 @@ use Rattle.command_line.specs.declared.selection.Shape.{Shape}
 use Rattle.command_line.specs.declared.selection.Shape.TheVariants as shape
 use Rattle.command_line.specs.declared.request.ValueSearch.{ValueSearch}
 use Rattle.command_line.specs.declared.terms.Terms.{Terms}
-use Rattle.jobs.specs.Aims.{IsAskOf, Requested}
+use Rattle.jobs.specs.Aims.{IsAskAt, Requested}
 use Rattle.jobs.specs.Due.{DueAfter, End, Holds}
 use Rattle.jobs.specs.Gives.{Gives}
 use Rattle.jobs.specs.Chosen.{list_path}
@@ -292,10 +292,11 @@ pub data DueTask (gives : Gives) (requested : Requested) (task : Task) (path pic
   no_start : {file : SpaceView} → gives.is_file path requested.spool file
       → start_bit requested.aim.start file.len ≡ None
       → DueTask gives requested task path pickle [] (Some (Ok (Run outcome.Offset)))
-  does_task : {file after : SpaceView} {lines : List (List ℕ)} {end : Option End} (ask : Ask)
-      → gives.is_file path requested.spool file → IsAskOf requested.aim file.len ask
+  does_task : {file after : SpaceView} {lines : List (List ℕ)} {end : Option End} (start : ℕ) (ask : Ask)
+      → gives.is_file path requested.spool file → start_bit requested.aim.start file.len ≡ Some start
+      → IsAskAt requested.aim start (seen requested.window start file).len ask
       → (HasRisen file.failures after.failures → gives.is_failing path)
-      → DueSeenIn pickle ask requested.terms task (seen requested.window ask.start file) after lines end
+      → DueSeenIn pickle ask requested.terms task (seen requested.window start file) after lines end
       → DueTask gives requested task path pickle lines end
   not_opened : {fault : FileFault} → gives.is_unopened path requested.spool fault →
       DueTask gives requested task path pickle [] (Some (Err fault))

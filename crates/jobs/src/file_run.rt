@@ -411,7 +411,7 @@ fn map_space<S: Space, A: Aside, O: Write>(
         (O.contents out.old) (O.contents out.new)) }
     ensures keeps { SpaceKeeps (S.view space.old) (S.view space.new) }
 {
-    let ask = &typed.mapping.ask_at(start);
+    let ask = &typed.mapping.ask_at(start, space.len());
     let run = TypeRun {
         alloc: task.alloc,
         table: typed.table,

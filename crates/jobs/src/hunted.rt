@@ -99,21 +99,28 @@ fn hunt_space<S: Space, O: Write>(
         Ok(()) => {}
         Err(WriteFault) => return Outcome::Failed(Failure::Write),
     }
-    let ask = &hunt_ask(request, search, list.len(), start, 8 * space.len());
+    let ask = &hunt_ask(request, search, list.len(), start, space);
     let terms = &request.terms;
     let searched = search_types(alloc, &list, ask, terms, search_of(search), space, out);
     tell_given_up(alloc, searched, request.faults(), why);
     searched.outcome
 }
 
-// What a search for so many types is given in a file of so many bits. Its limit may grow with the starts and the types.
-fn hunt_ask(request: &Request, search: ValueSearch, count: usize, start: u64, bits: u64) -> Ask<'_>
-    ensures { IsHuntAsk request.now search count start bits result }
+// What a search of a space for so many types is given. Its limit may grow with the starts and the types.
+fn hunt_ask<'a, S: Space>(
+    request: &'a Request,
+    search: ValueSearch,
+    count: usize,
+    start: u64,
+    space: &S,
+) -> Ask<'a>
+    ensures { IsHuntAsk request.now search count start (S.view space.now).len result }
 {
     let mapping = Mapping::of_type(request, b"", Order::Big);
-    let places = places_in(bits.saturating_sub(start), search.step.max(1));
+    let bits = (8 * space.len()).saturating_sub(start);
+    let places = places_in(bits, search.step.max(1));
     grow_limit(
-        mapping.ask_at(start),
+        mapping.ask_at(start, space.len()),
         search.grows,
         places.saturating_mul(count as u64),
     )

@@ -201,7 +201,7 @@ fn show_as<S: Space, O: Write>(
     settle_terms(&mut request.terms, request.form, documented.whole);
     let order = first_order(request.order, Some(order));
     let mapping = Mapping::of_type(request, &documented.name, order);
-    let ask = &mapping.ask_at(start);
+    let ask = &mapping.ask_at(start, space.len());
     let outcome = map_space(alloc, pickle, ask, mapping.terms, space, out, why);
     tell_taken(outcome, pickle, why);
     outcome

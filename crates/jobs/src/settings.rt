@@ -1,11 +1,12 @@
 //! What a job requests of a mapping.
-ghost use Rattle.std.specs.Prelude.{◌≡◌, None, false, IfNone, IfSome};
-ghost use Rattle.command_line.specs.Starts.{start_bit};
-ghost use Rattle.jobs.specs.Aims.{IsAskAt, IsAskOf, aim_of, dims, look_of, of_mapping, of_type, plain_request, settled_terms};
+ghost use Rattle.std.specs.Prelude.{◌≡◌, false};
+ghost use Rattle.jobs.specs.Aims.{IsAskAt, aim_of, dims, look_of, of_mapping, of_type, plain_request, settled_terms};
 
-use bit_space::{Order, Space};
+use crate::growth::limit_over;
+use bit_space::Order;
 use command_line::color::Color;
 use command_line::fault_form::FaultForm;
+use command_line::limit::Limit;
 use command_line::request::{Form, Over, Request};
 use command_line::start::Start;
 use poke_batch::ask::Ask;
@@ -23,7 +24,7 @@ pub struct Mapping<'a> {
     pub window: Option<u64>,
     pub order: Order,
     /// The most steps.
-    pub limit: u64,
+    pub limit: Limit,
     pub mode: Mode,
     /// What each value must meet, and how it looks.
     pub terms: &'a Terms,
@@ -55,7 +56,7 @@ impl<'a> Mapping<'a> {
             start: Start::Bit(at),
             window: None,
             order,
-            limit,
+            limit: Limit::Steps(limit),
             mode,
             terms,
             faults: FaultForm::Text,
@@ -90,23 +91,15 @@ impl<'a> Mapping<'a> {
         }
     }
 
-    /// What the mapping of a space is given. `None` if it would start before the space's first byte.
-    pub fn ask_in<S: Space>(&self, space: &S) -> Option<Ask<'a>>
-        ensures some { IfSome result (IsAskOf (aim_of self.now) (S.view space.now).len) }
-        ensures none { IfNone result (start_bit self.now.start (S.view space.now).len ≡ None) }
-    {
-        Some(self.ask_at(self.start.bit_in(space)?))
-    }
-
-    /// What it is given from a bit on.
-    pub fn ask_at(&self, start: u64) -> Ask<'a>
-        ensures { IsAskAt (aim_of self.now) start result }
+    /// What the mapping of a file of so many bytes is given, from a bit on.
+    pub fn ask_at(&self, start: u64, length: u64) -> Ask<'a>
+        ensures { IsAskAt (aim_of self.now) start length result }
     {
         Ask {
             name: self.name,
             start,
             order: self.order,
-            limit: self.limit,
+            limit: limit_over(self.limit, length),
             mode: self.mode,
         }
     }

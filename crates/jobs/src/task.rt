@@ -87,12 +87,13 @@ pub fn do_in_file<P: Opener, O: Write>(
         Holds (due pickle.now.bytes.items) (O.contents out.old) (O.contents out.new) result }
 {
     let bytes = opener.open(path, mapping.spool, mapping.progress)?;
-    let Some(ask) = mapping.ask_in(&bytes) else {
+    let Some(start) = mapping.start.bit_in(&bytes) else {
         tell_start(alloc, why, mapping.start, bytes.len());
         return Ok(Ending::Run(Outcome::Offset));
     };
-    let window = Window::from_start(bytes, ask.start, mapping.window);
+    let window = Window::from_start(bytes, start, mapping.window);
     let mut space = Paged::new(alloc, window)?;
+    let ask = mapping.ask_at(start, space.len());
     let outcome = do_in_view(
         alloc,
         pickle,

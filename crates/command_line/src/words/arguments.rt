@@ -191,23 +191,24 @@ const MAPPING: &[Argument] = &[
         help: "The byte order [default: big, without TYPE that of the head]",
         ..OPTION
     },
-    // The mapping takes at most N steps. If it needs more it ends with `fault Limit`.
+    // The mapping takes at most N steps. If it needs more it ends with `fault Limit`. `auto` is 1,000,000,000, or 256 for
+    // each byte of FILE if that is more, and [ends no mapping](OPERATORS.md#a-limit-that-fits) whose tighter bound is at
+    // most that.
     Argument {
         of: &["map", "show", "each"],
         name: "limit",
         value: "N",
-        accepts: Accepts::Number,
         default: Some("1000000000"),
-        help: "The most steps of the mapping",
+        help: "The most steps of the mapping, or auto: the default, or 256 a byte if that is more",
         ..OPTION
     },
     // All records together take at most N steps. If they need more the list ends with `fault Limit` at the record where the
     // steps end. Without the option it is 1,000,000,000, or 256 for each byte of FILE from the start on if that is more.
+    // `auto` also counts the bytes before the start.
     Argument {
         of: &["records"],
         name: "limit",
         value: "N",
-        accepts: Accepts::Number,
         help: "The most steps of all records together [default: 1000000000, or 256 a byte if that is more]",
         ..OPTION
     },
@@ -437,12 +438,11 @@ const MAPPING: &[Argument] = &[
     },
     // All attempts together take at most N steps. If they need more the search ends with `fault Limit` at the start where
     // the steps end, and `--at` goes on from there. Without the option it is 1,000,000,000, or 256 for each start if that is
-    // more.
+    // more. `auto` is also at least 256 for each byte of FILE.
     Argument {
         of: &["find"],
         name: "limit",
         value: "N",
-        accepts: Accepts::Number,
         is_rare: true,
         help: "The most steps of all attempts together [default: 1000000000, or 256 a start if that is more]",
         ..OPTION

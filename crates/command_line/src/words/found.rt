@@ -100,8 +100,9 @@ pub fn number_of(
     }
 }
 
-// The number that a text is. Like clap's own numbers it may have a plus before its digits.
-fn number_of_word(alloc: Global, word: &str, place: &str) -> Result<u64, WordFault>
+/// The number that a text is. Like clap's own numbers it may have a plus before its digits. `place` is how messages name
+/// the argument.
+pub fn number_of_word(alloc: Global, word: &str, place: &str) -> Result<u64, WordFault>
     ensures ok { IfOk result (IsNumber word.now) }
     ensures err { IfErr result (λ fault. (fault ≡ Memory) ⊎ IsNoNumber word.now) }
     ensures fault { IfErr result (λ fault. fault ≢ WordFault.Offset) }

@@ -1,17 +1,18 @@
 //! What a mapping is given, as arguments request it.
 ghost use Rattle.std.specs.Prelude.{◌≡◌, ◌≢◌, IfOk, IfErr, codes, option_map};
 ghost use Rattle.clap.specs.Matches.{found_of, first_value};
-ghost use Rattle.command_line.specs.Found.{NumberIn, NamesOrder, AsksOrder, AsksSubject, AsksPart, ShowsSubject, AsksMappingOf, type_in, IsNoExtent, IsNoNumberIfAny};
+ghost use Rattle.command_line.specs.Found.{NamesLimitIn, NamesOrder, AsksOrder, AsksSubject, AsksPart, ShowsSubject, AsksMappingOf, GrowsLimit, type_in, IsNoExtent, IsNoLimitIfAny};
 ghost use Rattle.command_line.specs.Misread.{FailsFor};
 ghost use Rattle.command_line.specs.Subjects.{is_inside};
 ghost use Rattle.command_line.specs.declared.words.WordFault.TheVariants.{Offset};
 
+use crate::limit::Limit;
 use crate::start::Start;
 use crate::subject::{HeadType, Subject, is_by_head};
 use crate::words::WordFault;
 use crate::words::bytes::{start_of, window_of};
 use crate::words::commands::DEFAULT_LIMIT;
-use crate::words::found::{flag_of, number_of, type_word, word, word_of};
+use crate::words::found::{flag_of, number_of_word, type_word, word, word_of};
 use crate::words::ties::shows_file_alone;
 use bit_space::Order;
 use clap::ArgMatches;
@@ -27,14 +28,14 @@ pub struct MappingWords {
     /// The byte order of the run, if one is given.
     pub order: Option<Order>,
     /// The most steps of each mapping.
-    pub limit: u64,
+    pub limit: Limit,
 }
 
 /// What the arguments of a command that maps request beside the type and the file.
 pub fn mapping_words(alloc: Global, found: &ArgMatches<'_>) -> Result<MappingWords, WordFault>
     ensures asks { IfOk result (AsksMappingOf (found_of found.now)) }
     ensures offset { IfErr result (λ fault. fault ≡ Offset → IsNoExtent (found_of found.now)) }
-    ensures misread { IfErr result (FailsFor (IsNoNumberIfAny (first_value (found_of found.now) (codes "limit")))
+    ensures misread { IfErr result (FailsFor (IsNoLimitIfAny (first_value (found_of found.now) (codes "limit")))
         (IsNoExtent (found_of found.now))) }
 {
     Ok(MappingWords {
@@ -119,10 +120,26 @@ fn named_order(word: &str) -> Order
 }
 
 // The most steps of a mapping.
-fn limit_of(alloc: Global, found: &ArgMatches<'_>) -> Result<u64, WordFault>
-    ensures ok { IfOk result (NumberIn (first_value (found_of found.now) (codes "limit")) 1000000000) }
+fn limit_of(alloc: Global, found: &ArgMatches<'_>) -> Result<Limit, WordFault>
+    ensures ok { IfOk result (NamesLimitIn (first_value (found_of found.now) (codes "limit"))) }
     ensures fault { IfErr result (λ fault. fault ≢ Offset) }
-    ensures misread { IfErr result (FailsFor (IsNoNumberIfAny (first_value (found_of found.now) (codes "limit"))) ⊥) }
+    ensures misread { IfErr result (FailsFor (IsNoLimitIfAny (first_value (found_of found.now) (codes "limit"))) ⊥) }
 {
-    number_of(alloc, found, "limit", "--limit <N>", DEFAULT_LIMIT)
+    let Some(word) = found.get_str("limit") else {
+        return Ok(Limit::Steps(DEFAULT_LIMIT));
+    };
+    if word == "auto" {
+        return Ok(Limit::Auto);
+    }
+    Ok(Limit::Steps(number_of_word(alloc, word, "--limit <N>")?))
+}
+
+/// Whether the limit of steps of all records or attempts together grows with the file: no number is given.
+pub fn grows_limit(found: &ArgMatches<'_>) -> bool
+    ensures { GrowsLimit (found_of found.now) result }
+{
+    match found.get_str("limit") {
+        Some(word) => word == "auto",
+        None => true,
+    }
 }

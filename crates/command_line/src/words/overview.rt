@@ -39,7 +39,8 @@ Options of map, show, each, records and find:
 
 Options of map, show and each:
   --inside         map the type of +NAME for the format inside other bytes [default: that of whole files]
-  --limit N        the most steps of the mapping [default: 1000000000]
+  --limit N        the most steps of the mapping, or auto: the default, or 256 a byte if that is more
+                   [default: 1000000000]
   --whole          accept only a value that ends where FILE does [default: any end]
   --max-output N   the most bytes of the printed value [default: any length]
 

@@ -1,7 +1,7 @@
 use Rattle.bit_space.specs.SpaceView.{HasRisen}
 use Rattle.jobs.specs.Every.{every_of, mapped_of}
 use Rattle.jobs.proofs.FilesWritten.{line_cut, line_unflushed, line_written, object_cut, object_written}
-use Rattle.jobs.proofs.Mapped.{risen_more}
+use Rattle.jobs.proofs.Mapped.{asked_over, risen_more}
 use Rattle.run_parts.proofs.Sayings.{on_err}
 use Rattle.jobs.proofs.file_run.map_space.Goals as goal
 
@@ -13,7 +13,8 @@ returns-in_err-status-in-Line-clause-err g c =
     on_err c.from_residual.result
     (line_cut (every_of c.args.task) (mapped_of c.args.typed) c.args.start file after
     (HasRisen file.failures after.failures) c.ask_at.result
-    c.in-Line.faults c.args.name.now cut.0 _ _ c.ask_at.ensures c.in-Line.is (λ risen. risen) cut.1)
+    c.in-Line.faults c.args.name.now cut.0 _ _ (asked_over _ _ _ _ _ c.len.ensures c.ask_at.ensures) c.in-Line.is
+    (λ risen. risen) cut.1)
 
 pub returns-in_err-tell_reasons-in-Line-clause-err : goal.returns-in_err-tell_reasons-in-Line-clause-err
 returns-in_err-tell_reasons-in-Line-clause-err g c =
@@ -23,7 +24,8 @@ returns-in_err-tell_reasons-in-Line-clause-err g c =
     on_err c.from_residual-in_err-tell_reasons-in-Line.result
     (line_unflushed (every_of c.args.task) (mapped_of c.args.typed) c.args.start file after
     (HasRisen file.failures last.failures) c.ask_at.result
-    c.in-Line.faults c.args.name.now c.in_ok-status-in-Line.status _ _ _ c.ask_at.ensures c.in-Line.is
+    c.in-Line.faults c.args.name.now c.in_ok-status-in-Line.status _ _ _
+    (asked_over _ _ _ _ _ c.len.ensures c.ask_at.ensures) c.in-Line.is
     (λ risen. risen_more file.failures after.failures last.failures risen
     c.reason_lines-lines.ensures.keeps.failures)
     (c.in_ok-status-in-Line.ensures.ok _ (rw c.ask_at.ensures.name c.requires.typed.asked))
@@ -36,7 +38,8 @@ returns-in_ok-tell_reasons-in-Line-clause-ok g c =
     let last = g.S.Space.view c.reason_lines-lines.new.space in
     line_written (every_of c.args.task) (mapped_of c.args.typed) c.args.start file after
     (HasRisen file.failures last.failures) c.ask_at.result
-    c.in-Line.faults c.args.name.now c.in_ok-status-in-Line.status _ _ _ c.ask_at.ensures c.in-Line.is
+    c.in-Line.faults c.args.name.now c.in_ok-status-in-Line.status _ _ _
+    (asked_over _ _ _ _ _ c.len.ensures c.ask_at.ensures) c.in-Line.is
     (λ risen. risen_more file.failures after.failures last.failures risen
     c.reason_lines-lines.ensures.keeps.failures)
     (c.in_ok-status-in-Line.ensures.ok _ (rw c.ask_at.ensures.name c.requires.typed.asked))
@@ -50,7 +53,7 @@ returns-in-Object-clause-ok g c =
     object_written (every_of c.args.task) (mapped_of c.args.typed) c.args.start file after
     (HasRisen file.failures last.failures) c.ask_at.result
     c.args.name.now c.deref-in-Object.result.now c.map_file.new.kept c.put_object.result _ _
-    c.ask_at.ensures c.in-Object.is
+    (asked_over _ _ _ _ _ c.len.ensures c.ask_at.ensures) c.in-Object.is
     (λ e. rw c.deref-in-Object.ensures.value (c.reason_lines-lines-in-Object.ensures.quiet e))
     (λ risen. risen_more file.failures after.failures last.failures risen
     c.reason_lines-lines-in-Object.ensures.keeps.failures)
@@ -65,7 +68,7 @@ returns-in-Object-clause-err g c =
     object_cut (every_of c.args.task) (mapped_of c.args.typed) c.args.start file after
     (HasRisen file.failures last.failures) c.ask_at.result
     c.args.name.now c.deref-in-Object.result.now c.map_file.new.kept c.put_object.result _ _
-    c.ask_at.ensures c.in-Object.is
+    (asked_over _ _ _ _ _ c.len.ensures c.ask_at.ensures) c.in-Object.is
     (λ e. rw c.deref-in-Object.ensures.value (c.reason_lines-lines-in-Object.ensures.quiet e))
     (λ risen. risen_more file.failures after.failures last.failures risen
     c.reason_lines-lines-in-Object.ensures.keeps.failures)

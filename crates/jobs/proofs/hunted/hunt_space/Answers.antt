@@ -39,11 +39,8 @@ returns-clause-hunts g c =
                 ≡ flat_map (quarries_in request.order) c.args.formats.now.list.items)
                 (sym c.deref.ensures.value) c.in-Ok.ensures;
             asks = subst
-                (λ (count : ℕ). IsHuntAsk request c.args.search count c.args.start (8 * file.len) c.hunt_ask.result)
-                same
-                (subst
-                (λ (len : ℕ). IsHuntAsk request c.args.search c.len.result c.args.start (8 * len) c.hunt_ask.result)
-                c.len-2.ensures c.hunt_ask.ensures);
+                (λ (count : ℕ). IsHuntAsk request c.args.search count c.args.start file.len c.hunt_ask.result)
+                same c.hunt_ask.ensures;
             terms = refl;
             searches = c.search_of.ensures;
           })

@@ -5,6 +5,7 @@ use Rattle.jobs.specs.Identified.{as_due, of_documented}
 use Rattle.jobs.specs.Spaces.{DueSpace}
 use Rattle.jobs.specs.declared.ending.Ending.TheVariants.{Run}
 use Rattle.jobs.proofs.Holding.{holds_more}
+use Rattle.jobs.proofs.Mapped.{asked_over}
 use Rattle.jobs.proofs.identified.show_as.Goals as goal
 
 pub returns-clause-shows : goal.returns-clause-shows
@@ -24,7 +25,8 @@ returns-clause-shows g c =
       failures = mapped.failures;
       holds = holds_more _ _ (Ok (Run c.map_space-outcome.result)) _ _
           (λ lines end due. as_due
-          (subst (λ requested. IsAskAt requested.aim c.args.start c.ask_at.result) same c.ask_at.ensures)
+          (subst (λ requested. IsAskAt requested.aim c.args.start (g.S.Space.view c.args.space.now).len c.ask_at.result)
+          same (asked_over _ _ _ _ _ c.len.ensures c.ask_at.ensures))
           (subst (λ requested. DueSpace c.args.pickle.now.bytes.items c.ask_at.result requested.terms
           (g.S.Space.view c.args.space.now) mapped.after c.args.why.now.asked lines end) same due)) mapped.holds;
     }

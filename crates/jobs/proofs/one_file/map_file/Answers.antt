@@ -1,14 +1,14 @@
 use Rattle.std.proofs.KnownBytes.{Keeps-refl}
 use Rattle.std.proofs.lemmas.Result.{err_from_is_err_and}
-use Rattle.std.proofs.Common.{◌≡◌, Ok, subst}
+use Rattle.std.proofs.Common.{◌≡◌, ◌∙◌, Ok, ap, sym, subst}
 use Rattle.bit_space.specs.SpaceView.{HasRisen}
-use Rattle.jobs.specs.Aims.{IsAskOf, aim_of}
+use Rattle.jobs.specs.Aims.{IsAskAt, aim_of}
 use Rattle.jobs.specs.Due.{Holds}
 use Rattle.jobs.specs.Spaces.{DueSpace}
 use Rattle.jobs.specs.Jobs.{maps, no_pages, starts_nowhere, unopened}
 use Rattle.jobs.specs.declared.ending.Ending.TheVariants.{Run}
 use Rattle.jobs.proofs.Holding.{holds_more, no_text}
-use Rattle.jobs.proofs.Mapped.{risen_more}
+use Rattle.jobs.proofs.Mapped.{asked_over, risen_more}
 use Rattle.jobs.proofs.Sighted.{fails_seen}
 use Rattle.spool.specs.Window.{cut_at, seen}
 use Rattle.jobs.proofs.one_file.map_file.Goals as goal
@@ -27,7 +27,7 @@ pub returns-in_default : goal.returns-in_default
 returns-in_default g c =
     no_text _ _ _ _
     (starts_nowhere {file = g.P.Bytes.Space.view c.in_ok-bytes.bytes} c.in_ok-bytes.ensures.ok
-    (rw c.in_default.is at c.ask_in.ensures.none))
+    (sym (rw c.in_default.is at c.bit_in.ensures)))
     (Keeps-refl _)
 
 pub returns : goal.returns
@@ -38,24 +38,27 @@ returns g c =
     let sight = cut_at window.end (g.P.Bytes.Space.view window.whole) in
     let last = c.map_space-outcome.new.space in
     let after = g.P.Bytes.Space.view last.whole in
-    let asked : IsAskOf (aim_of c.args.mapping) file.len c.in-Some.ask = rw c.in-Some.is at c.ask_in.ensures.some in
-    let same : sight ≡ seen c.args.mapping.window c.in-Some.ask.start file =
+    let same : sight ≡ seen c.args.mapping.window c.in-Some.start file =
     rw c.in_ok-space.ensures c.from_start-window.ensures in
+    let asked : IsAskAt (aim_of c.args.mapping) c.in-Some.start (seen c.args.mapping.window c.in-Some.start file).len
+    c.ask_at.result =
+    asked_over _ _ _ _ _ (c.len-2.ensures ∙ ap (λ view. view.len) same) c.ask_at.ensures in
     let mapped = c.map_space-outcome.ensures.maps in
     let failing = λ (risen : HasRisen file.failures mapped.after.failures).
-    fails_seen c.args.mapping.window c.in-Some.ask.start file sight after last.end (gives.is_failing c.args.path.now)
+    fails_seen c.args.mapping.window c.in-Some.start file sight after last.end (gives.is_failing c.args.path.now)
     (g.met.P.Bytes.Space.whole c.in_ok-bytes.bytes) same
     (λ end end' keeps more. g.met.P.Opener.failing c.args.opener.now c.args.path.now c.args.mapping.spool
     c.in_ok-bytes.bytes last.whole end end' c.in_ok-bytes.ensures.ok keeps more)
     c.map_space-outcome.ensures.keeps
     (risen_more file.failures mapped.after.failures after.failures risen mapped.failures) in
     holds_more
-    (DueSpace c.args.pickle.now.bytes.items c.in-Some.ask c.args.mapping.terms.now
-    (seen c.args.mapping.window c.in-Some.ask.start file) mapped.after c.args.why.now.asked)
+    (DueSpace c.args.pickle.now.bytes.items c.ask_at.result c.args.mapping.terms.now
+    (seen c.args.mapping.window c.in-Some.start file) mapped.after c.args.why.now.asked)
     _ (Ok (Run c.map_space-outcome.result)) _ _
     (λ lines end due.
-    maps {file = file} {after = mapped.after} c.in-Some.ask c.in_ok-bytes.ensures.ok asked failing due)
+    maps {file = file} {after = mapped.after} c.in-Some.start c.ask_at.result c.in_ok-bytes.ensures.ok
+    (sym (rw c.in-Some.is at c.bit_in.ensures)) asked failing due)
     (subst
-    (λ view. Holds (DueSpace c.args.pickle.now.bytes.items c.in-Some.ask c.args.mapping.terms.now view mapped.after
+    (λ view. Holds (DueSpace c.args.pickle.now.bytes.items c.ask_at.result c.args.mapping.terms.now view mapped.after
     c.args.why.now.asked) (g.O.Write.contents c.args.out.now) (g.O.Write.contents c.map_space-outcome.new.out)
     (Ok (Run c.map_space-outcome.result))) same mapped.holds)

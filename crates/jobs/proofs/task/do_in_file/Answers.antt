@@ -1,13 +1,13 @@
 use Rattle.std.proofs.KnownBytes.{Keeps-refl}
 use Rattle.std.proofs.lemmas.Result.{err_from_is_err_and}
-use Rattle.std.proofs.Common.{◌≡◌, Ok, subst}
+use Rattle.std.proofs.Common.{◌≡◌, ◌∙◌, Ok, ap, sym, subst}
 use Rattle.bit_space.specs.SpaceView.{HasRisen}
-use Rattle.jobs.specs.Aims.{IsAskOf, aim_of}
+use Rattle.jobs.specs.Aims.{IsAskAt, aim_of}
 use Rattle.jobs.specs.Due.{Holds}
 use Rattle.jobs.specs.Tasks.{DueSeenIn, does_task, no_pages, no_start, not_opened}
 use Rattle.jobs.specs.declared.ending.Ending.TheVariants.{Run}
 use Rattle.jobs.proofs.Holding.{holds_more, no_text}
-use Rattle.jobs.proofs.Mapped.{risen_more}
+use Rattle.jobs.proofs.Mapped.{asked_over, risen_more}
 use Rattle.jobs.proofs.Sighted.{fails_seen}
 use Rattle.spool.specs.Window.{cut_at, seen}
 use Rattle.jobs.proofs.task.do_in_file.Goals as goal
@@ -26,7 +26,7 @@ pub returns-in_default : goal.returns-in_default
 returns-in_default g c =
     no_text _ _ _ _
     (no_start {file = g.P.Bytes.Space.view c.in_ok-bytes.bytes} c.in_ok-bytes.ensures.ok
-    (rw c.in_default.is at c.ask_in.ensures.none))
+    (sym (rw c.in_default.is at c.bit_in.ensures)))
     (Keeps-refl _)
 
 pub returns : goal.returns
@@ -37,24 +37,28 @@ returns g c =
     let sight = cut_at window.end (g.P.Bytes.Space.view window.whole) in
     let last = c.do_in_view-outcome.new.space in
     let after = g.P.Bytes.Space.view last.whole in
-    let asked : IsAskOf (aim_of c.args.mapping) file.len c.in-Some.ask = rw c.in-Some.is at c.ask_in.ensures.some in
-    let same : sight ≡ seen c.args.mapping.window c.in-Some.ask.start file =
+    let same : sight ≡ seen c.args.mapping.window c.in-Some.start file =
     rw c.in_ok-space.ensures c.from_start-window.ensures in
+    let asked : IsAskAt (aim_of c.args.mapping) c.in-Some.start (seen c.args.mapping.window c.in-Some.start file).len
+    c.ask_at-ask.result =
+    asked_over _ _ _ _ _ (c.len-2.ensures ∙ ap (λ view. view.len) same) c.ask_at-ask.ensures in
     let does = c.do_in_view-outcome.ensures.does in
     let failing = λ (risen : HasRisen file.failures does.after.failures).
-    fails_seen c.args.mapping.window c.in-Some.ask.start file sight after last.end (gives.is_failing c.args.path.now)
+    fails_seen c.args.mapping.window c.in-Some.start file sight after last.end (gives.is_failing c.args.path.now)
     (g.met.P.Bytes.Space.whole c.in_ok-bytes.bytes) same
     (λ end end' keeps more. g.met.P.Opener.failing c.args.opener.now c.args.path.now c.args.mapping.spool
     c.in_ok-bytes.bytes last.whole end end' c.in_ok-bytes.ensures.ok keeps more)
     c.do_in_view-outcome.ensures.keeps
     (risen_more file.failures does.after.failures after.failures risen does.failures) in
     holds_more
-    (DueSeenIn c.args.pickle.now.bytes.items c.in-Some.ask c.args.mapping.terms.now c.args.task
-    (seen c.args.mapping.window c.in-Some.ask.start file) does.after)
+    (DueSeenIn c.args.pickle.now.bytes.items c.ask_at-ask.result c.args.mapping.terms.now c.args.task
+    (seen c.args.mapping.window c.in-Some.start file) does.after)
     _ (Ok (Run c.do_in_view-outcome.result)) _ _
     (λ lines end due.
-    does_task {file = file} {after = does.after} c.in-Some.ask c.in_ok-bytes.ensures.ok asked failing due)
+    does_task {file = file} {after = does.after} c.in-Some.start c.ask_at-ask.result c.in_ok-bytes.ensures.ok
+    (sym (rw c.in-Some.is at c.bit_in.ensures)) asked failing due)
     (subst
-    (λ view. Holds (DueSeenIn c.args.pickle.now.bytes.items c.in-Some.ask c.args.mapping.terms.now c.args.task view
+    (λ view.
+    Holds (DueSeenIn c.args.pickle.now.bytes.items c.ask_at-ask.result c.args.mapping.terms.now c.args.task view
     does.after) (g.O.Write.contents c.args.out.now) (g.O.Write.contents c.do_in_view-outcome.new.out)
     (Ok (Run c.do_in_view-outcome.result))) same does.holds)
