@@ -1,5 +1,8 @@
 -- Starts that a screen rules out.
-use Rattle.std.proofs.Common.{◌≡◌, ℕ, ◌+◌, ◌-◌, ◌*◌, ◌/◌, ◌%◌, ◌<◌, ◌≤◌, List, [], ◌∷◌, Option, Some, None, IfSome, true, false, length, get_or, drop, sym, ap, ◌∙◌, subst, arith}
+use Rattle.std.proofs.Common.{◌≡◌, ℕ, ◌+◌, ◌-◌, ◌*◌, ◌/◌, ◌%◌, ◌<◌, ◌≤◌, min, List, [], ◌∷◌, Option, Some, None, IfSome, true, false, length, get_or, drop, sym, ap, ◌∙◌, subst, arith}
+use Rattle.std.proofs.Math.Nat.{add-mul, mul_left_comm}
+use Rattle.std.proofs.lemmas.Grind.{div_ceil_times}
+use Rattle.std.proofs.lemmas.Nat.{mul-le}
 use Rattle.std.proofs.lemmas.List.{get_or-drop, get_or-take, get_or_default}
 use Rattle.std.specs.Option.{option_map}
 use Rattle.bit_space.specs.Bits.{bits_of}
@@ -15,12 +18,13 @@ use Rattle.first_numbers.specs.declared.screen.Screen.{Screen}
 use Rattle.first_numbers.specs.declared.sieve.Clear.{Clear}
 use Rattle.first_numbers.specs.declared.sieve.Miss.{Miss}
 use Rattle.first_numbers.specs.declared.sieve.Sieve.{Sieve}
+use Rattle.first_numbers.specs.declared.sieve.Stretch.{Stretch}
 use Rattle.pickle_types.specs.Types.{PokeType}
 use Rattle.first_numbers.specs.Held.{AreNear, HoldsLayout, IsSoundFirst, number_shown, numbers_shown}
 use Rattle.first_numbers.specs.Layouts.{layout}
 use Rattle.first_numbers.specs.Reads.{IsMissed}
 use Rattle.first_numbers.specs.Runs.{AllFail, judged, none_fail, one_fails}
-use Rattle.first_numbers.specs.Screens.{AreMissed, FailsWith, IsCovered, IsMiss, IsScreen, IsSieve, MissesIn, PassesOver, place_of}
+use Rattle.first_numbers.specs.Screens.{AreMissed, AreMisses, FailsWith, IsClear, IsCovered, IsMiss, IsScreen, IsSieve, MissesIn, PassesOver, place_of}
 use Rattle.first_numbers.proofs.Bytes.{number_with, place_inside}
 
 -- the screen of one number
@@ -233,3 +237,79 @@ pub screen_passes : (first : HeldFirst) (order : Order) (screen : Option Screen)
     IfSome screen (IsScreen first order) → PassesOver (held.Tests first) screen space order 0 0
 screen_passes first order (Some screen) space h = (h, none_missed first space order 0 0 screen.steps (omega arith))
 screen_passes first order None space h = tt
+
+-- ---- starts that are known
+
+-- a start among those that were read is ruled out
+pub clear_covered : (l : HeldLayout) (screen : Option Screen) (order : Order) (space : SpaceView) (clear : Clear)
+    (start : ℕ) → IsClear clear start → PassesOver l screen space order clear.from clear.to →
+    IsCovered l screen space order start
+clear_covered (held.Number x) screen order space clear start is h = tt
+clear_covered (held.Fixed width steps) screen order space clear start is h = tt
+clear_covered (held.Tests first) None order space clear start is h = tt
+clear_covered (held.Tests first) (Some screen) order space clear start is h =
+    subst (λ bit. IsMissed first space order bit screen.steps screen.steps) (sym is.is_at) (h.1 is.at is.from is.to)
+clear_covered held.Loose screen order space clear start is h = tt
+
+-- a fault that was found after other reads
+miss_before : {first now : SpaceView} {type : PokeType} {order : Order} {start allowed : ℕ} {miss : Miss} →
+    Keeps first now → IsMiss type now order start allowed miss → IsMiss type first order start allowed miss
+miss_before keeps h =
+    record { held = h.held; holds = h.holds; distance = h.distance; missed = missed_before keeps h.missed }
+
+-- where more steps are allowed, or fewer that suffice
+pub allowed_too : {type : PokeType} {space : SpaceView} {order : Order} {start allowed other : ℕ} {miss : Miss} →
+    miss.steps ≤ other → IsMiss type space order start allowed miss → IsMiss type space order start other miss
+allowed_too few h = record {
+  held = h.held;
+  holds = h.holds;
+  distance = h.distance;
+  missed = record {
+    few = few;
+    within = h.missed.within;
+    tests = h.missed.tests;
+    fail = h.missed.fail;
+    counts = h.missed.counts;
+  };
+}
+
+-- each of the starts that are known has the fault of the first
+pub stretch_misses : (type : PokeType) (order : Order) (before now : SpaceView) (sieve : Sieve)
+    (start step allowed : ℕ) (stretch : Stretch) → Keeps before now → IsSieve type now order sieve →
+    ((k : ℕ) → k < stretch.count → IsClear sieve.clear (start + k * step)) →
+    ((space : SpaceView) (order : Order) (start : ℕ) → IsCovered sieve.layout sieve.screen space order start →
+    MissesIn sieve.layout space order start allowed stretch.miss) →
+    AreMisses type before order start step allowed stretch
+stretch_misses type order before now sieve start step allowed stretch keeps h clear misses k few =
+    let here = start + k * step in
+    miss_before keeps
+    (layout_misses sieve.layout type order now here allowed stretch.miss h.holds
+    (misses now order here
+    (clear_covered sieve.layout sieve.screen order now sieve.clear here (clear k few) h.passes)))
+
+-- so many whole steps are less than a distance
+pub below_ceil : (distance step k : ℕ) → 0 < step → k < distance / step + min 1 (distance % step) →
+    k * step < distance
+below_ceil distance step k some few =
+    let ceil = distance / step + min 1 (distance % step) in
+    let top = (div_ceil_times distance step some).1 in
+    let more = mul-le (k + 1) step ceil step (omega (arith, few)) (omega arith) in
+    let next = add-mul k 1 step in
+    omega (arith, top, more, next)
+
+-- steps of whole bytes lead from one of the starts to others
+pub steps_clear : (clear : Clear) (start step k : ℕ) → IsClear clear start → 0 < step → step % 8 ≡ 0 →
+    k < (clear.to - start / 8) / (step / 8) + min 1 ((clear.to - start / 8) % (step / 8)) →
+    IsClear clear (start + k * step)
+steps_clear clear start step k is some whole few =
+    let here = is.is_at in
+    let from = is.from in
+    let bytes : step ≡ 8 * (step / 8) = omega (arith, whole) in
+    let more = below_ceil (clear.to - start / 8) (step / 8) k (omega (arith, some, whole)) few in
+    let times : k * step ≡ 8 * (k * (step / 8)) = ap (λ (s : ℕ). k * s) bytes ∙ mul_left_comm k 8 (step / 8) in
+    record {
+      at = start / 8 + k * (step / 8);
+      is_at = omega (arith, here, times);
+      from = omega (arith, here, from);
+      to = omega (arith, more);
+    }

@@ -13,8 +13,10 @@ use Rattle.first_numbers.specs.declared.layouts.Layout.TheVariants as held
 use Rattle.first_numbers.specs.declared.number.First.{First as HeldFirst}
 use Rattle.first_numbers.specs.declared.number.Numeral.{Numeral}
 use Rattle.first_numbers.specs.declared.screen.Screen.{Screen}
+use Rattle.first_numbers.specs.declared.sieve.Clear.{Clear}
 use Rattle.first_numbers.specs.declared.sieve.Miss.{Miss}
 use Rattle.first_numbers.specs.declared.sieve.Sieve.{Sieve}
+use Rattle.first_numbers.specs.declared.sieve.Stretch.{Stretch}
 use Rattle.first_numbers.specs.Held.{HoldsLayout, HoldsTests, IsSoundLayout}
 use Rattle.first_numbers.specs.Judged.{IsJudged}
 use Rattle.first_numbers.specs.Layouts.{FirstNumber, layout}
@@ -70,6 +72,13 @@ PassesOver (held.Tests first) (Some screen) space order from to =
     IsScreen first order screen × AreMissed first space order from to screen.steps
 PassesOver l screen space order from to = Unit {0}
 
+-- a start is at one of the bytes that are surely missed
+pub record IsClear (clear : Clear) (start : ℕ) : Type 0 where
+  pub at : ℕ
+  pub is_at : start ≡ 8 * at
+  pub from : clear.from ≤ at
+  pub to : at < clear.to
+
 -- a screen rules a start out
 abbrev pub IsCovered : HeldLayout → Option Screen → SpaceView → Order → (start : ℕ) → Type 0
 IsCovered (held.Tests first) (Some screen) space order start =
@@ -95,3 +104,9 @@ pub record IsMiss (type : PokeType) (space : SpaceView) (order : Order) (start a
   pub holds : HoldsTests held (layout type)
   pub distance : miss.distance ≡ held.fault
   pub missed : IsMissed held space order start allowed miss.steps
+
+-- the type has the same fault at each start of a stretch, of which the first is here, and each a step after the one
+-- before
+abbrev pub AreMisses : PokeType → SpaceView → Order → (start step allowed : ℕ) → Stretch → Type 0
+AreMisses type space order start step allowed stretch =
+    (k : ℕ) → k < stretch.count → IsMiss type space order (start + k * step) allowed stretch.miss

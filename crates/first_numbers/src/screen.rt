@@ -14,8 +14,8 @@ use crate::reader::ordered;
 use crate::zeros::zero_steps;
 use bit_space::{Order, Space};
 
-/// At most so many starts are looked at by one read.
-const PAGE: usize = 4096;
+/// At most so many starts are looked at by one read: twice as many as are missed in a row by chance.
+pub const RUN: u64 = 512;
 
 /// What one byte says of a start. A type has a Constraint fault at each start where this byte is one of those that rule
 /// it out, and the file goes on far enough.
@@ -44,7 +44,7 @@ impl Screen {
         }
     }
 
-    /// How many starts, one at each byte from the byte `at` on, are surely missed: up to 4096, as one read shows. None
+    /// How many starts, one at each byte from the byte `at` on, are surely missed: up to 512, as one read shows. None
     /// if the read fails.
     #[inline(never)]
     pub fn missed_run<S: Space>(&self, at: u64, space: &mut S) -> u64
@@ -57,8 +57,8 @@ impl Screen {
         if self.place >= self.need || self.need > bytes || at > bytes - self.need {
             return 0;
         }
-        let count = (bytes - self.need - at + 1).min(PAGE as u64) as usize;
-        let mut page = [0u8; PAGE];
+        let count = (bytes - self.need - at + 1).min(RUN) as usize;
+        let mut page = [0u8; RUN as usize];
         self.missed_in(at, &mut page[..count], space)
     }
 

@@ -10,7 +10,8 @@ returns-then-is_covered-clause-missed g c = λ type order h.
     let space = g.S.Space.view c.args.space.now in
     sieve_misses type order space c.args.self.now _ c.args.start c.args.allowed c.covered_miss.result
     c.is_covered.ensures.same.0 h
-    (c.covered_miss.ensures space order c.args.start (c.is_covered.ensures.covered type order h c.if-is_covered.true))
+    (c.covered_miss.ensures.missed space order c.args.start
+    (c.is_covered.ensures.covered type order h c.if-is_covered.true))
 
 pub read_miss-requires : goal.read_miss-requires
 read_miss-requires g c = record { sound = subst IsSoundLayout (sym c.is_covered.ensures.same.0) c.requires.sound }
