@@ -4,4 +4,5 @@ pub mod Reached
 pub mod Stocks
 pub mod Trials
 pub mod Missed
+pub mod Passed
 pub mod Sieves

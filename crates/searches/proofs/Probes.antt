@@ -1,5 +1,5 @@
 -- The attempts at the types that are looked for.
-use Rattle.std.proofs.Common.{◌≡◌, ◌≤◌, ℕ, Option, Result, Some, None, Ok, Err, IfOk, IfErr, IfSome, refl, sym, subst, arith}
+use Rattle.std.proofs.Common.{◌≡◌, ◌≤◌, ℕ, true, List, [], append-nil, slice_index, Option, Result, Some, None, Ok, Err, IfOk, IfErr, IfSome, refl, sym, subst, arith}
 use Rattle.bit_space.proofs.Failures.{risen_later}
 use Rattle.bit_space.specs.SpaceView.{Keeps, SpaceView}
 use Rattle.bit_space.specs.declared.order.Order.{Order}
@@ -11,8 +11,9 @@ use Rattle.records.specs.Next.{HoldsValue, IsStopped}
 use Rattle.records.specs.declared.attempt.Stopped.{Stopped}
 use Rattle.run_parts.specs.declared.outcome.Outcome.{Outcome}
 use Rattle.searches.proofs.Trials.{is_hit, is_miss}
-use Rattle.searches.specs.Round.{GoesWithout, HasHit, HasMiss, StopsHunt}
-use Rattle.searches.specs.Sought.{IsAttempt, StopsAt, StopsType, TriesType, TriesValue, ask_in, meant, past_value, signed, spent, stops_signature, stops_value, unmeant, unsigned}
+use Rattle.searches.specs.Round.{GoesNext, GoesWithout, HasHit, HasMiss, StopsHunt}
+use Rattle.searches.specs.Rounds.{IsNth, due}
+use Rattle.searches.specs.Sought.{IsAttempt, StopsAt, StopsType, TriesType, TriesValue, ask_in, is_due, meant, past_stop, past_value, signed, spent, stops_signature, stops_value, unmeant, unsigned}
 use Rattle.searches.specs.Starts.{ask_at}
 use Rattle.searches.specs.Written.{IsRunAt}
 use Rattle.searches.specs.declared.hunt.Hunt.{Hunt}
@@ -70,6 +71,26 @@ pub skip_few : (hunt : Hunt) (at : Reach) (run : TypeRun) (order : Order) (befor
 skip_few hunt at run order before last is (Some stop) h =
     let few = subst (λ (ask : Ask). stop.steps ≤ ask.limit) is h.few in omega (arith, few)
 skip_few hunt at run order before last is None h = tt
+
+pub known_few : (hunt : Hunt) (at : Reach) (order : Order) (ask : Ask) →
+    ask ≡ ask_in hunt.search at hunt.ask.now order → (known : Option Stopped) →
+    IfSome known (λ stopped. stopped.steps ≤ ask.limit) → IfSome known (λ stopped. stopped.steps ≤ at.left)
+known_few hunt at order ask is (Some stop) h =
+    let few = subst (λ (ask : Ask). stop.steps ≤ ask.limit) is h in omega (arith, few)
+known_few hunt at order ask is None h = tt
+
+-- a type that is due and has no value
+pub goes_known : (hunt : Hunt) (first last : SpaceView) (k : ℕ) (at : Reach) (places text : List ℕ) (sought : Sought)
+    (stop : Stopped) (next : Option Reach) → is_due hunt.search at (slice_index places k) ≡ true →
+    IsNth hunt.list.now k sought → HasMiss hunt first last at sought sought.signature stop →
+    next ≡ past_stop hunt.search at stop.fault.kind stop.steps →
+    IfSome next (GoesNext hunt first k at places places text text)
+goes_known hunt first last k at places text sought stop (Some next) is_on nth miss is = record {
+  more = [];
+  tries = due is_on nth (unsigned miss.misses (sym is));
+  adds = sym (append-nil text);
+}
+goes_known hunt first last k at places text sought stop None is_on nth miss is = tt
 
 module _ (hunt : Hunt) (first last : SpaceView) (at : Reach) (sought : Sought) where
   -- an attempt was stopped, and the search goes on

@@ -1,5 +1,6 @@
 pub mod Founds
 pub mod Lines
+pub mod Passed
 pub mod Round
 pub mod Rounds
 pub mod Sought

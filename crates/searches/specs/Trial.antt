@@ -1,5 +1,5 @@
 -- What the functions that try one start do.
-use Rattle.std.specs.Prelude.{◌≡◌, ◌≤◌, ◌*◌, ℕ, true, List, Option, None}
+use Rattle.std.specs.Prelude.{◌≡◌, ◌<◌, ◌≤◌, ◌*◌, ℕ, true, List, Option, None}
 use Rattle.std.specs.List.{concat}
 use Rattle.std.specs.Io.KnownBytes.{Appends, Keeps as KeepsBytes}
 use Rattle.bit_space.specs.SpaceView.{SpaceView}
@@ -12,6 +12,7 @@ use Rattle.run_parts.specs.Told.{AppendsUpTo}
 use Rattle.run_parts.specs.declared.outcome.Failure.TheVariants as failure
 use Rattle.run_parts.specs.declared.outcome.Outcome.{Outcome}
 use Rattle.run_parts.specs.declared.outcome.Outcome.TheVariants as outcome
+use Rattle.searches.specs.Passed.{Passes}
 use Rattle.searches.specs.Starts.{IsHit, after_stop, goes_on}
 use Rattle.searches.specs.Written.{EndsSearch, IsLine, LacksLine, Tries, WritesHit}
 use Rattle.searches.specs.declared.search.Reach.{Reach}
@@ -51,6 +52,13 @@ pub record GoesOn (run : TypeRun) (search : Search) (first : SpaceView) (at : Re
   pub on : goes_on search at (8 * first.len) ≡ true
   pub tries : Tries run search first at next more
   pub takes : Appends out out' (concat more)
+
+-- one more start was tried; or some were passed over, and nothing is written
+pub data Advances (run : TypeRun) (search : Search) (first : SpaceView) (at : Reach) (out out' : Option (List ℕ))
+    (next : Reach) : Type 0 where
+  one_tried : GoesOn run search first at out out' next → Advances run search first at out out' next
+  some_passed : Passes run search first at next → at.place < next.place → KeepsBytes out out' →
+      Advances run search first at out out' next
 
 -- the search ends here, and nothing is written; or the output failed at the line of one more value
 pub data EndsHere (run : TypeRun) (search : Search) (first last : SpaceView) (at : Reach)

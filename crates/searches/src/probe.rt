@@ -1,7 +1,7 @@
 //! One attempt at a type among others.
 
 ghost use Rattle.std.specs.Prelude.{◌≡◌, ◌≤◌, Some, IfErr, IfOk, IfSome};
-ghost use Rattle.bit_space.specs.SpaceView.{Keeps, SpaceView};
+ghost use Rattle.bit_space.specs.SpaceView.{IsWhole, Keeps, SpaceView};
 ghost use Rattle.pickle_map.specs.Findings.{AreFound};
 ghost use Rattle.pickle_meaning.specs.Values.{Value};
 ghost use Rattle.pickle_types.specs.TypeTable.{IsInTable, nodes_of};
@@ -12,7 +12,7 @@ ghost use Rattle.value_store.specs.Refs.{value_shown};
 
 use crate::hunt::Hunt;
 use crate::search::Reach;
-use crate::skips::missed;
+use crate::skips::{known_stop, missed};
 use crate::sought::Sought;
 use bit_space::Space;
 use first_numbers::sieve::Sieve;
@@ -99,6 +99,30 @@ pub fn skip<S: Space>(
         terms: hunt.terms,
     };
     missed(&run, sieve, space)
+}
+
+/// The same where it was read before: nothing is read.
+#[inline(always)]
+pub fn known_skip(
+    hunt: &Hunt<'_>,
+    sought: &Sought<'_>,
+    sieve: &Sieve<'_>,
+    at: Reach,
+) -> Option<Stopped>
+    ensures missed { (first before : SpaceView) → Keeps first before → IsWhole before →
+        IsSieveOf sought.now before sieve.now →
+        IfSome result (HasMiss hunt.now first before at sought.now sought.now.signature) }
+    ensures few { IfSome result (λ stopped. stopped.steps ≤ at.left) }
+{
+    let ask = hunt.ask_in(at, sought.order);
+    let run = TypeRun {
+        alloc: hunt.alloc,
+        table: sought.table,
+        id: sought.signature,
+        ask: &ask,
+        terms: hunt.terms,
+    };
+    known_stop(&run, sieve)
 }
 
 // Maps the type of a run into what is stored, with what was found of its table's types.

@@ -1,20 +1,20 @@
 //! One start of a search for many types.
 
-ghost use Rattle.std.specs.Prelude.{◌≡◌, ◌≤◌, ◌<◌, ◌*◌, true, length, IfErr, IfOk, IfSome, OnErr, OnOk};
+ghost use Rattle.std.specs.Prelude.{◌≡◌, ◌≤◌, ◌<◌, ◌*◌, List, ℕ, true, length, IfErr, IfOk, IfSome, OnErr, OnOk};
 ghost use Rattle.std.specs.Io.KnownBytes.{Appends};
-ghost use Rattle.bit_space.specs.SpaceView.{Keeps, SpaceView};
+ghost use Rattle.bit_space.specs.SpaceView.{IsWhole, Keeps, SpaceView};
 ghost use Rattle.pickle_map.specs.Findings.{AreFound};
 ghost use Rattle.pickle_types.specs.TypeTable.{nodes_of};
 ghost use Rattle.poke_batch.specs.RunsUnder.{IsStoreOf};
 ghost use Rattle.run_parts.specs.Told.{AppendsUpTo};
-ghost use Rattle.searches.specs.Round.{EndsRound, GoesNext, GoesRound, GoesWithout, IsSieveOf, IsStocked, StopsHunt};
+ghost use Rattle.searches.specs.Round.{AreSieves, EndsRound, GoesNext, GoesRound, GoesWithout, IsSieveOf, IsStocked, StopsHunt};
 ghost use Rattle.searches.specs.Rounds.{EndsStart, EndsType, TriesAll, places_after};
 ghost use Rattle.searches.specs.Sought.{StopsAt, StopsType, TriesType, TriesValue, is_due};
 ghost use Rattle.searches.specs.Starts.{goes_on};
 
 use crate::found::{Names, add_found};
 use crate::hunt::{Hunt, Tried};
-use crate::probe::{probe, skip};
+use crate::probe::{known_skip, probe, skip};
 use crate::search::{Reach, Search};
 use crate::sought::Sought;
 use bit_space::Space;
@@ -108,8 +108,52 @@ fn try_types<S: Space>(
     Ok(reach)
 }
 
+// The search after a type of the list that isn't tried at a start: it isn't due, or what was read before shows that its
+// signature has no value there. `None` says nothing.
+#[inline(always)]
+fn pass_next(hunt: &Hunt<'_>, k: usize, at: Reach, stock: &Stock<'_>) -> Option<Reach>
+    requires inside { k < length hunt.now.list.now }
+    requires places { length stock.now.places.items ≡ length hunt.now.list.now }
+    requires sieves { length stock.now.sieves.items ≡ length hunt.now.list.now }
+    ensures { (first before : SpaceView) (text : List ℕ) → Keeps first before → IsWhole before →
+        AreSieves hunt.now.list.now before stock.now.sieves.items →
+        IfSome result (GoesNext hunt.now first k at stock.now.places.items stock.now.places.items text text) }
+{
+    if !hunt.search.is_due(at, stock.places[k]) {
+        return Some(at);
+    }
+    let stopped = known_skip(hunt, &hunt.list[k], &stock.sieves[k], at)?;
+    hunt.search.past_stop(at, stopped.fault.kind, stopped.steps)
+}
+
 // Tries one type of the list at a start, or passes over it, and gathers the line of its value.
+#[inline(always)]
 fn try_next<S: Space>(
+    hunt: &Hunt<'_>,
+    k: usize,
+    at: Reach,
+    stock: &mut Stock<'_>,
+    space: &mut S,
+) -> Result<Reach, Outcome>
+    requires inside { k < length hunt.now.list.now }
+    requires ready { IsStocked hunt.now (S.view space.old) stock.old }
+    ensures ready { IsStocked hunt.now (S.view space.new) stock.new }
+    ensures ok { (first : SpaceView) → Keeps first (S.view space.old) →
+        IfOk result (GoesNext hunt.now first k at stock.old.places.items stock.new.places.items
+        stock.old.text.items stock.new.text.items) }
+    ensures err { (first : SpaceView) → Keeps first (S.view space.old) →
+        IfErr result (EndsType hunt.now first (S.view space.new) k at stock.old.places.items) }
+    ensures keeps { Keeps (S.view space.old) (S.view space.new) }
+{
+    match pass_next(hunt, k, at, stock) {
+        Some(next) => Ok(next),
+        None => try_due(hunt, k, at, stock, space),
+    }
+}
+
+// The same where what was read before says nothing.
+#[inline(never)]
+fn try_due<S: Space>(
     hunt: &Hunt<'_>,
     k: usize,
     at: Reach,

@@ -1,9 +1,11 @@
 //! Where a type is tried, and how far a search is.
 
-ghost use Rattle.std.specs.Prelude.{◌≡◌, ◌<◌, ◌≤◌, ◌+◌, ◌^◌, true};
+ghost use Rattle.std.specs.Prelude.{◌≡◌, ◌<◌, ◌≤◌, ◌+◌, ◌*◌, ◌^◌, true};
+ghost use Rattle.searches.specs.Passed.{PassesSome, after_starts};
 ghost use Rattle.searches.specs.Starts.{IsFew, after_stop, after_value, allowed, ask_at, first_of, given_count, given_more, goes_on, is_counted, natural_end, next_start, start_after, way_over};
 
 use command_line::ask::Ask;
+use first_numbers::sieve::Stretch;
 use pickle_map::MapFaultKind;
 use run_parts::outcome::Outcome;
 
@@ -164,6 +166,32 @@ impl Search {
         })
     }
 
+    /// How far a search is after as many starts of a stretch as are in the file, and as it has the steps for.
+    pub(crate) fn past_stretch(&self, at: Reach, stretch: Stretch, bits: u64) -> Reach
+        requires step { 0 < self.now.step }
+        requires inside { at.place < bits }
+        ensures { PassesSome self.now at stretch bits result }
+    {
+        let places = (bits - at.place).div_ceil(self.step);
+        let count = stretch.count.min(places);
+        let passed = most_paid(count, stretch.miss.steps, at.left);
+        self.after_starts(at, passed, stretch.miss.steps, bits)
+    }
+
+    // How far a search is after so many starts, each of which took so many steps.
+    fn after_starts(&self, at: Reach, count: u64, steps: u64, bits: u64) -> Reach
+        requires paid { count * steps ≤ at.left }
+        ensures { result ≡ after_starts self.now at count steps bits }
+    {
+        let way = u128::from(count) * u128::from(self.step);
+        Reach {
+            place: (u128::from(at.place) + way).min(u128::from(bits)) as u64,
+            found: at.found,
+            left: at.left - count * steps,
+            given_up: at.given_up,
+        }
+    }
+
     /// How a search ends that doesn't go on.
     pub(crate) fn natural_end(&self, at: Reach) -> Outcome
         ensures { result ≡ natural_end self.now at }
@@ -176,6 +204,18 @@ impl Search {
             None if at.found == 0 && !self.is_counted(at.found) => Outcome::NotFound,
             None => Outcome::Done,
         }
+    }
+}
+
+// How many of `count` starts can be paid, each of which takes so many steps, when so many are left.
+fn most_paid(count: u64, steps: u64, left: u64) -> u64
+    ensures few { result ≤ count }
+    ensures paid { result * steps ≤ left }
+{
+    if steps == 0 {
+        count
+    } else {
+        count.min(left / steps)
     }
 }
 

@@ -1,12 +1,15 @@
 //! Attempts that need no mapping: where the first numbers of a type fail, the type has no value.
 
-ghost use Rattle.std.specs.Prelude.{◌≡◌, ◌+◌, IfErr, IfOk, IfSome};
-ghost use Rattle.bit_space.specs.SpaceView.{Keeps};
+ghost use Rattle.std.specs.Prelude.{◌≡◌, ◌+◌, ◌*◌, ◌<◌, ◌≤◌, true, IfErr, IfOk, IfSome};
+ghost use Rattle.bit_space.specs.SpaceView.{IsWhole, Keeps, SpaceView};
 ghost use Rattle.first_numbers.specs.Screens.{IsSieve};
 ghost use Rattle.pickle_meaning.specs.declared.faults.MapFaultKind.TheVariants.{Constraint};
 ghost use Rattle.poke_batch.specs.TypeRuns.{run_type};
 ghost use Rattle.records.specs.Next.{HoldsValue, IsReady, IsStopped};
+ghost use Rattle.searches.specs.Passed.{Passes};
+ghost use Rattle.searches.specs.Starts.{goes_on};
 
+use crate::search::{Reach, Search};
 use bit_space::Space;
 use first_numbers::sieve::Sieve;
 use pickle_map::{MapFault, MapFaultKind};
@@ -46,6 +49,42 @@ pub fn missed<S: Space>(run: &TypeRun<'_>, sieve: &mut Sieve<'_>, space: &mut S)
 {
     let miss = sieve.missed(run.ask.start, run.ask.limit, space)?;
     Some(stop_at(run.ask.start, miss.distance, miss.steps))
+}
+
+/// The same of a start that was read before: nothing is read.
+#[inline(always)]
+pub fn known_stop(run: &TypeRun<'_>, sieve: &Sieve<'_>) -> Option<Stopped>
+    ensures few { IfSome result (λ stopped. stopped.steps ≤ run.now.ask.now.limit) }
+    ensures stopped { (begun done : SpaceView) → IsWhole begun →
+        IsSieve (run_type run.now) begun run.now.ask.now.order sieve.now →
+        IfSome result (IsStopped run.now begun done) }
+{
+    let miss = sieve.known_miss(run.ask.start, run.ask.limit)?;
+    Some(stop_at(run.ask.start, miss.distance, miss.steps))
+}
+
+/// Passes over starts at which the first numbers of the type fail: as many as the screen shows at once and both limits
+/// have the steps for. Returns how far the search is then.
+#[inline(never)]
+pub fn pass_over<S: Space>(
+    run: &TypeRun<'_>,
+    sieve: &mut Sieve<'_>,
+    search: Search,
+    at: Reach,
+    space: &mut S,
+) -> Reach
+    requires step { 0 < search.step }
+    requires on { goes_on search at (8 * (S.view space.old).len) ≡ true }
+    requires sieve { IsSieve (run_type run.now) (S.view space.old) run.now.ask.now.order sieve.old }
+    ensures sieve { IsSieve (run_type run.now) (S.view space.new) run.now.ask.now.order sieve.new }
+    ensures passes { (first : SpaceView) → Keeps first (S.view space.old) → Passes run.now search first at result }
+    ensures keeps { Keeps (S.view space.old) (S.view space.new) }
+{
+    let bits = 8 * space.len();
+    match sieve.missed_stretch(at.place, search.step, search.attempt_limit, space) {
+        Some(stretch) => search.past_stretch(at, stretch, bits),
+        None => at,
+    }
 }
 
 // A Constraint fault so many bits from a start, after so many steps.

@@ -6,11 +6,11 @@ ghost use Rattle.first_numbers.specs.Screens.{IsSieve};
 ghost use Rattle.poke_batch.specs.TypeRuns.{run_type};
 ghost use Rattle.records.specs.Next.{IsReady};
 ghost use Rattle.searches.specs.Starts.{IsFew, after_stop, goes_on};
-ghost use Rattle.searches.specs.Trial.{EndsHere, GoesOn, StopsSearch};
+ghost use Rattle.searches.specs.Trial.{Advances, EndsHere, GoesOn, StopsSearch};
 
 use crate::line::{Texts, write_held};
 use crate::search::{Reach, Search};
-use crate::skips::attempt;
+use crate::skips::{attempt, pass_over};
 use bit_space::Space;
 use first_numbers::sieve::Sieve;
 use poke_batch::run::end_outcome;
@@ -19,9 +19,41 @@ use records::attempt::{Kept, Stopped};
 use run_parts::outcome::Outcome;
 use std::io::Write;
 
-/// Tries the next start of a search, and writes the line of a value that is there. Returns how far the search is then,
-/// or how it ends. The sieve is that of the run's type.
-pub fn try_start<S: Space, O: Write>(
+/// Passes over starts of a search at which the type surely has no value. If there are none, tries the next start, and
+/// writes the line of a value that is there. Returns how far the search is then, or how it ends. The sieve is that of
+/// the run's type.
+pub fn advance<S: Space, O: Write>(
+    run: &TypeRun<'_>,
+    sieve: &mut Sieve<'_>,
+    search: Search,
+    at: Reach,
+    kept: &mut Kept,
+    texts: &mut Texts,
+    space: &mut S,
+    out: &mut O,
+) -> Result<Reach, Outcome>
+    requires step { 0 < search.step }
+    requires ready { IsReady run.now kept.old }
+    requires on { goes_on search at (8 * (S.view space.old).len) ≡ true }
+    requires few { IsFew at }
+    requires sieve { IsSieve (run_type run.now) (S.view space.old) run.now.ask.now.order sieve.old }
+    ensures ready { IsReady run.now kept.new }
+    ensures sieve { IsSieve (run_type run.now) (S.view space.new) run.now.ask.now.order sieve.new }
+    ensures ok { (first : SpaceView) → Keeps first (S.view space.old) →
+        IfOk result (Advances run.now search first at (O.contents out.old) (O.contents out.new)) }
+    ensures err { (first : SpaceView) → Keeps first (S.view space.old) →
+        IfErr result (EndsHere run.now search first (S.view space.new) at (O.contents out.old) (O.contents out.new)) }
+    ensures keeps { Keeps (S.view space.old) (S.view space.new) }
+{
+    let passed = pass_over(run, sieve, search, at, space);
+    if passed.place > at.place {
+        return Ok(passed);
+    }
+    try_start(run, sieve, search, at, kept, texts, space, out)
+}
+
+// Tries the next start of a search, and writes the line of a value that is there.
+fn try_start<S: Space, O: Write>(
     run: &TypeRun<'_>,
     sieve: &mut Sieve<'_>,
     search: Search,

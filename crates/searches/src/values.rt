@@ -6,7 +6,7 @@ ghost use Rattle.searches.specs.Written.{WritesSearch};
 
 use crate::line::Texts;
 use crate::search::{Reach, Search};
-use crate::trial::try_start;
+use crate::trial::advance;
 use bit_space::Space;
 use first_numbers::sieve::Sieve;
 use pickle_map::MapFaultKind;
@@ -60,7 +60,7 @@ pub fn search_values<S: Space, O: Write>(
     };
     let mut texts = Texts::new(run);
     while search.goes_on(reach, bits) {
-        match try_start(
+        match advance(
             run, &mut sieve, search, reach, &mut kept, &mut texts, space, out,
         ) {
             Ok(next) => reach = next,

@@ -1,4 +1,4 @@
--- `try_next`: the type is tried if it is due, and its line gathered.
+-- `try_due`: the type is tried if it is due, and its line gathered.
 use Rattle.std.proofs.Common.{◌≡◌, ◌∙◌, ◌<◌, ℕ, true, false, length, sym, subst, slice_index, slice_index_or, append-nil, List, [], arith}
 use Rattle.std.proofs.lemmas.List.{get_or_default}
 use Rattle.std.proofs.lemmas.Result.{err_from_is_err_and}
@@ -11,7 +11,7 @@ use Rattle.searches.proofs.Stocks.{set_serves}
 use Rattle.searches.specs.Round.{IsSieveOf}
 use Rattle.searches.specs.Rounds.{TriesNext, due, found_text, lacks_memory, not_due, stops}
 use Rattle.searches.specs.Sought.{is_due}
-use Rattle.searches.proofs.round.try_next.Goals as goal
+use Rattle.searches.proofs.round.try_due.Goals as goal
 
 pub try_type-requires-clause-found : goal.try_type-requires-clause-found
 try_type-requires-clause-found g c =

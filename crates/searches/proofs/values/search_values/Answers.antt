@@ -5,7 +5,8 @@ use Rattle.records.proofs.Nexts.{view_kept}
 use Rattle.searches.specs.Starts.{IsFew}
 use Rattle.searches.specs.Written.{WritesSearch, no_memory, past_end, writes_all}
 use Rattle.searches.specs.declared.search.Reach.{Reach}
-use Rattle.searches.proofs.Reached.{ends_done, ends_there, has_moved, none_searched, one_searched, still_on}
+use Rattle.searches.proofs.Passed.{advance_moves, advance_searched}
+use Rattle.searches.proofs.Reached.{ends_done, ends_there, none_searched, still_on}
 use Rattle.searches.proofs.values.search_values.Goals as goal
 
 pub returns-in_default-clause-writes : goal.returns-in_default-clause-writes
@@ -42,27 +43,28 @@ pub loop-sieve-smaller : goal.loop-sieve-smaller
 loop-sieve-smaller g c =
     let first = g.S.Space.view c.args.space.now in
     let so_far = c.loop-sieve.invariant in
-    let next = c.in-Ok-try_start.ensures.ok first so_far.keeps in
+    let next = c.in-Ok-advance.ensures.ok first so_far.keeps in
     let inside = still_on c.args.search c.loop-sieve.reach (8 * c.len-bits.result)
     (sym c.goes_on.ensures ∙ c.loop-sieve-test.true) in
-    let moves = (has_moved c.args.run.now c.args.search first c.loop-sieve.reach c.in-Ok-try_start.next _ _
-    c.requires.step so_far.few next).moves in
+    let moves = (advance_moves c.args.run.now c.args.search first c.loop-sieve.reach c.in-Ok-advance.next _ _
+    c.requires.step so_far.few (omega (arith, inside, c.len-bits.ensures)) next).moves in
     omega (arith, inside, moves)
 
 pub loop-sieve-preserved : goal.loop-sieve-preserved
 loop-sieve-preserved g c =
     let first = g.S.Space.view c.args.space.now in
     let so_far = c.loop-sieve.invariant in
-    let next = c.in-Ok-try_start.ensures.ok first so_far.keeps in
-    let moved = has_moved c.args.run.now c.args.search first c.loop-sieve.reach c.in-Ok-try_start.next _ _
-    c.requires.step so_far.few next in
+    let next = c.in-Ok-advance.ensures.ok first so_far.keeps in
+    let inside = so_far.inside in
+    let moved = advance_moves c.args.run.now c.args.search first c.loop-sieve.reach c.in-Ok-advance.next _ _
+    c.requires.step so_far.few (omega (arith, inside, c.len-bits.ensures)) next in
     record {
-      keeps = keeps_all so_far.keeps c.try_start.ensures.keeps;
-      ready = c.try_start.ensures.ready;
-      sieve = c.try_start.ensures.sieve;
+      keeps = keeps_all so_far.keeps c.advance.ensures.keeps;
+      ready = c.advance.ensures.ready;
+      sieve = c.advance.ensures.sieve;
       few = moved.few;
       inside = let ends = moved.inside in omega (arith, ends, c.len-bits.ensures);
-      searched = one_searched c.args.run.now c.args.search first c.loop-sieve.reach c.in-Ok-try_start.next _ _ _
+      searched = advance_searched c.args.run.now c.args.search first c.loop-sieve.reach c.in-Ok-advance.next _ _ _
           so_far.searched next;
     }
 
