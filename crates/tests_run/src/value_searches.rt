@@ -13,6 +13,7 @@ use std::test::Fail;
 use tests_kit::devices::Failing;
 
 const PICKLE: &str = "type One = struct { byte v : v != 0; };\n\
+    type Seven = struct { byte v : v == 7; };\n\
     type Text = struct { byte n : n < 9; byte[n] letters; };\n\
     type Half = uint<4>;\n\
     type Empty = struct {};\n";
@@ -36,6 +37,13 @@ One 1,2,3 0 13 8 50 - no - flat | 0x0\t0x1;0x1\t0x1;fault Limit at 16#b 16 2 1 N
 One 1,2,3 0 100 8 5 - no - flat | fault Attempts at 0#b count 3 24 0 85 Some(GivenUp { first: 0, count: 3 })
 One 1,2,3 0 14 8 5 - no - flat | fault Limit at 16#b 16 0 4 Some(GivenUp { first: 0, count: 2 })
 One 1,2,3 0 100 16 50 - no - flat | 0x0\t0x1;0x2\t0x1;done 24 2 88 None
+Seven 1,2,7,3 0 100 8 50 - no - flat | 0x2\t0x1;done 32 1 76 None
+Seven 1,2,3 0 18 8 50 - no - flat | fault NotFound 24 0 0 None
+Seven 1,2,3,7 0 13 8 50 - no - flat | fault Limit at 16#b 16 0 1 None
+Seven 1,2,3 0 100 8 5 - no - flat | fault Attempts at 0#b count 3 24 0 85 Some(GivenUp { first: 0, count: 3 })
+Seven 1,2,7 0 100 16 50 - no - flat | 0x2\t0x1;done 24 1 88 None
+Seven 1,2,3 0 100 32 50 - no - flat | fault NotFound 24 0 94 None
+Seven 0,112 0 100 4 50 - no - flat | 4#b\t0x1;done 16 1 79 None
 Text 2,7,8,0,1,5 0 999 8 99 - no .n flat | 0x0\t0x3\t2UB;0x3\t0x1\t0UB;0x4\t0x2\t1UB;done 48 3 919 None
 Text 2,1,8,0,1,5 0 999 8 99 - no .n flat | 0x0\t0x3\t2UB;0x1\t0x2\t1UB;0x3\t0x1\t0UB;0x4\t0x2\t1UB;done 48 4 927 None
 Text 2,1,8,0,1,5 0 999 8 99 - apart .n flat | 0x0\t0x3\t2UB;0x3\t0x1\t0UB;0x4\t0x2\t1UB;done 48 3 966 None
