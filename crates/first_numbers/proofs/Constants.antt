@@ -15,8 +15,9 @@ use Rattle.first_numbers.specs.declared.judge.Judged.{Judged}
 use Rattle.first_numbers.specs.declared.number.Numeral.{Numeral}
 use Rattle.first_numbers.specs.Judged.{IsJudged}
 use Rattle.first_numbers.specs.Layouts.{FirstNumber, is_over_own, is_own}
+use Rattle.first_numbers.specs.Reads.{FailsSo}
 use Rattle.first_numbers.specs.Runs.{number_value, own_frames}
-use Rattle.first_numbers.specs.Screens.{FailsWith, IsZeroWith, byte_at, plain, zero_in}
+use Rattle.first_numbers.specs.Screens.{FailsWith, IsZeroAt, IsZeroWith, byte_at, plain, zero_in}
 use Rattle.first_numbers.proofs.Alike.{both_true}
 use Rattle.first_numbers.proofs.Judging.{judged_both, judged_bracket, judged_name, judged_number, judged_so, most}
 use Rattle.first_numbers.proofs.Misses.{in_own}
@@ -88,61 +89,84 @@ named width n own level place is =
     judged_name (scalar.Integer (pos n) (plain width).number) own level place (own_frames own v) v
     is (in_own own v) refl
 
-pub name_first : (width own level place value index byte : ℕ) (type : IntegerType) →
-    is_over_own own (Between Equal (Name level place) (Number type value)) ≡ true → value < 2 ^ width →
-    byte_at value index ≢ byte →
-    IsZeroWith (Between Equal (Name level place) (Number type value)) width own index byte 3
-name_first width own level place value index byte type over below unlike n less here =
+pub name_apart : (width n own level place value : ℕ) (type : IntegerType) → n < 2 ^ width →
+    is_over_own own (Between Equal (Name level place) (Number type value)) ≡ true → value < 2 ^ width → n ≢ value →
+    IsZeroAt (Between Equal (Name level place) (Number type value)) width own n 3
+name_apart width n own level place value type less over below unlike =
     let parts = both_true (is_own own level place) true over in
     let levels = own_frames own (number_value (plain width) n 0) in
     judged_both own Equal (number_so width n) (judged_so (Ok (scalar.Integer (pos value) type)) 1) (zero_in 3)
     (Name level place) (Number type value) levels parts.0 refl (named width n own level place parts.0)
     (judged_number type value levels) refl
+    (record { value = sym (unequal_left width n value type less below unlike); steps = refl })
+
+pub number_apart : (width n own level place value : ℕ) (type : IntegerType) → n < 2 ^ width →
+    is_over_own own (Between Equal (Number type value) (Name level place)) ≡ true → value < 2 ^ width → n ≢ value →
+    IsZeroAt (Between Equal (Number type value) (Name level place)) width own n 3
+number_apart width n own level place value type less over below unlike =
+    let levels = own_frames own (number_value (plain width) n 0) in
+    judged_both own Equal (judged_so (Ok (scalar.Integer (pos value) type)) 1) (number_so width n) (zero_in 3)
+    (Number type value) (Name level place) levels refl over (judged_number type value levels)
+    (named width n own level place over) refl
     (record {
-      value = sym (unequal_left width n value type less below (another n value index byte here unlike));
+      value = sym (unequal_right width n value type less below (λ same. unlike (sym same)));
       steps = refl;
     })
+
+pub name_first : (width own level place value index byte : ℕ) (type : IntegerType) →
+    is_over_own own (Between Equal (Name level place) (Number type value)) ≡ true → value < 2 ^ width →
+    byte_at value index ≢ byte →
+    IsZeroWith (Between Equal (Name level place) (Number type value)) width own index byte 3
+name_first width own level place value index byte type over below unlike n less here =
+    name_apart width n own level place value type less over below (another n value index byte here unlike)
 
 pub number_first : (width own level place value index byte : ℕ) (type : IntegerType) →
     is_over_own own (Between Equal (Number type value) (Name level place)) ≡ true → value < 2 ^ width →
     byte_at value index ≢ byte →
     IsZeroWith (Between Equal (Number type value) (Name level place)) width own index byte 3
 number_first width own level place value index byte type over below unlike n less here =
-    let levels = own_frames own (number_value (plain width) n 0) in
-    judged_both own Equal (judged_so (Ok (scalar.Integer (pos value) type)) 1) (number_so width n) (zero_in 3)
-    (Number type value) (Name level place) levels refl over (judged_number type value levels)
-    (named width n own level place over) refl
-    (record {
-      value = sym (unequal_right width n value type less below
-          (λ same. another n value index byte here unlike (sym same)));
-      steps = refl;
-    })
+    number_apart width n own level place value type less over below (another n value index byte here unlike)
 
 -- ---- more than one
+
+pub either_apart : (a b : Term) (width own n left right steps : ℕ) →
+    is_over_own own (Between LogicalOr a b) ≡ true → IsZeroAt a width own n left → IsZeroAt b width own n right →
+    steps ≡ min (1 + min (left + right) most) most → IsZeroAt (Between LogicalOr a b) width own n steps
+unfolding combined on_integers
+either_apart a b width own n left right steps over h g is =
+    let parts = both_true (is_over_own own a) (is_over_own own b) over in
+    judged_both own LogicalOr (zero_in left) (zero_in right) (zero_in steps) a b
+    (own_frames own (number_value (plain width) n 0)) parts.0 parts.1 h g refl
+    (record { value = refl; steps = omega (arith, is) })
 
 pub either_zero : (a b : Term) (width own index byte left right steps : ℕ) →
     is_over_own own (Between LogicalOr a b) ≡ true → IsZeroWith a width own index byte left →
     IsZeroWith b width own index byte right → steps ≡ min (1 + min (left + right) most) most →
     IsZeroWith (Between LogicalOr a b) width own index byte steps
-unfolding combined on_integers
 either_zero a b width own index byte left right steps over h g is n less here =
-    let parts = both_true (is_over_own own a) (is_over_own own b) over in
-    judged_both own LogicalOr (zero_in left) (zero_in right) (zero_in steps) a b
-    (own_frames own (number_value (plain width) n 0)) parts.0 parts.1 (h n less here) (g n less here) refl
-    (record { value = refl; steps = omega (arith, is) })
+    either_apart a b width own n left right steps over (h n less here) (g n less here) is
+
+pub bracket_apart : (e : Term) (width own n inner steps : ℕ) → IsZeroAt e width own n inner →
+    steps ≡ min (1 + inner) most → IsZeroAt (Bracket e) width own n steps
+bracket_apart e width own n inner steps h is =
+    judged_bracket (zero_in inner) e (own_frames own (number_value (plain width) n 0)) steps h is
 
 pub bracket_zero : (e : Term) (width own index byte inner steps : ℕ) → IsZeroWith e width own index byte inner →
     steps ≡ min (1 + inner) most → IsZeroWith (Bracket e) width own index byte steps
 bracket_zero e width own index byte inner steps h is n less here =
-    judged_bracket (zero_in inner) e (own_frames own (number_value (plain width) n 0)) steps (h n less here) is
+    bracket_apart e width own n inner steps (h n less here) is
 
 -- ---- a first number
+
+pub fails_at : (x : FirstNumber) (n steps : ℕ) → x.numeral ≡ plain x.numeral.number.width →
+    IsZeroAt x.constraint x.numeral.number.width x.own n steps → steps < most → FailsSo x n steps
+fails_at x n steps is h few =
+    comes_to_zero x n (zero_in steps)
+    (subst (λ (numeral : Numeral). IsJudged (zero_in steps)
+    (evaluation x.constraint (own_frames x.own (number_value numeral n 0)))) (sym is) h)
+    refl few
 
 pub fails_so : (x : FirstNumber) (index byte steps : ℕ) → x.numeral ≡ plain x.numeral.number.width →
     IsZeroWith x.constraint x.numeral.number.width x.own index byte steps → steps < most →
     FailsWith x index byte steps
-fails_so x index byte steps is h few n less here =
-    comes_to_zero x n (zero_in steps)
-    (subst (λ (numeral : Numeral). IsJudged (zero_in steps)
-    (evaluation x.constraint (own_frames x.own (number_value numeral n 0)))) (sym is) (h n less here))
-    refl few
+fails_so x index byte steps is h few n less here = fails_at x n steps is (h n less here) few

@@ -40,10 +40,15 @@ plain width = record { number = record { width = width; signed = false }; unit =
 abbrev pub zero_in : (steps : ℕ) → Judged
 zero_in steps = record { value = Ok (scalar.Integer (pos 0) (signed_type 32)); steps = steps }
 
--- an expression over an unsigned number of a width is 0, in so many steps, where a byte of the number is this one
-abbrev pub IsZeroWith : Term → (width own index byte steps : ℕ) → Type 0
-IsZeroWith e width own index byte steps = (n : ℕ) → n < 2 ^ width → byte_at n index ≡ byte →
+-- an expression over an unsigned number of a width is 0, in so many steps, at this number
+abbrev pub IsZeroAt : Term → (width own n steps : ℕ) → Type 0
+IsZeroAt e width own n steps =
     IsJudged (zero_in steps) (evaluation e (own_frames own (number_value (plain width) n 0)))
+
+-- the same where a byte of the number is this one
+abbrev pub IsZeroWith : Term → (width own index byte steps : ℕ) → Type 0
+IsZeroWith e width own index byte steps =
+    (n : ℕ) → n < 2 ^ width → byte_at n index ≡ byte → IsZeroAt e width own n steps
 
 -- a first number fails in so many steps where a byte of it is this one
 abbrev pub FailsWith : FirstNumber → (index byte steps : ℕ) → Type 0

@@ -12,9 +12,11 @@ ghost use Rattle.first_numbers.specs.Judged.{is_failed, is_untrue};
 ghost use Rattle.first_numbers.specs.Layouts.{is_over_own};
 ghost use Rattle.first_numbers.specs.Reads.{FailsIn, FailsSo, IsMissed};
 ghost use Rattle.first_numbers.specs.Runs.{number_value};
+ghost use Rattle.first_numbers.specs.Screens.{plain};
 
 use crate::judge::judge;
 use crate::number::{First, FirstNumber, Numeral};
+use crate::zeros::unlisted_steps;
 use bit_space::{Meter, Order, Space, read_number};
 use pickle_evaluation::content::{Content, truth_of};
 use pickle_meaning::faults::MapFaultKind;
@@ -75,6 +77,45 @@ fn failed_steps<S: Space>(
 
 // The steps of a number's constraint, if the number is this one and fails.
 fn failing_steps(x: &FirstNumber<'_>, n: u64) -> Option<u64>
+    requires numeral { IsSoundNumeral x.now.numeral }
+    requires sound { IsSoundTerm (term_of x.now.constraint.now) }
+    requires over { is_over_own x.now.own (term_of x.now.constraint.now) ≡ true }
+    requires fits { n < 2 ^ x.now.numeral.number.width }
+    ensures { IfSome result (FailsSo (number_shown x.now) n) }
+{
+    match unlisted(x, n) {
+        Some(steps) => Some(steps),
+        None => judged_steps(x, n),
+    }
+}
+
+// The same, if the number is none of the constants that the constraint compares it with.
+fn unlisted(x: &FirstNumber<'_>, n: u64) -> Option<u64>
+    requires numeral { IsSoundNumeral x.now.numeral }
+    requires over { is_over_own x.now.own (term_of x.now.constraint.now) ≡ true }
+    requires fits { n < 2 ^ x.now.numeral.number.width }
+    ensures { IfSome result (FailsSo (number_shown x.now) n) }
+{
+    if x.numeral.unit.is_some() || x.numeral.number.signed {
+        return None;
+    }
+    plain_unlisted(x, n)
+}
+
+// The same of an unsigned integer.
+fn plain_unlisted(x: &FirstNumber<'_>, n: u64) -> Option<u64>
+    requires over { is_over_own x.now.own (term_of x.now.constraint.now) ≡ true }
+    requires fits { n < 2 ^ x.now.numeral.number.width }
+    requires most { x.now.numeral.number.width ≤ 64 }
+    requires plain { x.now.numeral ≡ plain x.now.numeral.number.width }
+    ensures { IfSome result (FailsSo (number_shown x.now) n) }
+{
+    let steps = unlisted_steps(x.constraint, x.own, x.numeral.number.width, n)?;
+    if steps < u64::MAX { Some(steps) } else { None }
+}
+
+// The same, as the constraint is evaluated.
+fn judged_steps(x: &FirstNumber<'_>, n: u64) -> Option<u64>
     requires numeral { IsSoundNumeral x.now.numeral }
     requires sound { IsSoundTerm (term_of x.now.constraint.now) }
     requires over { is_over_own x.now.own (term_of x.now.constraint.now) ≡ true }

@@ -3,7 +3,7 @@ use Rattle.first_numbers.specs.Held.{number_shown}
 use Rattle.first_numbers.specs.Runs.{number_value, own_frames}
 use Rattle.first_numbers.proofs.Misses.{in_own}
 use Rattle.first_numbers.proofs.Reading.{comes_to_zero}
-use Rattle.first_numbers.proofs.reader.failing_steps.Goals as goal
+use Rattle.first_numbers.proofs.reader.judged_steps.Goals as goal
 
 pub returns-then-judged-lt18446744073709551615 : goal.returns-then-judged-lt18446744073709551615
 returns-then-judged-lt18446744073709551615 c =
