@@ -1,13 +1,15 @@
 -- Names of a list that are read byte by byte.
-use Rattle.std.proofs.Common.{◌≡◌, ◌≢◌, ◌∙◌, ◌<◌, ◌-◌, ◌==◌, ℕ, suc, List, [], ◌∷◌, ◌++◌, Option, Some, None, IfSome, All, length, length-append, slice_index, append_assoc, inl, inr, refl, sym, ap, subst, ne_eqb, arith}
-use Rattle.std.proofs.KnownBytes.{Consumes-trans}
+use Rattle.std.proofs.Common.{◌≡◌, ◌≢◌, ◌∙◌, ◌<◌, ◌≤◌, ◌+◌, ◌-◌, ◌==◌, ℕ, suc, List, [], ◌∷◌, ◌++◌, Option, Some, None, IfSome, All, length, length-append, slice_index, append_assoc, take, length-take-le, zero-le, rules, inl, inr, refl, sym, ap, subst, ne_eqb, arith}
+use Rattle.std.proofs.KnownBytes.{Consumes-kept, Consumes-nil, Consumes-trans}
 use Rattle.std.proofs.BufReadLemmas.{drop_through-append, take_through-append}
 use Rattle.std.proofs.lemmas.Bool.{cases_Bool, lt-ltb}
-use Rattle.std.proofs.lemmas.List.{append-nil}
-use Rattle.std.proofs.lemmas.List.Elements.{All-head, All-tail}
+use Rattle.std.proofs.lemmas.List.{append-nil, nil_from_length, take_more}
+use Rattle.std.proofs.lemmas.List.Elements.{All-append, All-head, All-nil, All-tail}
 use Rattle.std.specs.Io.BufRead.{drop_through, first_piece, strip_last, take_through}
-use Rattle.std.specs.Io.KnownBytes.{Consumes, IsAtEnd}
-use Rattle.jobs.specs.Names.{BeginsName, IsNextName, IsRestOfName}
+use Rattle.std.specs.Io.KnownBytes.{Consumes, IsAtEnd, Keeps}
+use Rattle.jobs.specs.Names.{BeginsName, IsNextName, IsRestOfName, most_name, ReadsPiece, ReadsThrough}
+use Rattle.jobs.specs.declared.names.PieceEnd.{PieceEnd}
+use Rattle.jobs.specs.declared.names.PieceEnd.TheVariants as piece
 
 -- a byte before others, if it isn't 0
 strip_more : (x : ℕ) (bytes : List ℕ) → x ≢ 0 → strip_last 0 (x ∷ bytes) ≡ x ∷ strip_last 0 bytes
@@ -122,25 +124,125 @@ some_bytes (Some bytes) None read was some = absurd was
 some_bytes (Some bytes) (Some left) read was some = omega (arith, some, ap length was, length-append read left)
 
 -- a name that ends with a byte 0, or with a list
-pub name_ended : (list mid list' : Option (List ℕ)) (name : List ℕ) → All (λ byte. byte ≢ 0) name
-    → Consumes list mid name → Consumes mid list' (0 ∷ []) → IsNextName list name list'
-name_ended list mid list' name within read zero =
-    let rest = rest_ended list list' name within (Consumes-trans list mid list' name (0 ∷ []) read zero) in
+name_ended : (list list' : Option (List ℕ)) (name : List ℕ) → All (λ byte. byte ≢ 0) name
+    → Consumes list list' (name ++ 0 ∷ []) → IsNextName list name list'
+name_ended list list' name within read =
+    let rest = rest_ended list list' name within read in
     record {
-      some = some_bytes list list' (name ++ 0 ∷ []) (Consumes-trans list mid list' name (0 ∷ []) read zero)
-          (omega (arith, length-append name (0 ∷ [])));
+      some = some_bytes list list' (name ++ 0 ∷ []) read (omega (arith, length-append name (0 ∷ [])));
       is = rest.is;
       left = rest.left;
     }
 
-pub name_at_end : (list mid list' : Option (List ℕ)) (name : List ℕ) → All (λ byte. byte ≢ 0) name
-    → 0 < length name → Consumes list mid name → Consumes mid list' [] → IsAtEnd list' → IsNextName list name list'
-name_at_end list mid list' name within some read none end =
-    let rest = rest_at_end list list' name within
-    (subst (Consumes list list') (append-nil name) (Consumes-trans list mid list' name [] read none)) end in
-    record {
-      some = some_bytes list list' name
-          (subst (Consumes list list') (append-nil name) (Consumes-trans list mid list' name [] read none)) some;
-      is = rest.is;
-      left = rest.left;
-    }
+name_at_end : (list list' : Option (List ℕ)) (name : List ℕ) → All (λ byte. byte ≢ 0) name → 0 < length name
+    → Consumes list list' name → IsAtEnd list' → IsNextName list name list'
+name_at_end list list' name within some read end =
+    let rest = rest_at_end list list' name within read end in
+    record { some = some_bytes list list' name read some; is = rest.is; left = rest.left }
+
+-- a list at its end stays there
+name_last : (list mid list' : Option (List ℕ)) (name : List ℕ) → All (λ byte. byte ≢ 0) name → 0 < length name
+    → Consumes list mid name → Consumes mid list' [] → IsAtEnd mid → IsNextName list name list'
+name_last None mid list' name within some read none end = record { some = tt; is = tt; left = tt }
+name_last (Some bytes) None list' name within some read none end = absurd read
+name_last (Some bytes) (Some left) None name within some read none end = absurd none
+name_last (Some bytes) (Some left) (Some last) name within some read none end =
+    name_at_end (Some bytes) (Some last) name within some (read ∙ ap (λ rest. name ++ rest) none) (sym none ∙ end)
+
+list_not_zero : piece.List ≡ piece.Zero → ⊥
+list_not_zero e = search rules
+
+more_not_zero : piece.More ≡ piece.Zero → ⊥
+more_not_zero e = search rules
+
+-- of a list that shows nothing, no piece is read
+end_shown : (list : Option (List ℕ)) (shown : List ℕ) → IfSome list (λ bytes. length shown ≡ 0 → bytes ≡ [])
+    → length shown ≡ 0 → IsAtEnd list
+end_shown None shown end none = tt
+end_shown (Some bytes) shown end none = end none
+
+pub nothing_shown : (list list' : Option (List ℕ)) (shown name : List ℕ) (most : ℕ)
+    → IfSome list (λ bytes. length shown ≡ 0 → bytes ≡ []) → length shown ≡ 0 → Keeps list list'
+    → ReadsPiece list list' name name most piece.List
+nothing_shown list list' shown name most end none keeps = record {
+  added = [];
+  is = sym (append-nil name);
+  fits = zero-le;
+  short = λ e. absurd (list_not_zero e);
+  within = All-nil (λ byte. byte ≢ 0);
+  read = (Consumes-kept list list list' [] (Consumes-nil list) keeps, end_shown list shown end none, refl);
+}
+
+module _ (list list' : Option (List ℕ)) (shown name : List ℕ) (count most : ℕ)
+    (within : All (λ byte. byte ≢ 0) (take count shown)) where
+  -- a piece is what a list shows before a byte 0
+  pub zero_shown : count < most → count < length shown → slice_index shown count ≡ 0
+      → Consumes list list' (take (count + 1) shown)
+      → ReadsPiece list list' name (name ++ take count shown) most piece.Zero
+  zero_shown fits more zero read = record {
+    added = take count shown;
+    is = refl;
+    fits = omega (arith, fits, length-take-le count shown (omega (arith, more)));
+    short = λ e. omega (arith, fits, length-take-le count shown (omega (arith, more)));
+    within = within;
+    read = subst (Consumes list list')
+        (take_more shown count 0 more ∙ ap (λ byte. take count shown ++ byte ∷ []) zero) read;
+  }
+
+  -- or all that is wanted of it
+  pub more_shown : count ≤ most → count ≤ length shown → Consumes list list' (take count shown)
+      → ReadsPiece list list' name (name ++ take count shown) most piece.More
+  more_shown fits enough read = record {
+    added = take count shown;
+    is = refl;
+    fits = omega (arith, fits, length-take-le count shown enough);
+    short = λ e. absurd (more_not_zero e);
+    within = within;
+    read = read;
+  }
+
+-- A name after its pieces.
+module _ (list mid list' : Option (List ℕ)) (name name' : List ℕ) (most : ℕ) (end : PieceEnd)
+    (within : All (λ byte. byte ≢ 0) name) (read : Consumes list mid name)
+    (next : ReadsPiece mid list' name name' most end) where
+  -- its bytes
+  pub all_within : All (λ byte. byte ≢ 0) name'
+  all_within = subst (All (λ byte. byte ≢ 0)) (sym next.is)
+      (All-append (λ byte. byte ≢ 0) name next.added within next.within)
+
+  pub piece_ended : end ≡ piece.Zero → IsNextName list name' list'
+  piece_ended is =
+      let zero : Consumes mid list' (next.added ++ 0 ∷ []) =
+      subst (λ end. ReadsThrough end mid list' next.added) is next.read in
+      name_ended list list' name' all_within (subst (λ bytes. Consumes list list' (bytes ++ 0 ∷ [])) (sym next.is)
+      (subst (Consumes list list') (sym (append_assoc name next.added (0 ∷ [])))
+      (Consumes-trans list mid list' name (next.added ++ 0 ∷ []) read zero)))
+
+  pub piece_more : end ≡ piece.More → Consumes list list' name'
+  piece_more is =
+      let more : Consumes mid list' next.added = subst (λ end. ReadsThrough end mid list' next.added) is next.read in
+      subst (Consumes list list') (sym next.is) (Consumes-trans list mid list' name next.added read more)
+
+  pub piece_short : end ≡ piece.Zero → length name + most ≤ most_name + 1 → length name' ≤ most_name
+  piece_short is room = omega (arith, room, next.short is, ap length next.is, length-append name next.added)
+
+  pub same_last : end ≡ piece.List → name' ≡ name
+  same_last is =
+      let last : Consumes mid list' next.added × IsAtEnd mid × (next.added ≡ []) =
+      subst (λ end. ReadsThrough end mid list' next.added) is next.read in
+      next.is ∙ ap (λ more. name ++ more) last.2 ∙ append-nil name
+
+  pub piece_last : end ≡ piece.List → 0 < length name' → IsNextName list name' list'
+  piece_last is some =
+      let last : Consumes mid list' next.added × IsAtEnd mid × (next.added ≡ []) =
+      subst (λ end. ReadsThrough end mid list' next.added) is next.read in
+      subst (λ bytes. IsNextName list bytes list') (sym (same_last is)) (name_last list mid list' name within
+      (subst (λ bytes. 0 < length bytes) (same_last is) some) read (subst (Consumes mid list') last.2 last.0) last.1)
+
+  -- none if a list is at its end before it
+  pub none_last : end ≡ piece.List → length name' ≡ 0 → IsAtEnd list
+  none_last is none =
+      let last : Consumes mid list' next.added × IsAtEnd mid × (next.added ≡ []) =
+      subst (λ end. ReadsThrough end mid list' next.added) is next.read in
+      let empty : name ≡ [] = nil_from_length name (subst (λ bytes. length bytes ≡ 0) (same_last is) none) in
+      end_before list mid (subst (Consumes list mid) empty read) last.1

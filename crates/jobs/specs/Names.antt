@@ -1,6 +1,8 @@
 -- The names of a list, each ended by a byte 0, which the last may lack.
 use Rattle.std.specs.Prelude.{◌≡◌, ◌≢◌, ◌<◌, ◌≤◌, ℕ, List, [], ◌∷◌, ◌++◌, Option, Some, None, IfSome, All, length}
 use Rattle.std.specs.Io.KnownBytes.{Consumes, IsAtEnd}
+use Rattle.jobs.specs.declared.names.PieceEnd.{PieceEnd}
+use Rattle.jobs.specs.declared.names.PieceEnd.TheVariants as piece
 use Rattle.run_parts.specs.declared.outcome.Failure.{Failure}
 use Rattle.run_parts.specs.declared.outcome.Failure.TheVariants as failure
 use Rattle.std.specs.Io.BufRead.{first_piece, DropsThrough}
@@ -25,6 +27,21 @@ pub record IsLongStart (list : Option (List ℕ)) (start : List ℕ) (rest : Opt
   pub read : Consumes list rest start
   pub within : All (λ byte. byte ≢ 0) start
   pub long : most_name < length start
+
+-- what is read of a list with a piece of a name, by what comes after the piece
+abbrev pub ReadsThrough : PieceEnd → (list list' : Option (List ℕ)) → (added : List ℕ) → Type 0
+ReadsThrough piece.Zero list list' added = Consumes list list' (added ++ 0 ∷ [])
+ReadsThrough piece.More list list' added = Consumes list list' added
+ReadsThrough piece.List list list' added = Consumes list list' added × IsAtEnd list × (added ≡ [])
+
+-- a piece of a name is read of a list, and added to the bytes before it; with a byte 0 after it, at most so many bytes
+pub record ReadsPiece (list list' : Option (List ℕ)) (name name' : List ℕ) (most : ℕ) (end : PieceEnd) : Type 0 where
+  pub added : List ℕ
+  pub is : name' ≡ name ++ added
+  pub fits : length added ≤ most
+  pub short : end ≡ piece.Zero → length added < most
+  pub within : All (λ byte. byte ≢ 0) added
+  pub read : ReadsThrough end list list' added
 
 -- these bytes of a list come before its next byte 0 or its end, and the bytes after that 0 remain
 pub record IsRestOfName (list : Option (List ℕ)) (more : List ℕ) (rest : Option (List ℕ)) : Type 0 where

@@ -21,7 +21,7 @@ use poke_batch::outcome::{Failure, Outcome};
 use poke_batch::status::Status;
 use poke_batch::write::WriteFault;
 use std::alloc::AllocError;
-use std::io::{BufReader, Read, Write};
+use std::io::{BufRead, BufReader, Read, Write};
 
 /// Does a task over many files, and writes a line for each. Ends with the greatest exit status of all.
 pub fn run_files<P: Opener, A: Aside, O: Write>(
@@ -155,7 +155,7 @@ fn run_list<P: Opener, L: Read + Drop, A: Aside, O: Write>(
 }
 
 // Does a task over the file of the next name of a list, and writes its line. `None` is returned at the list's end.
-fn run_next<P: Opener, L: Read, A: Aside, O: Write>(
+fn run_next<P: Opener, L: BufRead, A: Aside, O: Write>(
     opener: &P,
     task: Task<'_>,
     kept: &mut Option<Kept>,

@@ -1,13 +1,13 @@
 //! A list of names of files, each ended by a byte 0.
-ghost use Rattle.std.specs.Prelude.{◌≡◌, ◌≢◌, ◌<◌, ◌≤◌, ◌∷◌, ◌++◌, [], IfErr, IfNone, IfOk, IfSome, IsOk, OnOk, vec_capacity, vec_len};
+ghost use Rattle.std.specs.Prelude.{◌≡◌, ◌≢◌, ◌+◌, ◌<◌, ◌≤◌, ◌∷◌, ◌++◌, [], All, IfErr, IfNone, IfOk, IfSome, IsOk, OnOk, length, slice_index, take, vec_capacity, vec_len};
 ghost use Rattle.std.specs.Io.KnownBytes.{Consumes, IsAtEnd};
 ghost use Rattle.jobs.specs.FaultNames.{list_failure};
-ghost use Rattle.jobs.specs.Names.{IsLongStart, IsShortName};
+ghost use Rattle.jobs.specs.Names.{IsLongStart, IsShortName, ReadsPiece};
 ghost use Rattle.jobs.specs.declared.names.ListFault.TheVariants as listed;
 
 use poke_batch::outcome::Failure;
 use poke_batch::write::WriteFault;
-use std::io::{ErrorKind, Read};
+use std::io::{BufRead, ErrorKind, Read};
 use thiserror::Error;
 
 /// Why a list of files wasn't finished. It displays as its line.
@@ -57,9 +57,20 @@ pub enum NextName {
     Long,
 }
 
+/// What comes after a piece of a name.
+#[derive(Clone, Copy, Debug, Drop, PartialEq, Eq)]
+pub enum PieceEnd {
+    /// The byte 0 that ends the name.
+    Zero,
+    /// Perhaps more of the name.
+    More,
+    /// The list's end.
+    List,
+}
+
 /// Reads the next name of a list, without the byte 0 that ends it, which the last name may lack. Of a name of more than
 /// [`MOST_NAME`] bytes it reads one more than that. A name that has the capacity for those needs no memory.
-pub fn read_name<L: Read>(list: &mut L, name: &mut Vec<u8>) -> Result<NextName, ListFault>
+pub fn read_name<L: BufRead>(list: &mut L, name: &mut Vec<u8>) -> Result<NextName, ListFault>
     ensures whole { IfOk result (λ next. next ≡ NextName.Whole → IsShortName (L.remaining list.old) name.new.items
         (L.remaining list.new)) }
     ensures long { IfOk result (λ next. next ≡ NextName.Long → IsLongStart (L.remaining list.old) name.new.items
@@ -70,27 +81,77 @@ pub fn read_name<L: Read>(list: &mut L, name: &mut Vec<u8>) -> Result<NextName, 
     ensures memory { MOST_NAME < vec_capacity name.old → IfErr result (λ fault. fault ≡ ListFault.Read) }
 {
     name.clear();
-    for _ in 0..=MOST_NAME {
-        match next_byte(list)? {
-            Some(0) => return Ok(NextName::Whole),
-            Some(byte) => push_byte(name, byte)?,
-            None if name.is_empty() => return Ok(NextName::End),
-            None => return Ok(NextName::Whole),
+    for _ in 0..u64::MAX {
+        let room = MOST_NAME + 1 - name.len();
+        match read_piece(list, room, name)? {
+            PieceEnd::Zero => return Ok(NextName::Whole),
+            PieceEnd::List if name.is_empty() => return Ok(NextName::End),
+            PieceEnd::List => return Ok(NextName::Whole),
+            PieceEnd::More if name.len() > MOST_NAME => return Ok(NextName::Long),
+            PieceEnd::More => {}
         }
     }
-    Ok(NextName::Long)
+    // (no read is interrupted as often)
+    Err(ListFault::Read)
 }
 
-fn push_byte(name: &mut Vec<u8>, byte: u8) -> Result<(), ListFault>
-    ensures ok { OnOk result (name.new.items ≡ name.old.items ++ byte ∷ []) }
+// Adds to a name what the list shows of it, at most so many bytes, and reads that. If the byte 0 after it is shown too,
+// it is read.
+fn read_piece<L: BufRead>(
+    list: &mut L,
+    most: usize,
+    name: &mut Vec<u8>,
+) -> Result<PieceEnd, ListFault>
+    requires some { 0 < most }
+    ensures ok { IfOk result
+        (ReadsPiece (L.remaining list.old) (L.remaining list.new) name.old.items name.new.items most) }
+    ensures err { IfErr result (λ fault. fault ≢ ListFault.Write) }
+    ensures capacity { vec_capacity name.old ≤ vec_capacity name.new }
+    ensures memory { vec_len name.old + most ≤ vec_capacity name.old → IfErr result (λ fault. fault ≡ ListFault.Read) }
+{
+    let shown = match list.fill_buf() {
+        Ok(shown) => shown,
+        Err(error) if error.kind() == ErrorKind::Interrupted => return Ok(PieceEnd::More),
+        Err(_) => return Err(ListFault::Read),
+    };
+    if shown.is_empty() {
+        return Ok(PieceEnd::List);
+    }
+    let room = shown.len().min(most);
+    let count = count_to_zero(shown, room);
+    push_bytes(name, &shown[..count])?;
+    if count < room {
+        list.consume(count + 1);
+        return Ok(PieceEnd::Zero);
+    }
+    list.consume(count);
+    Ok(PieceEnd::More)
+}
+
+fn push_bytes(name: &mut Vec<u8>, bytes: &[u8]) -> Result<(), ListFault>
+    ensures ok { OnOk result (name.new.items ≡ name.old.items ++ bytes.now) }
     ensures err { IfErr result (λ fault. fault ≡ ListFault.Memory) }
     ensures capacity { vec_capacity name.old ≤ vec_capacity name.new }
-    ensures memory { vec_len name.old < vec_capacity name.old → IsOk result }
+    ensures memory { vec_len name.old + length bytes.now ≤ vec_capacity name.old → IsOk result }
 {
-    match name.push(byte) {
+    match name.extend_from_slice(bytes) {
         Ok(()) => Ok(()),
         Err(_) => Err(ListFault::Memory),
     }
+}
+
+// How many of these bytes come before their first byte 0, at most so many.
+fn count_to_zero(bytes: &[u8], most: usize) -> usize
+    requires within { most ≤ length bytes.now }
+    ensures most { result ≤ most }
+    ensures before { All (λ byte. byte ≢ 0) (take result bytes.now) }
+    ensures at { result < most → slice_index bytes.now result ≡ 0 }
+{
+    let mut count = 0;
+    while count < most && bytes[count] != 0 {
+        count += 1;
+    }
+    count
 }
 
 /// Reads the next byte of a list. `None` is returned at its end.
