@@ -1,5 +1,5 @@
 -- What is written as the reasons of a job.
-use Rattle.std.specs.Prelude.{◌≡◌, ◌⊎◌, Bool, true, ℕ, List, string_bytes}
+use Rattle.std.specs.Prelude.{◌≡◌, ◌⊎◌, ◌<◌, Bool, true, ℕ, List, [], codes, length, string_bytes}
 use Rattle.jobs.specs.declared.opener.NamedPickle.{NamedPickle}
 use Rattle.pickle_reasons.specs.Places.{TellsNoType}
 use Rattle.pickle_source.specs.Places.{TellsPlace, called_by}
@@ -18,6 +18,24 @@ pub data SaysRefusal (pickle : NamedPickle) : Outcome → List ℕ → Type 0 wh
       → TellsPlace pickle.bytes.items (called_by (string_bytes pickle.path)) text
       → SaysRefusal pickle (Refused refusal) text
   says_types : {text : List ℕ} → TellsNoType text → SaysRefusal pickle NoSuchType text
+
+-- the outcomes that these explain
+pub data IsExplained : Outcome → Type 0 where
+  refused_pickle : {refusal : Refusal} → IsExplained (Refused refusal)
+  no_type : IsExplained NoSuchType
+
+-- the line instead of reasons for which memory lacks
+abbrev pub untold : List ℕ
+untold = codes "  memory doesn't suffice for the reasons\n"
+
+-- that line, or nothing if the text had no room for it
+abbrev pub IsUntold : (room : ℕ) → (text : List ℕ) → Type 0
+IsUntold room text = (text ≡ untold) ⊎ ((room < length untold) × (text ≡ []))
+
+-- these reasons, or that line
+pub data Says (Right : List ℕ → Type 0) (room : ℕ) (text : List ℕ) : Type 0 where
+  said : Right text → Says Right room text
+  unsaid : IsUntold room text → Says Right room text
 
 -- which requested part no value of a type has
 abbrev pub SaysParts : Outcome → List ℕ → Type 0

@@ -1,8 +1,8 @@
 //! The reasons of a job, which are printed after its line.
-ghost use Rattle.std.specs.Prelude.{◌≡◌, IfOk, IfSome};
+ghost use Rattle.std.specs.Prelude.{◌≡◌, true, IfNone, IfOk, IfSome, vec_capacity};
 ghost use Rattle.bit_space.specs.SpaceView.{Keeps};
 ghost use Rattle.fault_report.specs.Why.{TellsWhy, run_of};
-ghost use Rattle.jobs.specs.Reasons.{Gains, SaysNotes, SaysParts, SaysRefusal};
+ghost use Rattle.jobs.specs.Reasons.{Gains, IsExplained, IsUntold, Says, SaysNotes, SaysParts, SaysRefusal};
 ghost use Rattle.poke_batch.specs.TypeRuns.{run_type};
 
 use crate::opener::NamedPickle;
@@ -19,6 +19,9 @@ use poke_batch::terms::Terms;
 use poke_batch::type_run::TypeRun;
 use std::alloc::{AllocError, Global};
 
+/// What is printed instead of reasons for which an allocation failed.
+pub const UNTOLD: &[u8] = b"  memory doesn't suffice for the reasons\n";
+
 /// Where the reasons of a job are written.
 #[derive(Drop)]
 pub struct Why<'a> {
@@ -28,7 +31,7 @@ pub struct Why<'a> {
 }
 
 /// Writes why a pickle, or the name of a type in it, is refused, if reasons are requested and the run ended so. If an
-/// allocation fails there is only the line of the refusal.
+/// allocation fails there is [`UNTOLD`], and without room for it nothing.
 pub fn explain(
     alloc: Global,
     why: &mut Why<'_>,
@@ -36,36 +39,56 @@ pub fn explain(
     pickle: &NamedPickle,
     name: &[u8],
 )
-    ensures text { Gains why.old.asked (SaysRefusal pickle.now outcome) why.old.text.now.items why.new.text.now.items }
+    ensures says { why.old.asked ≡ true → IsExplained outcome
+        → Says (SaysRefusal pickle.now outcome) (vec_capacity why.old.text.now) why.new.text.now.items }
+    ensures otherwise { Gains why.old.asked (λ text. IsExplained outcome) why.old.text.now.items
+        why.new.text.now.items }
     ensures asked { why.new.asked ≡ why.old.asked }
 {
     if !why.asked {
         return;
     }
-    if let Some(text) = refusal_text(alloc, outcome, pickle, name) {
-        *why.text = text;
+    match refusal_text(alloc, outcome, pickle, name) {
+        Some(Ok(text)) => *why.text = text,
+        Some(Err(AllocError)) => leave_untold(why.text),
+        None => {}
     }
 }
 
-// The lines that say why a run ended with a refusal, if it did, and no allocation fails.
+// The lines that say why a run ended with a refusal, if it did.
 fn refusal_text(
     alloc: Global,
     outcome: Outcome,
     pickle: &NamedPickle,
     name: &[u8],
-) -> Option<Vec<u8>>
-    ensures { IfSome result (λ text. SaysRefusal pickle.now outcome text.items) }
+) -> Option<Result<Vec<u8>, AllocError>>
+    ensures some { IfSome result (λ made. IsExplained outcome
+        × IfOk made (λ text. SaysRefusal pickle.now outcome text.items)) }
+    ensures none { IfNone result (¬ (IsExplained outcome)) }
 {
     let path = pickle.path.as_bytes();
     match outcome {
-        Outcome::Refused(refusal) => refusal_explanation(alloc, &pickle.bytes, path, refusal).ok(),
-        Outcome::NoSuchType => no_such_type(alloc, &pickle.bytes, name).ok(),
+        Outcome::Refused(refusal) => {
+            Some(refusal_explanation(alloc, &pickle.bytes, path, refusal))
+        }
+        Outcome::NoSuchType => Some(no_such_type(alloc, &pickle.bytes, name)),
         _ => None,
     }
 }
 
+/// Replaces reasons for which an allocation failed by [`UNTOLD`], if there is room for it.
+pub fn leave_untold(text: &mut Vec<u8>)
+    ensures { IsUntold (vec_capacity text.old) text.new.items }
+{
+    text.clear();
+    match text.extend_from_slice(UNTOLD) {
+        Ok(()) => {}
+        Err(AllocError) => text.clear(),
+    }
+}
+
 /// Writes which requested part no value of a type has, if reasons are requested and the run ended so. If an allocation
-/// fails there is only the line of the refusal.
+/// fails there is [`UNTOLD`], and without room for it nothing.
 pub fn explain_parts(
     alloc: Global,
     why: &mut Why<'_>,
@@ -80,8 +103,9 @@ pub fn explain_parts(
     if !why.asked || outcome != Outcome::ImpossiblePart {
         return;
     }
-    if let Ok(text) = impossible_text(alloc, table, id, terms) {
-        *why.text = text.into_bytes();
+    match impossible_text(alloc, table, id, terms) {
+        Ok(text) => *why.text = text.into_bytes(),
+        Err(AllocError) => leave_untold(why.text),
     }
 }
 

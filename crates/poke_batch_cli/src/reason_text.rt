@@ -1,9 +1,7 @@
 //! The pieces of a reason's text.
+use jobs::why::UNTOLD;
 use poke_batch::file_line::put_name;
 use std::alloc::{AllocError, Global};
-
-/// What is printed instead of reasons for which an allocation failed.
-const UNTOLD: &[u8] = b"  memory doesn't suffice for the reasons\n";
 
 /// No reasons yet, with room for the line that replaces them.
 pub fn no_reasons(alloc: Global) -> Vec<u8> {
@@ -11,14 +9,6 @@ pub fn no_reasons(alloc: Global) -> Vec<u8> {
     // Without room the line may be left out.
     let _reserved = text.reserve(UNTOLD.len());
     text
-}
-
-/// Replaces reasons for which an allocation failed by a line that says so.
-pub fn leave_untold(text: &mut Vec<u8>) {
-    text.clear();
-    if text.extend_from_slice(UNTOLD).is_err() {
-        text.clear();
-    }
 }
 
 /// Adds texts to a text, one after the other.
