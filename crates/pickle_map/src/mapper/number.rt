@@ -39,7 +39,6 @@ impl<W: Watch> Mapper<'_, W> {
         start: Start,
         space: &mut S,
     ) -> Result<u64, Stop>
-        requires table { IsTable self.old.nodes.now }
         requires at { at < length self.old.nodes.now }
         requires open { level_count self.old.store.now + depth (type_of self.old.nodes.now at) ≤ 65 }
         requires number { number_type (type_of self.old.nodes.now at) ≡ Some number }
@@ -78,7 +77,6 @@ impl<W: Watch> Mapper<'_, W> {
     /// Stores a number as the type at a place of the table, after its own first step.
     #[cycle(placing)]
     pub fn place_number(&mut self, at: usize, digits: u64, start: u64) -> Result<(), Stop>
-        requires table { IsTable self.old.nodes.now }
         requires at { at < length self.old.nodes.now }
         requires open { level_count self.old.store.now + depth (type_of self.old.nodes.now at) ≤ 65 }
         requires digits { digits < 2 ^ width_in (number_type (type_of self.old.nodes.now at)) }
@@ -165,7 +163,6 @@ impl<W: Watch> Mapper<'_, W> {
         digits: u64,
         start: u64,
     ) -> Result<(), Stop>
-        requires table { IsTable self.old.nodes.now }
         requires at { at < length self.old.nodes.now }
         requires fields { All (IsPartOf self.old.nodes.now (level_count self.old.store.now + 1)) fields.now }
         requires names { names_at self.old.nodes.now at ≡ map part_name fields.now }
@@ -195,7 +192,6 @@ impl<W: Watch> Mapper<'_, W> {
         digits: u64,
         start: u64,
     ) -> Result<(), Stop>
-        requires table { IsTable self.old.nodes.now }
         requires at { at < length self.old.nodes.now }
         requires fields { All (IsPartOf self.old.nodes.now (level_count self.old.store.now)) fields.now }
         requires names { names_at self.old.nodes.now at ≡ map part_name fields.now }
@@ -223,7 +219,6 @@ impl<W: Watch> Mapper<'_, W> {
         width: u8,
         start: u64,
     ) -> Result<(), Stop>
-        requires table { IsTable self.old.nodes.now }
         requires fields { All (IsPartOf self.old.nodes.now (level_count self.old.store.now)) fields.now }
         requires width { width ≤ 64 }
         requires start { start < 2 ^ 63 }
@@ -247,7 +242,6 @@ impl<W: Watch> Mapper<'_, W> {
     /// Stores a field of an integral struct in its frame, and checks its constraint.
     #[cycle(placing)]
     fn place_part(&mut self, part: &Part, digits: u64, start: u64) -> Result<(), Stop>
-        requires table { IsTable self.old.nodes.now }
         requires part { IsPartOf self.old.nodes.now (level_count self.old.store.now) part.now }
         requires digits { digits < 2 ^ width_in (number_type (type_of self.old.nodes.now part.now.node)) }
         requires start { start < 2 ^ 63 }

@@ -137,7 +137,6 @@ impl<W: Watch> Mapper<'_, W> {
     /// Stores an integer or an offset.
     #[inline(always)]
     fn place_scalar(&mut self, at: usize, digits: u64, start: u64) -> Result<(), Stop>
-        requires table { IsTable self.old.nodes.now }
         requires at { at < length self.old.nodes.now }
         requires scalar { IsScalar (type_of self.old.nodes.now at) }
         requires digits { digits < 2 ^ number_bits (scalar_shape (type_of self.old.nodes.now at)) }
@@ -168,7 +167,6 @@ impl<W: Watch> Mapper<'_, W> {
         row: &mut RecordBytes,
         space: &mut S,
     ) -> Result<u64, Stop>
-        requires table { IsTable self.old.nodes.now }
         requires at { at < length self.old.nodes.now }
         requires scalar { IsScalar (type_of self.old.nodes.now at) }
         requires number { number_type (type_of self.old.nodes.now at) ≡ Some number }
@@ -197,7 +195,6 @@ impl<W: Watch> Mapper<'_, W> {
         row: &mut RecordBytes,
         space: &mut S,
     ) -> Result<u64, Stop>
-        requires table { IsTable self.old.nodes.now }
         requires at { at < length self.old.nodes.now }
         requires scalar { IsScalar (type_of self.old.nodes.now at) }
         requires inside { start.bit ≤ 8 * (S.view space.old).len }
@@ -228,7 +225,6 @@ impl<W: Watch> Mapper<'_, W> {
         row: &mut RecordBytes,
         space: &mut S,
     ) -> Result<u64, Stop>
-        requires table { IsTable self.old.nodes.now }
         requires at { node < length self.old.nodes.now }
         requires scalar { IsScalar (type_of self.old.nodes.now node) }
         requires sound { IsSoundClause (optional_term constraint.now) }
@@ -266,7 +262,6 @@ impl<W: Watch> Mapper<'_, W> {
         row: &mut RecordBytes,
         space: &mut S,
     ) -> Result<u64, Stop>
-        requires table { IsTable self.old.nodes.now }
         requires fields { All (IsFieldOf self.old.nodes.now (level_count self.old.store.now)) fields.now }
         requires columns { AreColumns (open_fields (type_of self.old.nodes.now) fields.now) }
         requires inside { start.bit ≤ 8 * (S.view space.old).len }

@@ -10,7 +10,7 @@ ghost use Rattle.pickle_map.specs.Row.{PacksValues};
 ghost use Rattle.pickle_map.specs.LaidArrays.{as_value};
 ghost use Rattle.pickle_meaning.specs.Values.{outer_of};
 ghost use Rattle.pickle_types.specs.Types.{depth};
-ghost use Rattle.pickle_types.specs.Table.{IsTable, type_of};
+ghost use Rattle.pickle_types.specs.Table.{type_of};
 ghost use Rattle.value_store.specs.Slots.{levels, level_count};
 
 use crate::mapper::start::Start;
@@ -31,7 +31,6 @@ impl<W: Watch> Mapper<'_, W> {
         start: Start,
         space: &mut S,
     ) -> Result<u64, Stop>
-        requires table { IsTable self.old.nodes.now }
         requires element { element < length self.old.nodes.now }
         requires packs { PacksValues (type_of self.old.nodes.now element) self.old.store.now.room }
         requires open { (1 < level_count self.old.store.now)
@@ -66,7 +65,6 @@ impl<W: Watch> Mapper<'_, W> {
         start: Start,
         space: &mut S,
     ) -> Result<u64, Stop>
-        requires table { IsTable self.old.nodes.now }
         requires element { element < length self.old.nodes.now }
         requires packs { PacksValues (type_of self.old.nodes.now element) self.old.store.now.room }
         requires open { level_count self.old.store.now + depth (type_of self.old.nodes.now element) ≤ 65 }
@@ -122,7 +120,6 @@ impl<W: Watch> Mapper<'_, W> {
         start: Start,
         space: &mut S,
     ) -> Result<u64, Stop>
-        requires table { IsTable self.old.nodes.now }
         requires at { at < length self.old.nodes.now }
         requires packs { PacksValues (type_of self.old.nodes.now at) self.old.store.now.room }
         requires open { level_count self.old.store.now + depth (type_of self.old.nodes.now at) ≤ 65 }

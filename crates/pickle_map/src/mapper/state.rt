@@ -2,6 +2,8 @@
 
 ghost use Rattle.std.specs.Prelude.{◌≡◌};
 ghost use Rattle.pickle_map.specs.Packings.{AreKept};
+ghost use Rattle.pickle_types.specs.Props.{IsTable-prop};
+ghost use Rattle.pickle_types.specs.Table.{IsTable};
 
 use crate::mapper::packings::Packings;
 use bit_space::Meter;
@@ -17,11 +19,12 @@ pub struct Mapper<'a, W> {
     pub meter: &'a mut Meter,
     pub store: &'a mut Store,
     pub watch: &'a mut W,
+    pub ghost table: { IsTable nodes.now } by { IsTable-prop nodes.now },
     pub ghost kept: { AreKept nodes.now packings.now },
 }
 
 impl<'a, W> Mapper<'a, W> {
-    /// A mapper over nodes, with what is known of their types.
+    /// A mapper over the nodes of a table, with what is known of their types.
     pub fn new(
         nodes: &'a [Node],
         packings: &'a mut Packings,
@@ -29,7 +32,8 @@ impl<'a, W> Mapper<'a, W> {
         store: &'a mut Store,
         watch: &'a mut W,
     ) -> Mapper<'a, W>
-        requires { AreKept nodes.now packings.old }
+        requires table { IsTable nodes.now }
+        requires kept { AreKept nodes.now packings.old }
         ensures nodes { result.nodes ≡ nodes.entry }
         ensures packings { result.packings ≡ packings.entry }
         ensures meter { result.meter ≡ meter.entry }

@@ -2,7 +2,7 @@
 
 ghost use Rattle.std.specs.Prelude.{◌≡◌, ◌+◌, ◌*◌, ◌^◌, ◌<◌, ◌≤◌, ◌∷◌, [], map, length, All, IfOk, OnOk};
 ghost use Rattle.pickle_types.specs.Types.{depth};
-ghost use Rattle.pickle_types.specs.Table.{IsTable, type_of, optional_term, bound_of};
+ghost use Rattle.pickle_types.specs.Table.{type_of, optional_term, bound_of};
 ghost use Rattle.pickle_map.specs.AtWork.{Frame, AddsToLevel, LevelStays, LeavesLevel, Maps, Closes, Fills, Takes};
 ghost use Rattle.pickle_map.specs.Calls.{as_type, as_checked, as_array, as_array_level, as_elements, as_struct, as_struct_level, as_fields, as_union, as_union_level};
 ghost use Rattle.pickle_map.specs.Framed.{IsEnd};
@@ -39,7 +39,6 @@ impl<W: Watch> Mapper<'_, W> {
         start: u128,
         space: &mut S,
     ) -> Result<u64, Stop>
-        requires table { IsTable self.old.nodes.now }
         requires at { at < length self.old.nodes.now }
         requires open { level_count self.old.store.now + depth (type_of self.old.nodes.now at) ≤ 65 }
         ensures frame { Frame (S.view space.old) (S.view space.new) self.old self.new 0 result }
@@ -64,7 +63,6 @@ impl<W: Watch> Mapper<'_, W> {
         start: Start,
         space: &mut S,
     ) -> Result<u64, Stop>
-        requires table { IsTable self.old.nodes.now }
         requires at { at < length self.old.nodes.now }
         requires open { level_count self.old.store.now + depth (type_of self.old.nodes.now at) ≤ 65 }
         requires inside { start.bit ≤ 8 * (S.view space.old).len }
@@ -85,7 +83,6 @@ impl<W: Watch> Mapper<'_, W> {
     #[cycle(mapping)]
     #[inline(never)]
     fn map_shape<S: Space>(&mut self, at: usize, start: Start, space: &mut S) -> Result<u64, Stop>
-        requires table { IsTable self.old.nodes.now }
         requires at { at < length self.old.nodes.now }
         requires open { level_count self.old.store.now + depth (type_of self.old.nodes.now at) ≤ 65 }
         requires inside { start.bit ≤ 8 * (S.view space.old).len }
@@ -128,7 +125,6 @@ impl<W: Watch> Mapper<'_, W> {
         start: u128,
         space: &mut S,
     ) -> Result<u64, Stop>
-        requires table { IsTable self.old.nodes.now }
         requires at { node < length self.old.nodes.now }
         requires open { level_count self.old.store.now + depth (type_of self.old.nodes.now node) ≤ 65 }
         requires sound { IsSoundClause (optional_term constraint.now) }
@@ -153,7 +149,6 @@ impl<W: Watch> Mapper<'_, W> {
         start: Start,
         space: &mut S,
     ) -> Result<u64, Stop>
-        requires table { IsTable self.old.nodes.now }
         requires element { element < length self.old.nodes.now }
         requires open { level_count self.old.store.now + 1 + depth (type_of self.old.nodes.now element) ≤ 65 }
         requires sound { IsSoundBound (bound_of bound.now) }
@@ -189,7 +184,6 @@ impl<W: Watch> Mapper<'_, W> {
         start: Start,
         space: &mut S,
     ) -> Result<u64, Stop>
-        requires table { IsTable self.old.nodes.now }
         requires element { element < length self.old.nodes.now }
         requires open { (1 < level_count self.old.store.now)
             × (level_count self.old.store.now + depth (type_of self.old.nodes.now element) ≤ 65) }
@@ -222,7 +216,6 @@ impl<W: Watch> Mapper<'_, W> {
         start: Start,
         space: &mut S,
     ) -> Result<u64, Stop>
-        requires table { IsTable self.old.nodes.now }
         requires element { element < length self.old.nodes.now }
         requires open { (1 < level_count self.old.store.now)
             × (level_count self.old.store.now + depth (type_of self.old.nodes.now element) ≤ 65) }
@@ -252,7 +245,6 @@ impl<W: Watch> Mapper<'_, W> {
         start: Start,
         space: &mut S,
     ) -> Result<u64, Stop>
-        requires table { IsTable self.old.nodes.now }
         requires element { element < length self.old.nodes.now }
         requires open { level_count self.old.store.now + depth (type_of self.old.nodes.now element) ≤ 65 }
         requires apart { StandApart (type_of self.old.nodes.now element) self.old.store.now.room }
@@ -309,7 +301,6 @@ impl<W: Watch> Mapper<'_, W> {
         start: Start,
         space: &mut S,
     ) -> Result<u64, Stop>
-        requires table { IsTable self.old.nodes.now }
         requires at { at < length self.old.nodes.now }
         requires fields { All (IsFieldOf self.old.nodes.now (level_count self.old.store.now + 1)) fields.now }
         requires names { names_at self.old.nodes.now at ≡ map field_name fields.now }
@@ -339,7 +330,6 @@ impl<W: Watch> Mapper<'_, W> {
         start: Start,
         space: &mut S,
     ) -> Result<u64, Stop>
-        requires table { IsTable self.old.nodes.now }
         requires at { at < length self.old.nodes.now }
         requires fields { All (IsFieldOf self.old.nodes.now (level_count self.old.store.now)) fields.now }
         requires names { names_at self.old.nodes.now at ≡ map field_name fields.now }
@@ -367,7 +357,6 @@ impl<W: Watch> Mapper<'_, W> {
         start: Start,
         space: &mut S,
     ) -> Result<u64, Stop>
-        requires table { IsTable self.old.nodes.now }
         requires fields { All (IsFieldOf self.old.nodes.now (level_count self.old.store.now)) fields.now }
         requires inside { start.bit ≤ 8 * (S.view space.old).len }
         ensures frame { Frame (S.view space.old) (S.view space.new) self.old self.new 0 result }
@@ -428,7 +417,6 @@ impl<W: Watch> Mapper<'_, W> {
         start: Start,
         space: &mut S,
     ) -> Result<u64, Stop>
-        requires table { IsTable self.old.nodes.now }
         requires at { at < length self.old.nodes.now }
         requires alternatives { All
             (IsPartOf self.old.nodes.now (level_count self.old.store.now + 1)) alternatives.now }
@@ -459,7 +447,6 @@ impl<W: Watch> Mapper<'_, W> {
         start: Start,
         space: &mut S,
     ) -> Result<u64, Stop>
-        requires table { IsTable self.old.nodes.now }
         requires at { at < length self.old.nodes.now }
         requires alternatives { All (IsPartOf self.old.nodes.now (level_count self.old.store.now)) alternatives.now }
         requires few { length alternatives.now ≤ 2 ^ 16 }
@@ -490,7 +477,6 @@ impl<W: Watch> Mapper<'_, W> {
         start: Start,
         space: &mut S,
     ) -> Result<(usize, u64), Stop>
-        requires table { IsTable self.old.nodes.now }
         requires alternatives { All (IsPartOf self.old.nodes.now (level_count self.old.store.now)) alternatives.now }
         requires fresh { levels self.old.nodes.now self.old.store.now
             ≡ [] ∷ outer_of (levels self.old.nodes.now self.old.store.now) }

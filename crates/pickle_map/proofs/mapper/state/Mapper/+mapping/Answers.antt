@@ -50,13 +50,13 @@ map_type-returns-then-from-start-clause-level g t c = same_adds c.args.self.now.
 
 pub map_inside-map_integer-requires : goal.map_inside-map_integer-requires
 map_inside-map_integer-requires g t c =
-    let width = below_as c.args.self.now.nodes.now c.requires.table c.args.at c.requires.at c.index-nodes-at.result
+    let width = below_as c.args.self.now.nodes.now c.args.self.now.table c.args.at c.requires.at c.index-nodes-at.result
     _ c.in-Integer.is in
     search rules
 
 pub map_inside-returns-in-Integer-clause-is : goal.map_inside-returns-in-Integer-clause-is
 map_inside-returns-in-Integer-clause-is g t c = rw (
-  opened_as c.args.self.now.nodes.now c.requires.table c.args.at c.requires.at
+  opened_as c.args.self.now.nodes.now c.args.self.now.table c.args.at c.requires.at
       c.index-nodes-at.result _ c.in-Integer.is,
   number_is _ _ _ _ _ _ refl c.requires.inside,
 ) (c.map_integer.ensures.is)
@@ -67,84 +67,90 @@ map_inside-returns-in-Integer-clause-level g t c = c.map_integer.ensures.level
 pub map_inside-map_text-requires-clause-open : goal.map_inside-map_text-requires-clause-open
 unfolding depth
 map_inside-map_text-requires-clause-open g t c =
-    let deep = rw (opened_as c.args.self.now.nodes.now c.requires.table c.args.at c.requires.at c.index-nodes-at.result
+    let deep =
+    rw (opened_as c.args.self.now.nodes.now c.args.self.now.table c.args.at c.requires.at c.index-nodes-at.result
     _ c.in-String.is) at c.requires.open in
     omega (arith, deep)
 
 pub map_inside-returns-in-String-clause-is : goal.map_inside-returns-in-String-clause-is
 map_inside-returns-in-String-clause-is g t c = rw (
-  opened_as c.args.self.now.nodes.now c.requires.table c.args.at c.requires.at c.index-nodes-at.result _ c.in-String.is,
+  opened_as c.args.self.now.nodes.now c.args.self.now.table c.args.at c.requires.at
+      c.index-nodes-at.result _ c.in-String.is,
   text_is _ _ _ _ c.requires.inside,
 ) c.map_text.ensures.is
 
 pub map_shape-map_number-requires-clause-number : goal.map_shape-map_number-requires-clause-number
-map_shape-map_number-requires-clause-number g t c = ap number_type (opened_as c.args.self.now.nodes.now c.requires.table
+map_shape-map_number-requires-clause-number g t c =
+    ap number_type (opened_as c.args.self.now.nodes.now c.args.self.now.table
     c.args.at c.requires.at c.index-nodes-at.result _ c.in-Integer.is)
 
 pub map_shape-map_number-requires-clause-width : goal.map_shape-map_number-requires-clause-width
-map_shape-map_number-requires-clause-width g t c = (below_as c.args.self.now.nodes.now c.requires.table c.args.at
+map_shape-map_number-requires-clause-width g t c = (below_as c.args.self.now.nodes.now c.args.self.now.table c.args.at
     c.requires.at c.index-nodes-at.result _ c.in-Integer.is)
 
 pub map_shape-returns-in-Integer-clause-is : goal.map_shape-returns-in-Integer-clause-is
 map_shape-returns-in-Integer-clause-is g t c =
-    rw (number_is _ _ _ _ _ _ (ap number_type (opened_as c.args.self.now.nodes.now c.requires.table c.args.at
+    rw (number_is _ _ _ _ _ _ (ap number_type (opened_as c.args.self.now.nodes.now c.args.self.now.table c.args.at
     c.requires.at c.index-nodes-at.result _ c.in-Integer.is)) c.requires.inside) c.map_number.ensures.is
 
 pub map_shape-map_number-requires-in-Offset-clause-number : goal.map_shape-map_number-requires-in-Offset-clause-number
 map_shape-map_number-requires-in-Offset-clause-number g t c = ap number_type (opened_as c.args.self.now.nodes.now
-    c.requires.table c.args.at c.requires.at c.index-nodes-at.result _ c.in-Offset.is)
+    c.args.self.now.table c.args.at c.requires.at c.index-nodes-at.result _ c.in-Offset.is)
 
 pub map_shape-map_number-requires-in-Offset-clause-width : goal.map_shape-map_number-requires-in-Offset-clause-width
-map_shape-map_number-requires-in-Offset-clause-width g t c = (below_as c.args.self.now.nodes.now c.requires.table
+map_shape-map_number-requires-in-Offset-clause-width g t c = (below_as c.args.self.now.nodes.now c.args.self.now.table
     c.args.at c.requires.at c.index-nodes-at.result _ c.in-Offset.is).0
 
 pub map_shape-returns-in-Offset-clause-is : goal.map_shape-returns-in-Offset-clause-is
 map_shape-returns-in-Offset-clause-is g t c =
-    rw (number_is _ _ _ _ _ _ (ap number_type (opened_as c.args.self.now.nodes.now c.requires.table c.args.at
+    rw (number_is _ _ _ _ _ _ (ap number_type (opened_as c.args.self.now.nodes.now c.args.self.now.table c.args.at
     c.requires.at c.index-nodes-at.result _ c.in-Offset.is)) c.requires.inside) c.map_number-in-Offset.ensures.is
 
 pub map_shape-map_number-requires-in-Integral-clause-number :
     goal.map_shape-map_number-requires-in-Integral-clause-number
 map_shape-map_number-requires-in-Integral-clause-number g t c = ap number_type (opened_as c.args.self.now.nodes.now
-    c.requires.table c.args.at c.requires.at c.index-nodes-at.result _ c.in-Integral.is)
+    c.args.self.now.table c.args.at c.requires.at c.index-nodes-at.result _ c.in-Integral.is)
 
 pub map_shape-map_number-requires-in-Integral-clause-width : goal.map_shape-map_number-requires-in-Integral-clause-width
-map_shape-map_number-requires-in-Integral-clause-width g t c = (below_as c.args.self.now.nodes.now c.requires.table
+map_shape-map_number-requires-in-Integral-clause-width g t c = (below_as c.args.self.now.nodes.now c.args.self.now.table
     c.args.at c.requires.at c.index-nodes-at.result _ c.in-Integral.is).0
 
 pub map_shape-returns-in-Integral-clause-is : goal.map_shape-returns-in-Integral-clause-is
 map_shape-returns-in-Integral-clause-is g t c =
-    rw (number_is _ _ _ _ _ _ (ap number_type (opened_as c.args.self.now.nodes.now c.requires.table c.args.at
+    rw (number_is _ _ _ _ _ _ (ap number_type (opened_as c.args.self.now.nodes.now c.args.self.now.table c.args.at
     c.requires.at c.index-nodes-at.result _ c.in-Integral.is)) c.requires.inside) c.map_number-in-Integral.ensures.is
 
 pub map_shape-map_text-requires-clause-open : goal.map_shape-map_text-requires-clause-open
 unfolding depth
 map_shape-map_text-requires-clause-open g t c =
-    let deep = rw (opened_as c.args.self.now.nodes.now c.requires.table c.args.at c.requires.at c.index-nodes-at.result
+    let deep =
+    rw (opened_as c.args.self.now.nodes.now c.args.self.now.table c.args.at c.requires.at c.index-nodes-at.result
     _ c.in-String.is) at c.requires.open in
     omega (arith, deep)
 
 pub map_shape-map_array-requires : goal.map_shape-map_array-requires
 unfolding depth
 map_shape-map_array-requires g t c =
-    let below = below_as c.args.self.now.nodes.now c.requires.table c.args.at c.requires.at
+    let below = below_as c.args.self.now.nodes.now c.args.self.now.table c.args.at c.requires.at
     c.index-nodes-at.result _ c.in-Array.is in
-    let sound = sound_as c.args.self.now.nodes.now c.requires.table c.args.at c.requires.at
+    let sound = sound_as c.args.self.now.nodes.now c.args.self.now.table c.args.at c.requires.at
     c.index-nodes-at.result _ c.in-Array.is in
-    let deep = rw (opened_as c.args.self.now.nodes.now c.requires.table c.args.at c.requires.at c.index-nodes-at.result
+    let deep =
+    rw (opened_as c.args.self.now.nodes.now c.args.self.now.table c.args.at c.requires.at c.index-nodes-at.result
     _ c.in-Array.is) at c.requires.open in
     search rules
 
 pub map_shape-map_struct-requires : goal.map_shape-map_struct-requires
 unfolding depth
 map_shape-map_struct-requires g t c =
-    let below = below_as c.args.self.now.nodes.now c.requires.table c.args.at c.requires.at
+    let below = below_as c.args.self.now.nodes.now c.args.self.now.table c.args.at c.requires.at
     c.index-nodes-at.result _ c.in-Struct.is in
-    let names = names_as c.args.self.now.nodes.now c.requires.table c.args.at c.requires.at
+    let names = names_as c.args.self.now.nodes.now c.args.self.now.table c.args.at c.requires.at
     c.index-nodes-at.result _ c.in-Struct.is in
-    let sound = sound_as c.args.self.now.nodes.now c.requires.table c.args.at c.requires.at
+    let sound = sound_as c.args.self.now.nodes.now c.args.self.now.table c.args.at c.requires.at
     c.index-nodes-at.result _ c.in-Struct.is in
-    let deep = rw (opened_as c.args.self.now.nodes.now c.requires.table c.args.at c.requires.at c.index-nodes-at.result
+    let deep =
+    rw (opened_as c.args.self.now.nodes.now c.args.self.now.table c.args.at c.requires.at c.index-nodes-at.result
     _ c.in-Struct.is) at c.requires.open in
     let fields = fields_within c.args.self.now.nodes.now c.args.at c.requires.at
     (level_count c.args.self.now.store.now + 1) c.in-Struct.fields.items below sound (omega (arith, deep)) in
@@ -154,13 +160,14 @@ map_shape-map_struct-requires g t c =
 pub map_shape-map_union-requires : goal.map_shape-map_union-requires
 unfolding depth
 map_shape-map_union-requires g t c =
-    let below = below_as c.args.self.now.nodes.now c.requires.table c.args.at c.requires.at
+    let below = below_as c.args.self.now.nodes.now c.args.self.now.table c.args.at c.requires.at
     c.index-nodes-at.result _ c.in-Union.is in
-    let names = names_as c.args.self.now.nodes.now c.requires.table c.args.at c.requires.at
+    let names = names_as c.args.self.now.nodes.now c.args.self.now.table c.args.at c.requires.at
     c.index-nodes-at.result _ c.in-Union.is in
-    let sound = sound_as c.args.self.now.nodes.now c.requires.table c.args.at c.requires.at
+    let sound = sound_as c.args.self.now.nodes.now c.args.self.now.table c.args.at c.requires.at
     c.index-nodes-at.result _ c.in-Union.is in
-    let deep = rw (opened_as c.args.self.now.nodes.now c.requires.table c.args.at c.requires.at c.index-nodes-at.result
+    let deep =
+    rw (opened_as c.args.self.now.nodes.now c.args.self.now.table c.args.at c.requires.at c.index-nodes-at.result
     _ c.in-Union.is) at c.requires.open in
     let alternatives = parts_within c.args.self.now.nodes.now c.args.at c.requires.at
     (level_count c.args.self.now.store.now + 1) c.in-Union.alternatives.items below sound.0 (omega (arith, deep)) in
@@ -170,20 +177,22 @@ map_shape-map_union-requires g t c =
 
 pub map_shape-returns-in-String-clause-is : goal.map_shape-returns-in-String-clause-is
 map_shape-returns-in-String-clause-is g t c = rw (
-  opened_as c.args.self.now.nodes.now c.requires.table c.args.at c.requires.at c.index-nodes-at.result _ c.in-String.is,
+  opened_as c.args.self.now.nodes.now c.args.self.now.table c.args.at c.requires.at
+      c.index-nodes-at.result _ c.in-String.is,
   text_is _ _ _ _ c.requires.inside,
 ) c.map_text.ensures.is
 
 pub map_shape-returns-in-Array-clause-is : goal.map_shape-returns-in-Array-clause-is
-map_shape-returns-in-Array-clause-is g t c = rw (opened_as c.args.self.now.nodes.now c.requires.table c.args.at
+map_shape-returns-in-Array-clause-is g t c = rw (opened_as c.args.self.now.nodes.now c.args.self.now.table c.args.at
     c.requires.at c.index-nodes-at.result _ c.in-Array.is) c.map_array.ensures.is
 
 pub map_shape-returns-in-Struct-clause-is : goal.map_shape-returns-in-Struct-clause-is
-map_shape-returns-in-Struct-clause-is g t c = rw (struct_opened c.args.self.now.nodes.now c.requires.table c.args.at
+map_shape-returns-in-Struct-clause-is g t c =
+    rw (struct_opened c.args.self.now.nodes.now c.args.self.now.table c.args.at
     c.requires.at c.index-nodes-at.result _ _ _ _ c.in-Struct.is c.deref.ensures.value) c.map_struct.ensures.is
 
 pub map_shape-returns-in-Union-clause-is : goal.map_shape-returns-in-Union-clause-is
-map_shape-returns-in-Union-clause-is g t c = rw (union_opened c.args.self.now.nodes.now c.requires.table c.args.at
+map_shape-returns-in-Union-clause-is g t c = rw (union_opened c.args.self.now.nodes.now c.args.self.now.table c.args.at
     c.requires.at c.index-nodes-at.result _ _ _ c.in-Union.is c.deref-in-Union.ensures.value) c.map_union.ensures.is
 
 pub map_checked-returns-in_err-end-clause-is : goal.map_checked-returns-in_err-end-clause-is
@@ -945,7 +954,7 @@ map_value-pack_first-requires g t c =
     let e = c.in_ok-end.ensures in
     let k = c.requires.packs in
     let among = rw c.if-first.true at c.requires.among in
-    let widths = table_widths nodes c.requires.table.below c.args.at in
+    let widths = table_widths nodes c.args.self.now.table.below c.args.at in
     let short = g.met.S.Space.short c.args.space.now in
     first_taken nodes c.map_inside.new.self.store.now (8 * (g.S.Space.view c.args.space.now).len)
     (type_of nodes c.args.at) k.stride k.row widths (levels nodes c.args.self.now.store.now) c.args.start.bit e.is.value
@@ -958,7 +967,7 @@ map_value-pack_next-requires g t c =
     let e = c.in_ok-end.ensures in
     let k = c.requires.packs in
     let among = rw c.if-first.false at c.requires.among in
-    let widths = table_widths nodes c.requires.table.below c.args.at in
+    let widths = table_widths nodes c.args.self.now.table.below c.args.at in
     let short = g.met.S.Space.short c.args.space.now in
     next_taken nodes c.args.self.now.store.now c.map_inside.new.self.store.now
     (8 * (g.S.Space.view c.args.space.now).len) (type_of nodes c.args.at) k.stride k.row widths
@@ -976,7 +985,7 @@ map_value-returns-in_err-pack_first-clause-is g t c =
     let e = c.in_err-pack_first.ensures in
     let k = c.requires.packs in
     let among = rw c.if-first.true at c.requires.among in
-    let widths = table_widths nodes c.requires.table.below c.args.at in
+    let widths = table_widths nodes c.args.self.now.table.below c.args.at in
     let cannot = first_cannot nodes mid (8 * (g.S.Space.view c.args.space.now).len) (type_of nodes c.args.at) k.stride
     k.row widths (levels nodes before) c.args.start.bit m.is.value among.0 (followed_fits _ _ _ _ _ m.is.follows)
     (m.is.kept ∙ ap (λ ls. pushed ls (Some m.is.value)) among.1) e.lacks in
@@ -1001,7 +1010,7 @@ map_value-returns-in_err-pack_next-clause-is g t c =
     let e = c.in_err-pack_next.ensures in
     let k = c.requires.packs in
     let among = rw c.if-first.false at c.requires.among in
-    let widths = table_widths nodes c.requires.table.below c.args.at in
+    let widths = table_widths nodes c.args.self.now.table.below c.args.at in
     let short = g.met.S.Space.short c.args.space.now in
     let cannot = next_cannot nodes before c.map_inside.new.self.store.now (8 * (g.S.Space.view c.args.space.now).len)
     (type_of nodes c.args.at) k.stride k.row widths (levels nodes before) among.start c.args.start.bit m.is.value
@@ -1029,7 +1038,7 @@ map_value-returns-in_ok-pack_first-clause-is g t c =
     let k = c.requires.packs in
     let ty = type_of nodes c.args.at in
     let bits = 8 * (g.S.Space.view c.args.space.now).len in
-    let widths = table_widths nodes c.requires.table.below c.args.at in
+    let widths = table_widths nodes c.args.self.now.table.below c.args.at in
     let fits = followed_fits _ _ _ _ _ m.is.follows in
     let e = c.in_ok-pack_first.ensures in
     let after = c.pack_first.new.self in
@@ -1060,7 +1069,7 @@ map_value-returns-in_ok-pack_first-clause-level g t c =
     let k = c.requires.packs in
     let ty = type_of nodes c.args.at in
     let bits = 8 * (g.S.Space.view c.args.space.now).len in
-    let widths = table_widths nodes c.requires.table.below c.args.at in
+    let widths = table_widths nodes c.args.self.now.table.below c.args.at in
     let fits = followed_fits _ _ _ _ _ m.is.follows in
     let e = c.in_ok-pack_first.ensures in
     let after = c.pack_first.new.self in
@@ -1083,7 +1092,7 @@ map_value-returns-in_ok-pack_next-clause-is g t c =
     let k = c.requires.packs in
     let ty = type_of nodes c.args.at in
     let bits = 8 * (g.S.Space.view c.args.space.now).len in
-    let widths = table_widths nodes c.requires.table.below c.args.at in
+    let widths = table_widths nodes c.args.self.now.table.below c.args.at in
     let fits = followed_fits _ _ _ _ _ m.is.follows in
     let added = value_added _ _ k.stride k.row _ _ _ m.is.follows k.packs in
     let short = g.met.S.Space.short c.args.space.now in
@@ -1118,7 +1127,7 @@ map_value-returns-in_ok-pack_next-clause-level g t c =
     let k = c.requires.packs in
     let ty = type_of nodes c.args.at in
     let bits = 8 * (g.S.Space.view c.args.space.now).len in
-    let widths = table_widths nodes c.requires.table.below c.args.at in
+    let widths = table_widths nodes c.args.self.now.table.below c.args.at in
     let fits = followed_fits _ _ _ _ _ m.is.follows in
     let added = value_added _ _ k.stride k.row _ _ _ m.is.follows k.packs in
     let short = g.met.S.Space.short c.args.space.now in
@@ -1164,7 +1173,7 @@ map_values-map_value-requires g t c =
     let nodes = c.args.self.now.nodes.now in
     let ty = type_of nodes c.args.element in
     let r = c.requires.packs in
-    let widths = table_widths nodes c.requires.table.below c.args.element in
+    let widths = table_widths nodes c.args.self.now.table.below c.args.element in
     let among = among_values nodes c.loop-self.self.store.now ty r.stride r.row widths c.args.start.bit
     (outer_of (levels nodes c.args.self.now.store.now)) (nat_eq c.loop-self.count 0) c.loop-self.place i.so_far.0
     (λ none. i.first.0 (eqb-true c.loop-self.count 0 none))
@@ -1183,7 +1192,7 @@ map_values-loop-self-smaller g t c =
     let nodes = c.args.self.now.nodes.now in
     let ty = type_of nodes c.args.element in
     let r = c.requires.packs in
-    let widths = table_widths nodes c.requires.table.below c.args.element in
+    let widths = table_widths nodes c.args.self.now.table.below c.args.element in
     let one = rw i.lent.nodes at k.is in
     let own = element_is one.m ty r.stride r.row widths one.inner c.loop-self.place one.value one.fits in
     let some = own.wide in
@@ -1211,7 +1220,7 @@ map_values-loop-self-preserved g t c =
     let outer = outer_of (levels nodes c.args.self.now.store.now) in
     let m = 8 * (g.S.Space.view c.args.space.now).len in
     let r = c.requires.packs in
-    let widths = table_widths nodes c.requires.table.below c.args.element in
+    let widths = table_widths nodes c.args.self.now.table.below c.args.element in
     let due = sym c.is_due.ensures ∙ c.loop-self-test.true in
     let due = rw c.len-bits.ensures at due in
     let one = rw (i.lent.nodes, i.frame.len) at k.is in
@@ -1346,7 +1355,7 @@ values_body-returns-in_err-close_array-clause-is g t c =
     let ty = type_of nodes c.args.element in
     let outer = outer_of (levels nodes c.args.self.now.store.now) in
     let r = c.requires.packs in
-    let widths = table_widths nodes c.requires.table.below c.args.element in
+    let widths = table_widths nodes c.args.self.now.table.below c.args.element in
     let m = c.in_ok-end.ensures in
     let e = c.in_err-close_array.ensures in
     let h = c.map_values.new.self.store.now in
@@ -1365,7 +1374,7 @@ values_body-returns-clause-is g t c =
     let ty = type_of nodes c.args.element in
     let outer = outer_of (levels nodes c.args.self.now.store.now) in
     let r = c.requires.packs in
-    let widths = table_widths nodes c.requires.table.below c.args.element in
+    let widths = table_widths nodes c.args.self.now.table.below c.args.element in
     let m = c.in_ok-end.ensures in
     let n = c.note_made.ensures in
     let h = c.map_values.new.self.store.now in

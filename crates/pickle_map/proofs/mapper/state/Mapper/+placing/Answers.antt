@@ -166,32 +166,35 @@ place_integral-returns-clause-level g t c =
 
 pub place_number-place_integer-requires-clause-digits : goal.place_number-place_integer-requires-clause-digits
 place_number-place_integer-requires-clause-digits g t c =
-    subst (λ x. c.args.digits < 2 ^ width_in (number_type x)) (opened_as c.args.self.now.nodes.now c.requires.table
+    subst (λ x. c.args.digits < 2 ^ width_in (number_type x)) (opened_as c.args.self.now.nodes.now c.args.self.now.table
     c.args.at c.requires.at c.index-nodes-at.result _ c.in-Integer.is) c.requires.digits
 
 pub place_number-place_offset-requires-clause-width : goal.place_number-place_offset-requires-clause-width
-place_number-place_offset-requires-clause-width g t c = (below_as c.args.self.now.nodes.now c.requires.table c.args.at
+place_number-place_offset-requires-clause-width g t c =
+    (below_as c.args.self.now.nodes.now c.args.self.now.table c.args.at
     c.requires.at c.index-nodes-at.result _ c.in-Offset.is).0
 
 pub place_number-place_offset-requires-clause-unit : goal.place_number-place_offset-requires-clause-unit
-place_number-place_offset-requires-clause-unit g t c = (below_as c.args.self.now.nodes.now c.requires.table c.args.at
+place_number-place_offset-requires-clause-unit g t c =
+    (below_as c.args.self.now.nodes.now c.args.self.now.table c.args.at
     c.requires.at c.index-nodes-at.result _ c.in-Offset.is).1
 
 pub place_number-place_offset-requires-clause-digits : goal.place_number-place_offset-requires-clause-digits
 place_number-place_offset-requires-clause-digits g t c =
-    subst (λ x. c.args.digits < 2 ^ width_in (number_type x)) (opened_as c.args.self.now.nodes.now c.requires.table
+    subst (λ x. c.args.digits < 2 ^ width_in (number_type x)) (opened_as c.args.self.now.nodes.now c.args.self.now.table
     c.args.at c.requires.at c.index-nodes-at.result _ c.in-Offset.is) c.requires.digits
 
 pub place_number-place_integral-requires : goal.place_number-place_integral-requires
 unfolding parts_depth
 place_number-place_integral-requires g t c =
-    let below = below_as c.args.self.now.nodes.now c.requires.table c.args.at c.requires.at c.index-nodes-at.result
+    let below = below_as c.args.self.now.nodes.now c.args.self.now.table c.args.at c.requires.at c.index-nodes-at.result
     _ c.in-Integral.is in
-    let names = names_as c.args.self.now.nodes.now c.requires.table c.args.at c.requires.at c.index-nodes-at.result
+    let names = names_as c.args.self.now.nodes.now c.args.self.now.table c.args.at c.requires.at c.index-nodes-at.result
     _ c.in-Integral.is in
-    let sound = sound_as c.args.self.now.nodes.now c.requires.table c.args.at c.requires.at c.index-nodes-at.result
+    let sound = sound_as c.args.self.now.nodes.now c.args.self.now.table c.args.at c.requires.at c.index-nodes-at.result
     _ c.in-Integral.is in
-    let opened = opened_as c.args.self.now.nodes.now c.requires.table c.args.at c.requires.at c.index-nodes-at.result
+    let opened =
+    opened_as c.args.self.now.nodes.now c.args.self.now.table c.args.at c.requires.at c.index-nodes-at.result
     _ c.in-Integral.is in
     let deep = rw opened at c.requires.open in
     let fields = parts_within c.args.self.now.nodes.now c.args.at c.requires.at
@@ -201,11 +204,12 @@ place_number-place_integral-requires g t c =
     rw c.deref.ensures.value (search rules)
 
 pub place_number-returns-in-Integer-clause-is : goal.place_number-returns-in-Integer-clause-is
-place_number-returns-in-Integer-clause-is g t c = rw (opened_as c.args.self.now.nodes.now c.requires.table c.args.at
+place_number-returns-in-Integer-clause-is g t c =
+    rw (opened_as c.args.self.now.nodes.now c.args.self.now.table c.args.at
     c.requires.at c.index-nodes-at.result _ c.in-Integer.is) (c.place_integer.ensures.is)
 
 pub place_number-returns-in-Offset-clause-is : goal.place_number-returns-in-Offset-clause-is
-place_number-returns-in-Offset-clause-is g t c = rw (opened_as c.args.self.now.nodes.now c.requires.table c.args.at
+place_number-returns-in-Offset-clause-is g t c = rw (opened_as c.args.self.now.nodes.now c.args.self.now.table c.args.at
     c.requires.at c.index-nodes-at.result _ c.in-Offset.is) (c.place_offset.ensures.is)
 
 pub place_number-returns-in-Integer-clause-level : goal.place_number-returns-in-Integer-clause-level
@@ -216,35 +220,40 @@ place_number-returns-in-Offset-clause-level g t c = c.place_offset.ensures.level
 
 pub place_number-returns-in-Integral-clause-is : goal.place_number-returns-in-Integral-clause-is
 place_number-returns-in-Integral-clause-is g t c =
-    rw (integral_opened c.args.self.now.nodes.now c.requires.table c.args.at c.requires.at c.index-nodes-at.result _ _ _
+    rw (integral_opened c.args.self.now.nodes.now c.args.self.now.table c.args.at c.requires.at
+    c.index-nodes-at.result _ _ _
     _ c.in-Integral.is c.deref.ensures.value) c.place_integral.ensures.is
 
 pub place_number-returns-in-String-clause-is : goal.place_number-returns-in-String-clause-is
 unfolding number_plan
 place_number-returns-in-String-clause-is g t c = rw (
   c.no_number.ensures,
-  opened_as c.args.self.now.nodes.now c.requires.table c.args.at c.requires.at c.index-nodes-at.result _ c.in-String.is,
+  opened_as c.args.self.now.nodes.now c.args.self.now.table c.args.at c.requires.at
+      c.index-nodes-at.result _ c.in-String.is,
 ) (λ known. follow_done)
 
 pub place_number-returns-in-Array-clause-is : goal.place_number-returns-in-Array-clause-is
 unfolding number_plan
 place_number-returns-in-Array-clause-is g t c = rw (
   c.no_number-in-Array.ensures,
-  opened_as c.args.self.now.nodes.now c.requires.table c.args.at c.requires.at c.index-nodes-at.result _ c.in-Array.is,
+  opened_as c.args.self.now.nodes.now c.args.self.now.table c.args.at c.requires.at
+      c.index-nodes-at.result _ c.in-Array.is,
 ) (λ known. follow_done)
 
 pub place_number-returns-in-Struct-clause-is : goal.place_number-returns-in-Struct-clause-is
 unfolding number_plan
 place_number-returns-in-Struct-clause-is g t c = rw (
   c.no_number-in-Struct.ensures,
-  opened_as c.args.self.now.nodes.now c.requires.table c.args.at c.requires.at c.index-nodes-at.result _ c.in-Struct.is,
+  opened_as c.args.self.now.nodes.now c.args.self.now.table c.args.at c.requires.at
+      c.index-nodes-at.result _ c.in-Struct.is,
 ) (λ known. follow_done)
 
 pub place_number-returns-in-Union-clause-is : goal.place_number-returns-in-Union-clause-is
 unfolding number_plan
 place_number-returns-in-Union-clause-is g t c = rw (
   c.no_number-in-Union.ensures,
-  opened_as c.args.self.now.nodes.now c.requires.table c.args.at c.requires.at c.index-nodes-at.result _ c.in-Union.is,
+  opened_as c.args.self.now.nodes.now c.args.self.now.table c.args.at c.requires.at
+      c.index-nodes-at.result _ c.in-Union.is,
 ) (λ known. follow_done)
 
 pub place_number-returns-in-Integral-clause-level : goal.place_number-returns-in-Integral-clause-level
