@@ -3,7 +3,6 @@
 ghost use Rattle.std.specs.Prelude.{◌≡◌, IfOk};
 ghost use Rattle.pickle_map.specs.Framed.{IsEnd};
 ghost use Rattle.pickle_meaning.specs.Values.{opened, outer_of};
-ghost use Rattle.pickle_types.specs.Table.{IsTable};
 ghost use Rattle.value_store.specs.Slots.{level_count};
 ghost use Rattle.inner_lists.specs.Calls.{Frame, MapsBeside, MayMap, frames_of};
 
@@ -21,7 +20,6 @@ pub fn map_type<S: Space, W: Watch>(
     start: u128,
     space: &mut S,
 ) -> Result<u64, Stop>
-    requires table { IsTable mapper.old.nodes.now }
     requires node { MayMap mapper.old node }
     ensures frame { Frame (S.view space.old) (S.view space.new) mapper.old mapper.new }
     ensures depth { level_count mapper.new.store.now ≡ level_count mapper.old.store.now }
@@ -40,7 +38,6 @@ pub fn map_element<S: Space, W: Watch>(
     start: u64,
     space: &mut S,
 ) -> Result<u64, Stop>
-    requires table { IsTable mapper.old.nodes.now }
     requires node { MayMap mapper.old list.element }
     ensures frame { Frame (S.view space.old) (S.view space.new) mapper.old mapper.new }
     ensures depth { level_count mapper.new.store.now ≡ level_count mapper.old.store.now }

@@ -1,7 +1,7 @@
 //! Maps a type up to an array inside it.
 
 ghost use Rattle.std.specs.Prelude.{◌≡◌, ◌*◌, ◌≤◌, [], ◌∷◌, true, All, IfOk};
-ghost use Rattle.pickle_types.specs.Table.{IsTable, open_fields, type_of};
+ghost use Rattle.pickle_types.specs.Table.{open_fields, type_of};
 ghost use Rattle.value_store.specs.Slots.{level_count};
 ghost use Rattle.inner_lists.specs.Calls.{EndsIn, EntersFields, EntersType, Frame, GoesOn, IsFieldIn, IsStageOf, LeadsOn, LeadsOnIn, LookFrame, MayMap, PassesField, ReachesList, Starts, passed_end, passed_top};
 ghost use Rattle.list_laws.specs.Meanings.{SpaceBytes};
@@ -27,7 +27,6 @@ pub fn reach<S: Space, W: Watch>(
     path: &[usize],
     space: &mut S,
 ) -> Result<Option<ListPlace>, Stop>
-    requires table { IsTable mapper.old.nodes.now }
     requires whole { MayMap mapper.old whole.node }
     requires inside { whole.top ≤ 8 * (S.view space.old).len }
     requires list { is_list (type_of mapper.old.nodes.now whole.node) path.now ≡ true }
@@ -51,7 +50,6 @@ fn enter<S: Space, W: Watch>(
     place: usize,
     space: &mut S,
 ) -> Result<Option<Stage>, Stop>
-    requires table { IsTable mapper.old.nodes.now }
     requires stage { MayMap mapper.old stage.node }
     requires inside { stage.top ≤ 8 * (S.view space.old).len }
     requires list { LeadsOn (type_of mapper.old.nodes.now stage.node) place }
@@ -89,7 +87,6 @@ fn enter_fields<S: Space, W: Watch>(
     top: u64,
     space: &mut S,
 ) -> Result<Option<Stage>, Stop>
-    requires table { IsTable mapper.old.nodes.now }
     requires fields { All (IsFieldIn mapper.old) fields.now }
     requires inside { top ≤ 8 * (S.view space.old).len }
     requires list { LeadsOnIn (open_fields (type_of mapper.old.nodes.now) fields.now) place }
@@ -174,7 +171,6 @@ fn pass_field<S: Space, W: Watch>(
     behind: u64,
     space: &mut S,
 ) -> Result<Option<u64>, Stop>
-    requires table { IsTable mapper.old.nodes.now }
     requires field { IsFieldIn mapper.old field.now }
     ensures frame { Frame (S.view space.old) (S.view space.new) mapper.old mapper.new }
     ensures depth { IfOk result (λ end. level_count mapper.new.store.now ≡ level_count mapper.old.store.now) }
@@ -207,7 +203,6 @@ fn open_list<S: Space, W: Watch>(
     stage: Stage,
     space: &mut S,
 ) -> Result<Option<ListPlace>, Stop>
-    requires table { IsTable mapper.old.nodes.now }
     requires stage { MayMap mapper.old stage.node }
     requires inside { stage.top ≤ 8 * (S.view space.old).len }
     requires list { is_list (type_of mapper.old.nodes.now stage.node) [] ≡ true }

@@ -20,7 +20,7 @@ returns-then-from-stage-clause-is g c = λ path is.
 
 pub returns-in_err-tick-in-Struct-clause-is : goal.returns-in_err-tick-in-Struct-clause-is
 returns-in_err-tick-in-Struct-clause-is g c =
-    let n = struct_node c.args.mapper.now.nodes.now c.requires.table c.args.stage.node c.requires.stage.inside
+    let n = struct_node c.args.mapper.now.nodes.now c.args.mapper.now.table c.args.stage.node c.requires.stage.inside
     (level_count c.args.mapper.now.store.now) c.requires.stage.deep c.index-nodes-stage.result _ _ _ c.in-Struct.is in
     let p = err_from_is_err_and c.from_residual.result c.from_residual.ensures.1 in
     let none = c.in_err-tick-in-Struct.ensures.refused.0 refl in
@@ -31,13 +31,13 @@ returns-in_err-tick-in-Struct-clause-is g c =
 
 pub open_level-requires : goal.open_level-requires
 open_level-requires g c =
-    let n = struct_node c.args.mapper.now.nodes.now c.requires.table c.args.stage.node c.requires.stage.inside
+    let n = struct_node c.args.mapper.now.nodes.now c.args.mapper.now.table c.args.stage.node c.requires.stage.inside
     (level_count c.args.mapper.now.store.now) c.requires.stage.deep c.index-nodes-stage.result _ _ _ c.in-Struct.is in
     n.few
 
 pub enter_fields-requires-clause-fields : goal.enter_fields-requires-clause-fields
 enter_fields-requires-clause-fields g c =
-    let n = struct_node c.args.mapper.now.nodes.now c.requires.table c.args.stage.node c.requires.stage.inside
+    let n = struct_node c.args.mapper.now.nodes.now c.args.mapper.now.table c.args.stage.node c.requires.stage.inside
     (level_count c.args.mapper.now.store.now) c.requires.stage.deep c.index-nodes-stage.result _ _ _ c.in-Struct.is in
     rw (c.deref.ensures.value, c.open_level.ensures.depth) n.fields_are
 
@@ -47,14 +47,14 @@ enter_fields-requires-clause-list g c =
     rw c.deref.ensures.value
     (record {
       path = list.path;
-      list = struct_in c.args.mapper.now.nodes.now c.requires.table c.args.stage.node c.requires.stage.inside
+      list = struct_in c.args.mapper.now.nodes.now c.args.mapper.now.table c.args.stage.node c.requires.stage.inside
           c.index-nodes-stage.result _ _ _ c.args.place list.path c.in-Struct.is list.list;
     })
 
 pub unreachable-requires : goal.unreachable-requires
 unreachable-requires g c =
     let list = c.requires.list in
-    list_is_struct c.args.mapper.now.nodes.now c.requires.table c.args.stage.node c.requires.stage.inside
+    list_is_struct c.args.mapper.now.nodes.now c.args.mapper.now.table c.args.stage.node c.requires.stage.inside
     c.index-nodes-stage.result c.args.place list.path list.list c.in_default.not-Struct
 
 pub returns-clause-goes_on : goal.returns-clause-goes_on
@@ -63,13 +63,13 @@ returns-clause-goes_on g c =
     (is_list_in (open_fields (type_of c.args.mapper.now.nodes.now) c.in-Struct.fields.items) c.args.place)
     (λ path. is_list (type_of c.args.mapper.now.nodes.now c.args.stage.node) (c.args.place ∷ path))
     c.enter_fields.result
-    (λ path is. struct_in c.args.mapper.now.nodes.now c.requires.table c.args.stage.node c.requires.stage.inside
+    (λ path is. struct_in c.args.mapper.now.nodes.now c.args.mapper.now.table c.args.stage.node c.requires.stage.inside
     c.index-nodes-stage.result _ _ _ c.args.place path c.in-Struct.is is)
     (rw c.deref.ensures.value at c.enter_fields.ensures.goes_on)
 
 pub returns-clause-is : goal.returns-clause-is
 returns-clause-is g c =
-    let n = struct_node c.args.mapper.now.nodes.now c.requires.table c.args.stage.node c.requires.stage.inside
+    let n = struct_node c.args.mapper.now.nodes.now c.args.mapper.now.table c.args.stage.node c.requires.stage.inside
     (level_count c.args.mapper.now.store.now) c.requires.stage.deep c.index-nodes-stage.result _ _ _ c.in-Struct.is in
     let entered = rw c.deref.ensures.value at c.enter_fields.ensures.is in
     let space = g.S.Space.view c.args.space.now in
@@ -85,7 +85,7 @@ returns-clause-is g c =
     (levels nodes c.open_level.new.self) stage.start c.max.result r k)
     (λ path. reaches_from (bytes_in space) c.args.mapper.now stage (c.args.place ∷ path))
     c.enter_fields.result (λ d. d) (sym c.in_ok-tick-in-Struct.ensures.limit)
-    (λ path is. struct_in nodes c.requires.table stage.node c.requires.stage.inside
+    (λ path is. struct_in nodes c.args.mapper.now.table stage.node c.requires.stage.inside
     c.index-nodes-stage.result _ _ _ c.args.place path c.in-Struct.is is)
     (λ path. struct_leads (bytes_in space) (type_of nodes stage.node) (title_at nodes stage.node) c.in-Struct.pinned
     fields c.args.place path stage.order (frames_of c.args.mapper.now) stage.start stage.top

@@ -14,7 +14,7 @@ returns-then-from-stage-clause-is g c =
 
 pub returns-in_err-tick-in-Array-clause-is : goal.returns-in_err-tick-in-Array-clause-is
 returns-in_err-tick-in-Array-clause-is g c =
-    let n = array_node c.args.mapper.now.nodes.now c.requires.table c.args.stage.node c.requires.stage.inside
+    let n = array_node c.args.mapper.now.nodes.now c.args.mapper.now.table c.args.stage.node c.requires.stage.inside
     (level_count c.args.mapper.now.store.now) c.requires.stage.deep c.index-nodes-stage.result _ _ c.in-Array.is in
     let p = err_from_is_err_and c.from_residual.result c.from_residual.ensures.1 in
     let none = c.in_err-tick-in-Array.ensures.refused.0 refl in
@@ -25,13 +25,13 @@ returns-in_err-tick-in-Array-clause-is g c =
 
 pub find_extent-requires : goal.find_extent-requires
 find_extent-requires g c =
-    let n = array_node c.args.mapper.now.nodes.now c.requires.table c.args.stage.node c.requires.stage.inside
+    let n = array_node c.args.mapper.now.nodes.now c.args.mapper.now.table c.args.stage.node c.requires.stage.inside
     (level_count c.args.mapper.now.store.now) c.requires.stage.deep c.index-nodes-stage.result _ _ c.in-Array.is in
     record { sound = n.sound }
 
 pub returns-in_err-extent-in-Array-clause-is : goal.returns-in_err-extent-in-Array-clause-is
 returns-in_err-extent-in-Array-clause-is g c =
-    let n = array_node c.args.mapper.now.nodes.now c.requires.table c.args.stage.node c.requires.stage.inside
+    let n = array_node c.args.mapper.now.nodes.now c.args.mapper.now.table c.args.stage.node c.requires.stage.inside
     (level_count c.args.mapper.now.store.now) c.requires.stage.deep c.index-nodes-stage.result _ _ c.in-Array.is in
     let p = err_from_is_err_and c.from_residual-in_err-extent-in-Array.result
     c.from_residual-in_err-extent-in-Array.ensures.1 in
@@ -43,18 +43,18 @@ returns-in_err-extent-in-Array-clause-is g c =
 
 pub open_level-requires : goal.open_level-requires
 open_level-requires g c =
-    let n = array_node c.args.mapper.now.nodes.now c.requires.table c.args.stage.node c.requires.stage.inside
+    let n = array_node c.args.mapper.now.nodes.now c.args.mapper.now.table c.args.stage.node c.requires.stage.inside
     (level_count c.args.mapper.now.store.now) c.requires.stage.deep c.index-nodes-stage.result _ _ c.in-Array.is in
     let deep = n.deep in omega (arith, deep)
 
 pub unreachable-requires : goal.unreachable-requires
 unreachable-requires g c =
-    list_is_array c.args.mapper.now.nodes.now c.requires.table c.args.stage.node c.requires.stage.inside
+    list_is_array c.args.mapper.now.nodes.now c.args.mapper.now.table c.args.stage.node c.requires.stage.inside
     c.index-nodes-stage.result c.requires.list c.in_default.not-Array
 
 pub returns-clause-is : goal.returns-clause-is
 returns-clause-is g c =
-    let n = array_node c.args.mapper.now.nodes.now c.requires.table c.args.stage.node c.requires.stage.inside
+    let n = array_node c.args.mapper.now.nodes.now c.args.mapper.now.table c.args.stage.node c.requires.stage.inside
     (level_count c.args.mapper.now.store.now) c.requires.stage.deep c.index-nodes-stage.result _ _ c.in-Array.is in
     let is = c.in_ok-extent-in-Array.ensures.is c.args.mapper.now.nodes.now in
     let taken = c.in_ok-tick-in-Array.ensures.ok in
