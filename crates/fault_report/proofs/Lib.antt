@@ -7,3 +7,4 @@ pub mod Shown
 pub mod Outcomes
 pub mod Results
 pub mod LastOnes
+pub mod Noted

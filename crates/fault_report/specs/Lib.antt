@@ -4,5 +4,6 @@ pub mod Meant
 pub mod Mapped
 pub mod Found
 pub mod Why
+pub mod Nodes
 pub mod Watched
 pub mod Watching

@@ -1,20 +1,30 @@
 -- What a watcher of a mapping stores: the levels that the walk is in, the alternatives that didn't match, and the
 -- arrays that ended early.
-use Rattle.std.specs.Prelude.{◌≡◌, ◌<◌, ◌-◌, ◌+◌, ◌^◌, ◌&&◌, ℕ, Bool, true, false, min, if◌then◌else◌, nat_eq, nat_lt, nat_le}
+use Rattle.std.specs.Prelude.{◌≡◌, ◌<◌, ◌-◌, ◌+◌, ◌^◌, ◌&&◌, ◌||◌, ◌==◌, ℕ, Bool, true, false, min, if◌then◌else◌, nat_eq, nat_lt, nat_le}
 use Rattle.std.specs.Prelude.{List, [], ◌∷◌, ◌++◌, take, drop, length, map, fold, count_by, slice_get, Option, Some, None}
+use Rattle.std.specs.List.{list_all, list_any}
+use Rattle.pickle_types.specs.declared.node.Node.{Node}
 use Rattle.pickle_map.specs.declared.mapper.stop.Stop.{Stop}
+use Rattle.pickle_map.specs.declared.mapper.stop.Stop.TheVariants as stops
+use Rattle.pickle_map.specs.declared.mapper.watch.Clause.{Clause}
 use Rattle.pickle_map.specs.Stops.{stop_misses}
+use Rattle.fault_report.specs.declared.cause.Around.{Around}
 use Rattle.fault_report.specs.declared.cause.Cause.{Cause}
 use Rattle.fault_report.specs.declared.cause.Cause.TheVariants.{Plain, Expression, Outgrown, NoneFits}
 use Rattle.fault_report.specs.declared.cause.Blamed.{Blamed}
 use Rattle.fault_report.specs.declared.cause.EndedArray.{EndedArray}
+use Rattle.fault_report.specs.declared.cause.Fault.{Fault}
 use Rattle.fault_report.specs.declared.cause.Miss.{Miss}
 use Rattle.fault_report.specs.declared.endings.Counts.{Counts}
 use Rattle.fault_report.specs.declared.endings.EarlyEndings.{EarlyEndings}
 use Rattle.fault_report.specs.declared.ended.Endings.{Endings}
 use Rattle.fault_report.specs.declared.mismatches.FullUnion.{FullUnion}
+use Rattle.fault_report.specs.declared.mismatches.Mismatches.{Mismatches}
 use Rattle.fault_report.specs.declared.trail.Level.{Level}
+use Rattle.fault_report.specs.declared.way.Way.{Way}
 use Rattle.fault_report.specs.declared.way.WayStep.{WayStep}
+use Rattle.fault_report.specs.Found.{way_places}
+use Rattle.fault_report.specs.Nodes.{catches, is_array, is_one_place}
 
 -- ---- the levels, the outermost first
 
@@ -41,13 +51,73 @@ innermost levels = drop (length levels - 1) levels
 abbrev pub outer : List Level → List Level
 outer levels = take (length levels - 1) levels
 
--- how many parts of the innermost level have begun
+-- the innermost level, if there is one, and how many of its parts have begun
+abbrev pub level_of : List Level → Option Level
+level_of levels = slice_get levels (length levels - 1)
+
 abbrev pub begun_in : Option Level → ℕ
 begun_in None = 0
 begun_in (Some level) = level.begun
 
 abbrev pub begun_of : List Level → ℕ
-begun_of levels = begun_in (slice_get levels (length levels - 1))
+begun_of levels = begun_in (level_of levels)
+
+-- whether the innermost level is an array
+abbrev pub is_array_level : List Node → Option Level → Bool
+is_array_level nodes None = false
+is_array_level nodes (Some level) = is_array nodes level.node
+
+abbrev pub is_in_array : List Node → List Level → Bool
+is_in_array nodes levels = is_array_level nodes (level_of levels)
+
+-- whether one after the first `depth` is an array
+abbrev pub has_array_after : List Node → (depth : ℕ) → List Level → Bool
+has_array_after nodes depth levels = list_any (λ level. is_array nodes level.node) (drop depth levels)
+
+-- whether a stop only means that an array or a union among them goes on
+abbrev pub is_caught : List Node → List Level → Stop → Bool
+is_caught nodes levels stop = list_any (λ level. catches nodes level.node stop) levels
+
+-- ---- the fault of the part that is under way
+
+-- nothing is known of what is around a part
+pub record IsBare (around : Around) : Type 0 where
+  pub leads : around.leads.items ≡ []
+  pub front : around.front.items ≡ []
+  pub fits : around.fits ≡ None
+  pub met : around.met.items ≡ []
+
+-- a fault of the part to which places lead, with a cause of this kind, and nothing known of what is around it
+pub record IsFaultOf (places : List ℕ) (reason : Stop) (IsCause : Cause → Type 0) (fault : Fault) : Type 0 where
+  pub way : way_places fault.way ≡ places
+  pub stop : fault.stop ≡ reason
+  pub cause : IsCause fault.cause
+  pub around : IsBare fault.around
+
+-- nothing failed beyond the stop
+abbrev pub IsPlain : Cause → Type 0
+IsPlain cause = cause ≡ Plain
+
+-- an expression of this clause failed
+abbrev pub IsExpression : Clause → Cause → Type 0
+IsExpression clause (Expression blamed) = blamed.clause ≡ clause
+IsExpression clause Plain = ⊥
+IsExpression clause (Outgrown extent end) = ⊥
+IsExpression clause (NoneFits misses) = ⊥
+
+-- a union failed, by these alternatives that didn't match, and by how many there are in all
+abbrev pub IsNoneFits : (told : List Miss) → (count : ℕ) → Cause → Type 0
+IsNoneFits told count (NoneFits misses) = (misses.told.items ≡ told) × (misses.count ≡ count)
+IsNoneFits told count Plain = ⊥
+IsNoneFits told count (Expression blamed) = ⊥
+IsNoneFits told count (Outgrown extent end) = ⊥
+
+-- whether a stop is a fault of the type's meaning
+abbrev pub is_fault : Stop → Bool
+is_fault (stops.Fault kind at) = true
+is_fault stops.Limit = false
+is_fault stops.Device = false
+is_fault stops.Memory = false
 
 -- ---- the arrays that ended early
 
@@ -110,6 +180,15 @@ abbrev pub out_of_array : Option FullUnion → Option FullUnion
 out_of_array None = None
 out_of_array (Some full) = Some (record { depth = full.depth; arrays = full.arrays - 1 })
 
+-- the full union when the walk enters a level, which may be an array, and when it leaves one
+abbrev pub entered_full : (is_array : Bool) → Option FullUnion → Option FullUnion
+entered_full true full = in_array full
+entered_full false full = full
+
+abbrev pub left_full : (is_array : Bool) → Option FullUnion → Option FullUnion
+left_full true full = out_of_array full
+left_full false full = full
+
 -- an alternative of a union inside the one at a depth, stored for that one; and all of these
 abbrev pub moved_out : (depth : ℕ) → Miss → Miss
 moved_out depth miss = record {
@@ -124,6 +203,12 @@ moved_out depth miss = record {
 abbrev pub with_inner : (depth : ℕ) → (inner misses : List Miss) → List Miss
 with_inner depth [] misses = misses
 with_inner depth (miss ∷ inner) misses = with_inner depth inner (with_miss (moved_out depth miss) misses)
+
+-- the union that is full with them
+abbrev pub filled_inner : (depth : ℕ) → (inner misses : List Miss) → Option FullUnion → Option FullUnion
+filled_inner depth [] misses full = full
+filled_inner depth (miss ∷ inner) misses full =
+    let moved = moved_out depth miss in filled_inner depth inner (with_miss moved misses) (filled moved misses full)
 
 -- those that are left when the walk leaves the level at a depth: none of its own, if the last is one
 abbrev pub is_inside : (depth : ℕ) → Option Miss → Bool
@@ -160,3 +245,33 @@ inner_of (NoneFits misses) = misses.told.items
 inner_of Plain = []
 inner_of (Expression blamed) = []
 inner_of (Outgrown extent end) = []
+
+-- the alternative of the union at a depth that doesn't match by a fault
+abbrev pub miss_of : (depth : ℕ) → Fault → Miss
+miss_of depth fault = record {
+  depth = depth;
+  of = depth;
+  inside = 0;
+  way = fault.way;
+  stop = fault.stop;
+  blamed = blamed_of fault.cause;
+}
+
+-- the alternative of the union at a depth was added that doesn't match by a fault, and those of a union in it
+pub record AddsFault (depth : ℕ) (fault : Fault) (old new : Mismatches) : Type 0 where
+  pub misses : let with = with_miss (miss_of depth fault) old.misses.items in
+      new.misses.items ≡ with_inner depth (inner_of fault.cause) with
+  pub full : let miss = miss_of depth fault in
+      new.full ≡ filled_inner depth (inner_of fault.cause) (with_miss miss old.misses.items)
+      (filled miss old.misses.items old.full)
+
+-- whether a path leads on to the first number of what its first `count` steps lead to, and whether a fault is in it: if
+-- no alternative fits, all of them stop there
+abbrev pub is_first : List Node → (count : ℕ) → Way → Bool
+is_first nodes count way =
+    list_all (λ step. step.place == 0 || is_one_place nodes step.node) (drop count way.steps.items)
+
+abbrev pub is_at_first_number : List Node → (count : ℕ) → Fault → Bool
+is_at_first_number nodes count fault =
+    stop_misses fault.stop && is_first nodes count fault.way
+    && list_all (λ miss. is_first nodes count miss.way) (inner_of fault.cause)

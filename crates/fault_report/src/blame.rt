@@ -1,7 +1,9 @@
 //! Finds what is wrong with an expression that stops a mapping.
 
+ghost use Rattle.std.specs.Prelude.{◌≡◌, IfOk, IfSome, is_some};
 ghost use Rattle.pickle_types.specs.Sound.{IsSoundTerm};
 ghost use Rattle.pickle_types.specs.Table.{term_of};
+ghost use Rattle.fault_report.specs.Watched.{is_fault};
 
 use crate::cause::{Blamed, Lead};
 use crate::defect::{AbsentElement, Defect, WideShift};
@@ -25,6 +27,8 @@ pub fn blame_of(
     stop: Stop,
 ) -> Result<Option<Blamed>, AllocError>
     requires { IsSoundTerm (term_of e.now) }
+    ensures fault { IfOk result (λ blamed. is_some blamed ≡ is_fault stop) }
+    ensures clause { IfOk result (λ blamed. IfSome blamed (λ it. it.clause ≡ clause)) }
 {
     let Stop::Fault(kind, _) = stop else {
         return Ok(None);

@@ -1,6 +1,8 @@
 //! What failed where a mapping stopped.
 
 ghost use Rattle.std.specs.Prelude.{◌≡◌};
+ghost use Rattle.std.specs.List.{list_all};
+ghost use Rattle.fault_report.specs.Watched.{IsBare, inner_of, is_at_first_number, is_first};
 
 use crate::defect::Defect;
 use crate::names::NamedValue;
@@ -26,7 +28,10 @@ pub struct Fault {
 impl Fault {
     /// A part with a fault, with nothing known of what is around it.
     pub fn new(alloc: Global, way: Way, stop: Stop, cause: Cause) -> Fault
-        ensures { result.way ≡ way }
+        ensures way { result.way ≡ way }
+        ensures stop { result.stop ≡ stop }
+        ensures cause { result.cause ≡ cause }
+        ensures around { IsBare result.around }
     {
         Fault {
             way,
@@ -49,15 +54,10 @@ impl Fault {
 
     /// Whether the fault is in the first number of the part to which the first `count` steps lead: that doesn't match.
     /// If no alternative of a union fits, all of them stop at their first number.
-    pub fn is_at_first_number(&self, nodes: &[Node], count: usize) -> bool {
-        let is_first = self.stop.misses() && self.way.is_first(nodes, count);
-        match &self.cause {
-            Cause::NoneFits(misses) => {
-                let mut told = misses.told.iter();
-                is_first && told.all(|miss| miss.way.is_first(nodes, count))
-            }
-            _ => is_first,
-        }
+    pub fn is_at_first_number(&self, nodes: &[Node], count: usize) -> bool
+        ensures { result ≡ is_at_first_number nodes.now count self.now }
+    {
+        self.stop.misses() && self.way.is_first(nodes, count) && self.cause.is_first(nodes, count)
     }
 
     /// The lines on what the mapping had met before the part.
@@ -93,7 +93,9 @@ pub struct Around {
 
 impl Around {
     /// Nothing.
-    pub fn new(alloc: Global) -> Around {
+    pub fn new(alloc: Global) -> Around
+        ensures { IsBare result }
+    {
         Around {
             leads: Vec::new(alloc),
             front: Vec::new(alloc),
@@ -153,6 +155,22 @@ pub enum Cause {
     Outgrown(Extent, u64),
     /// A union, by its alternatives.
     NoneFits(Misses),
+}
+
+impl Cause {
+    /// Whether all alternatives of a union of which none fits stop at the first number of the part to which the first
+    /// `count` steps lead. True of any other cause.
+    fn is_first(&self, nodes: &[Node], count: usize) -> bool
+        ensures { result ≡ list_all (λ miss. is_first nodes.now count miss.way) (inner_of self.now) }
+    {
+        match self {
+            Cause::NoneFits(misses) => {
+                let mut told = misses.told.iter();
+                told.all(|miss| miss.way.is_first(nodes, count))
+            }
+            Cause::Plain | Cause::Expression(_) | Cause::Outgrown(_, _) => true,
+        }
+    }
 }
 
 /// An expression that stopped a mapping.

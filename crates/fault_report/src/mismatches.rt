@@ -2,10 +2,10 @@
 
 ghost use Rattle.std.specs.Prelude.{◌≡◌, ◌≤◌, [], None, IfOk, is_some, drop, take};
 ghost use Rattle.std.specs.Vec.{vec_len};
-ghost use Rattle.fault_report.specs.Watched.{count_around, emptied_at, filled, hides, hides_union, left_at, with_inner};
-ghost use Rattle.fault_report.specs.Watched.{in_array, out_of_array, with_miss};
+ghost use Rattle.fault_report.specs.Watched.{AddsFault, count_around, emptied_at, filled, filled_inner, hides, hides_union};
+ghost use Rattle.fault_report.specs.Watched.{in_array, left_at, out_of_array, with_inner, with_miss};
 
-use crate::cause::Miss;
+use crate::cause::{Cause, Fault, Miss};
 use pickle_map::mapper::stop::Stop;
 use std::alloc::{AllocError, Global};
 
@@ -105,7 +105,7 @@ impl Mismatches {
     }
 
     /// Adds an alternative of the innermost union, if it is one of its first.
-    pub fn add(&mut self, miss: Miss) -> Result<(), AllocError>
+    fn add(&mut self, miss: Miss) -> Result<(), AllocError>
         ensures misses { IfOk result (λ _. self.new.misses.items ≡ with_miss miss self.old.misses.items) }
         ensures full { IfOk result (λ _. self.new.full ≡ filled miss self.old.misses.items self.old.full) }
     {
@@ -120,10 +120,44 @@ impl Mismatches {
         Ok(())
     }
 
+    /// Adds the alternative of the union at a depth that doesn't match by a fault and, if no alternative fits of a union
+    /// that is that one or in it, the alternatives of that union.
+    pub fn add_fault(&mut self, depth: usize, fault: Fault) -> Result<(), AllocError>
+        ensures { IfOk result (λ _. AddsFault depth fault self.old self.new) }
+    {
+        let Fault {
+            way,
+            stop,
+            cause,
+            around: _,
+        } = fault;
+        let miss = Miss {
+            depth,
+            of: depth,
+            inside: 0,
+            way,
+            stop,
+            blamed: None,
+        };
+        match cause {
+            Cause::Expression(blamed) => self.add(Miss {
+                blamed: Some(blamed),
+                ..miss
+            }),
+            Cause::NoneFits(misses) => {
+                self.add(miss)?;
+                self.add_inner(depth, misses.told)
+            }
+            Cause::Plain | Cause::Outgrown(_, _) => self.add(miss),
+        }
+    }
+
     /// Adds alternatives of a union that is an alternative of the one at a depth, or in it.
-    pub fn add_inner(&mut self, depth: usize, misses: Vec<Miss>) -> Result<(), AllocError>
-        ensures { let with = with_inner depth misses.items self.old.misses.items in
+    fn add_inner(&mut self, depth: usize, misses: Vec<Miss>) -> Result<(), AllocError>
+        ensures misses { let with = with_inner depth misses.items self.old.misses.items in
             IfOk result (λ _. self.new.misses.items ≡ with) }
+        ensures full { let filled = filled_inner depth misses.items self.old.misses.items self.old.full in
+            IfOk result (λ _. self.new.full ≡ filled) }
     {
         for miss in misses {
             let inside = miss.inside.saturating_add(1);

@@ -2,7 +2,8 @@
 
 ghost use Rattle.std.specs.Prelude.{◌≡◌, ◌≤◌, ◌++◌, ◌-◌, ◌∷◌, [], Some, IfOk, IfSome, IfNone, length, map, slice_get};
 ghost use Rattle.fault_report.specs.Found.{place_under_way, places_under_way, way_places};
-ghost use Rattle.fault_report.specs.Watched.{at_next, entered, entered_at, innermost, outer};
+ghost use Rattle.fault_report.specs.Nodes.{catches};
+ghost use Rattle.fault_report.specs.Watched.{at_next, entered, entered_at, has_array_after, innermost, is_caught, outer};
 
 use crate::endings::Counts;
 use crate::way::{Way, WayStep, is_array};
@@ -56,14 +57,18 @@ impl Trail {
     }
 
     /// Whether a level after the first `depth` is an array.
-    pub fn has_array_after(&self, nodes: &[Node], depth: usize) -> bool {
+    pub fn has_array_after(&self, nodes: &[Node], depth: usize) -> bool
+        ensures { result ≡ has_array_after nodes.now depth self.now.levels.items }
+    {
         let mut inner = self.levels.iter().skip(depth);
         inner.any(|level| is_array(nodes, level.node))
     }
 
     /// Whether a stop of the part that is under way only means that an alternative doesn't match, or that an array ends,
     /// of a union or array that the walk is in.
-    pub fn catches(&self, table: &[Node], stop: Stop) -> bool {
+    pub fn catches(&self, table: &[Node], stop: Stop) -> bool
+        ensures { result ≡ is_caught table.now self.now.levels.items stop }
+    {
         self.levels
             .iter()
             .any(|level| catches(table, level.node, stop))
@@ -154,7 +159,9 @@ impl Level {
 }
 
 /// Whether the node at a place of the table goes on after one of its parts that stops in this way.
-fn catches(table: &[Node], at: usize, stop: Stop) -> bool {
+fn catches(table: &[Node], at: usize, stop: Stop) -> bool
+    ensures { result ≡ catches table.now at stop }
+{
     match table.get(at) {
         Some(node) => match &node.shape {
             Shape::Union { .. } => stop.misses(),

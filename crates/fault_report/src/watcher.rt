@@ -1,14 +1,17 @@
 //! What a watcher stores during a mapping: the part with a fault, and the arrays that ended early.
 
-ghost use Rattle.std.specs.Prelude.{◌≡◌, ◌++◌, ◌∷◌, ◌||◌, [], Some, None, false, length, IfOk, is_err};
+ghost use Rattle.std.specs.Prelude.{◌≡◌, ◌++◌, ◌∷◌, ◌||◌, [], Some, None, false, length, IfOk, IsFalse, IsTrue, IsSomeAnd, is_err};
 ghost use Rattle.pickle_types.specs.Sound.{IsSoundTerm};
 ghost use Rattle.pickle_types.specs.Table.{term_of};
-ghost use Rattle.fault_report.specs.Watched.{begun_of, entered, entered_at};
-ghost use Rattle.fault_report.specs.Watching.{Begins, Enters, IsFresh, Leaves, StaysButTrail, StaysNoted, levels_of};
+ghost use Rattle.fault_report.specs.Watched.{ForgetsIn, begun_of, entered, entered_at, is_in_array, level_of};
+ghost use Rattle.fault_report.specs.Watching.{Begins, Ends, Enters, IsBlamed, IsFresh, IsOutgrown, IsUnderWay, Leaves};
+ghost use Rattle.fault_report.specs.Watching.{AddsMiss, DropsMisses, HidesMiss, LeavesLevel, Refuses};
+ghost use Rattle.fault_report.specs.Watching.{StaysButFault, StaysButTrail, StaysNoted, StaysThere};
+ghost use Rattle.fault_report.specs.Watching.{full_inside, is_hidden, is_near, is_union_hidden, levels_of};
 
 use crate::again::Kept;
 use crate::blame::blame_of;
-use crate::cause::{Cause, EndedArray, Fault, Miss, Misses};
+use crate::cause::{Cause, EndedArray, Fault, Misses};
 use crate::endings::EarlyEndings;
 use crate::mismatches::Mismatches;
 use crate::seen::Seen;
@@ -73,6 +76,7 @@ impl<'t> PartWatcher<'t> {
     /// that don't match, except in arrays.
     pub fn go(&mut self, step: WayStep)
         ensures enters { Enters (entered_at step) self.old self.new }
+        ensures full { self.new.mismatches.full ≡ self.old.mismatches.full }
         ensures near { self.new.near ≡ Some (length (levels_of self.new)) }
     {
         let gone = self.trail.go(step);
@@ -121,6 +125,7 @@ impl<'t> PartWatcher<'t> {
     /// Goes into the node at a place of the table.
     fn enter(&mut self, at: usize) -> Result<(), AllocError>
         ensures trail { IfOk result (λ _. levels_of self.new ≡ levels_of self.old ++ entered at ∷ []) }
+        ensures full { self.new.mismatches.full ≡ full_inside self.old at }
         ensures stays { StaysButTrail self.old self.new }
     {
         if self.mismatches.is_full() && is_array(self.nodes, at) {
@@ -141,7 +146,9 @@ impl<'t> PartWatcher<'t> {
     }
 
     /// Whether the innermost level is an array.
-    fn is_in_array(&self) -> bool {
+    fn is_in_array(&self) -> bool
+        ensures { result ≡ is_in_array self.now.nodes.now (levels_of self.now) }
+    {
         match self.trail.level(0) {
             Some(level) => is_array(self.nodes, level.node),
             None => false,
@@ -159,7 +166,10 @@ impl<'t> PartWatcher<'t> {
     }
 
     /// Stores the fault of the part that is under way, unless one is stored.
-    fn keep(&mut self, stop: Stop) -> Result<(), AllocError> {
+    fn keep(&mut self, stop: Stop) -> Result<(), AllocError>
+        ensures fault { IfOk result (λ _. IsSomeAnd self.new.fault (IsUnderWay self.old stop)) }
+        ensures stays { StaysButFault self.old self.new }
+    {
         if self.fault.is_none() {
             let way = self.trail.way(self.alloc)?;
             self.fault = Some(Fault::new(self.alloc, way, stop, Cause::Plain));
@@ -168,7 +178,11 @@ impl<'t> PartWatcher<'t> {
     }
 
     /// Removes and returns the fault of the part that is under way.
-    fn take(&mut self, stop: Stop) -> Result<Fault, AllocError> {
+    fn take(&mut self, stop: Stop) -> Result<Fault, AllocError>
+        ensures taken { IfOk result (IsUnderWay self.old stop) }
+        ensures none { IfOk result (λ _. self.new.fault ≡ None) }
+        ensures stays { StaysButFault self.old self.new }
+    {
         self.keep(stop)?;
         match self.fault.take() {
             Some(fault) => Ok(fault),
@@ -186,6 +200,8 @@ impl<'t> PartWatcher<'t> {
         stop: Stop,
     ) -> Result<(), AllocError>
         requires { IsSoundTerm (term_of e.now) }
+        ensures fault { IfOk result (λ _. IsSomeAnd self.new.fault (IsBlamed self.old clause table.now stop)) }
+        ensures stays { StaysButFault self.old self.new }
     {
         let way = self.trail.way(self.alloc)?;
         let cause = if self.trail.catches(table, stop) && !self.is_near() {
@@ -202,7 +218,9 @@ impl<'t> PartWatcher<'t> {
     }
 
     /// Whether the walk is where it looks at the expressions of alternatives that don't match.
-    fn is_near(&self) -> bool {
+    fn is_near(&self) -> bool
+        ensures { result ≡ is_near self.now }
+    {
         match self.near {
             Some(depth) => !self.trail.has_array_after(self.nodes, depth),
             None => false,
@@ -210,7 +228,10 @@ impl<'t> PartWatcher<'t> {
     }
 
     /// Stores the fault of the innermost array, whose elements end after its extent.
-    fn keep_outgrown(&mut self, extent: Extent, end: u64, stop: Stop) -> Result<(), AllocError> {
+    fn keep_outgrown(&mut self, extent: Extent, end: u64, stop: Stop) -> Result<(), AllocError>
+        ensures fault { IfOk result (λ _. IsSomeAnd self.new.fault (IsOutgrown self.old extent end stop)) }
+        ensures stays { StaysButFault self.old self.new }
+    {
         let way = self.trail.way_to_innermost(self.alloc)?;
         let cause = Cause::Outgrown(extent, end);
         self.fault = Some(Fault::new(self.alloc, way, stop, cause));
@@ -218,7 +239,10 @@ impl<'t> PartWatcher<'t> {
     }
 
     /// Stores that the fault under way ended the innermost array, before the element that is under way.
-    fn keep_ended(&mut self, stop: Stop) -> Result<(), AllocError> {
+    fn keep_ended(&mut self, stop: Stop) -> Result<(), AllocError>
+        ensures ends { IfOk result (λ _. Ends stop self.old self.new) }
+        ensures stays { StaysThere self.old self.new }
+    {
         let fault = self.take(stop)?;
         let array = self.trail.way_to_innermost(self.alloc)?;
         let count = array.steps().len().saturating_add(1);
@@ -239,51 +263,42 @@ impl<'t> PartWatcher<'t> {
     }
 
     /// Forgets an alternative that doesn't match, of a union of which no more are stored.
-    fn hide_miss(&mut self) {
+    fn hide_miss(&mut self)
+        ensures hidden { HidesMiss self.old self.new }
+        ensures stays { StaysThere self.old self.new }
+    {
         self.fault = None;
         self.forget_ended();
     }
 
     /// Stores an alternative of the innermost union that doesn't match.
-    fn keep_miss(&mut self, stop: Stop) -> Result<(), AllocError> {
-        let Fault {
-            way,
-            stop,
-            cause,
-            around: _,
-        } = self.take(stop)?;
+    fn keep_miss(&mut self, stop: Stop) -> Result<(), AllocError>
+        ensures misses { IfOk result (λ _. AddsMiss stop self.old self.new) }
+        ensures stays { StaysThere self.old self.new }
+    {
+        let fault = self.take(stop)?;
         self.forget_ended();
-        let depth = self.trail.depth();
-        let miss = Miss {
-            depth,
-            of: depth,
-            inside: 0,
-            way,
-            stop,
-            blamed: None,
-        };
-        match cause {
-            Cause::Expression(blamed) => self.mismatches.add(Miss {
-                blamed: Some(blamed),
-                ..miss
-            }),
-            Cause::NoneFits(misses) => {
-                self.mismatches.add(miss)?;
-                self.mismatches.add_inner(depth, misses.told)
-            }
-            _ => self.mismatches.add(miss),
-        }
+        self.mismatches.add_fault(self.trail.depth(), fault)
     }
 
     /// Forgets the arrays that ended early in the part that is under way.
-    fn forget_ended(&mut self) {
+    fn forget_ended(&mut self)
+        ensures ended { ForgetsIn (level_of (levels_of self.old)) self.old.ended self.new.ended }
+        ensures mismatches { self.new.mismatches ≡ self.old.mismatches }
+        ensures fault { self.new.fault ≡ self.old.fault }
+        ensures starved { self.new.starved ≡ self.old.starved }
+        ensures stays { StaysThere self.old self.new }
+    {
         if let Some(level) = self.trail.level(0) {
             self.ended.forget(level.ended);
         }
     }
 
     /// Stores that no alternative of the innermost union matches.
-    fn keep_refused(&mut self, stop: Stop) -> Result<(), AllocError> {
+    fn keep_refused(&mut self, stop: Stop) -> Result<(), AllocError>
+        ensures refuses { IfOk result (λ _. Refuses stop self.old self.new) }
+        ensures stays { StaysThere self.old self.new }
+    {
         let told = self.mismatches.take(self.trail.depth())?;
         let count = self.begun();
         let way = self.trail.way_to_innermost(self.alloc)?;
@@ -295,7 +310,9 @@ impl<'t> PartWatcher<'t> {
 
 impl Watch for PartWatcher<'_> {
     fn open(&mut self, at: usize)
-        ensures { Enters (entered at) self.old self.new }
+        ensures enters { Enters (entered at) self.old self.new }
+        ensures full { self.new.mismatches.full ≡ full_inside self.old at }
+        ensures near { self.new.near ≡ self.old.near }
     {
         let entered = self.enter(at);
         self.note(entered);
@@ -314,7 +331,12 @@ impl Watch for PartWatcher<'_> {
         self.leave();
     }
 
-    fn stop(&mut self, stop: Stop) {
+    fn stop(&mut self, stop: Stop)
+        ensures leaves { LeavesLevel self.old self.new }
+        ensures hidden { IsTrue (is_hidden self.old stop) → Leaves self.old self.new }
+        ensures kept { IsFalse (is_hidden self.old stop) → self.new.starved ≡ false →
+            IsSomeAnd self.new.fault (IsUnderWay self.old stop) }
+    {
         if !self.mismatches.hides(stop) {
             let kept = self.keep(stop);
             self.note(kept);
@@ -322,7 +344,13 @@ impl Watch for PartWatcher<'_> {
         self.leave();
     }
 
-    fn blame(&mut self, clause: Clause, e: &Resolved, table: &[Node], store: &Store, stop: Stop) {
+    fn blame(&mut self, clause: Clause, e: &Resolved, table: &[Node], store: &Store, stop: Stop)
+        requires { IsSoundTerm (term_of e.now) }
+        ensures hidden { IsTrue (is_hidden self.old stop) → self.new ≡ self.old }
+        ensures blamed { IsFalse (is_hidden self.old stop) → self.new.starved ≡ false →
+            IsSomeAnd self.new.fault (IsBlamed self.old clause table.now stop) }
+        ensures stays { StaysButFault self.old self.new }
+    {
         if self.mismatches.hides(stop) {
             return;
         }
@@ -330,7 +358,12 @@ impl Watch for PartWatcher<'_> {
         self.note(kept);
     }
 
-    fn outgrow(&mut self, extent: Extent, end: u64, stop: Stop) {
+    fn outgrow(&mut self, extent: Extent, end: u64, stop: Stop)
+        ensures hidden { IsTrue (is_hidden self.old stop) → self.new ≡ self.old }
+        ensures outgrown { IsFalse (is_hidden self.old stop) → self.new.starved ≡ false →
+            IsSomeAnd self.new.fault (IsOutgrown self.old extent end stop) }
+        ensures stays { StaysButFault self.old self.new }
+    {
         if self.mismatches.hides(stop) {
             return;
         }
@@ -338,12 +371,20 @@ impl Watch for PartWatcher<'_> {
         self.note(kept);
     }
 
-    fn end(&mut self, stop: Stop) {
+    fn end(&mut self, stop: Stop)
+        ensures ends { self.new.starved ≡ false → Ends stop self.old self.new }
+        ensures stays { StaysThere self.old self.new }
+    {
         let kept = self.keep_ended(stop);
         self.note(kept);
     }
 
-    fn miss(&mut self, stop: Stop) {
+    fn miss(&mut self, stop: Stop)
+        ensures hidden { IsTrue (is_hidden self.old stop) → HidesMiss self.old self.new }
+        ensures misses { IsFalse (is_hidden self.old stop) → self.new.starved ≡ false →
+            AddsMiss stop self.old self.new }
+        ensures stays { StaysThere self.old self.new }
+    {
         if self.mismatches.hides(stop) {
             self.hide_miss();
             return;
@@ -352,7 +393,12 @@ impl Watch for PartWatcher<'_> {
         self.note(kept);
     }
 
-    fn refuse(&mut self, stop: Stop) {
+    fn refuse(&mut self, stop: Stop)
+        ensures hidden { IsTrue (is_union_hidden self.old stop) → DropsMisses self.old self.new }
+        ensures refuses { IsFalse (is_union_hidden self.old stop) → self.new.starved ≡ false →
+            Refuses stop self.old self.new }
+        ensures stays { StaysThere self.old self.new }
+    {
         let depth = self.trail.depth();
         if self.mismatches.hides_union(depth, stop) {
             self.mismatches.leave(depth);

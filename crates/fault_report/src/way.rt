@@ -8,6 +8,8 @@ ghost use Rattle.text_output.specs.Brackets.{in_brackets};
 ghost use Rattle.fault_report.specs.Found.{IsPartOf, IsReachedBy, places_of, way_places};
 ghost use Rattle.fault_report.specs.Portions.{IsPortion, IsShapePortion, IsFieldPortion, IsPartPortion, joint_text, joint_name};
 ghost use Rattle.fault_report.specs.Portions.{LacksPortion, LacksShapePortion, LacksField, LacksAlternative};
+ghost use Rattle.fault_report.specs.Nodes.{is_array, is_one_place};
+ghost use Rattle.fault_report.specs.Watched.{is_first};
 ghost use Rattle.fault_report.specs.Ways.{LacksPart};
 
 use pickle_source::site::SourceStep;
@@ -105,12 +107,16 @@ impl Way {
     }
 
     /// Its steps.
-    pub fn steps(&self) -> &[WayStep] {
+    pub fn steps(&self) -> &[WayStep]
+        ensures { result.now ≡ self.now.steps.items }
+    {
         self.steps.as_slice()
     }
 
     /// Whether it leads on to the first number of what its first `count` steps lead to.
-    pub fn is_first(&self, nodes: &[Node], count: usize) -> bool {
+    pub fn is_first(&self, nodes: &[Node], count: usize) -> bool
+        ensures { result ≡ is_first nodes.now count self.now }
+    {
         self.steps
             .iter()
             .skip(count)
@@ -269,7 +275,9 @@ fn joint_of(name: &Option<Name>) -> Joint<'_>
 }
 
 /// Whether all parts of the node at a place of the table begin with the same number.
-fn is_one_place(nodes: &[Node], at: usize) -> bool {
+fn is_one_place(nodes: &[Node], at: usize) -> bool
+    ensures { result ≡ is_one_place nodes.now at }
+{
     match nodes.get(at) {
         Some(node) => matches!(node.shape, Shape::Union { .. } | Shape::Integral { .. }),
         None => false,
@@ -277,7 +285,9 @@ fn is_one_place(nodes: &[Node], at: usize) -> bool {
 }
 
 /// Whether the node at a place of the table is an array.
-pub fn is_array(nodes: &[Node], at: usize) -> bool {
+pub fn is_array(nodes: &[Node], at: usize) -> bool
+    ensures { result ≡ is_array nodes.now at }
+{
     match nodes.get(at) {
         Some(node) => matches!(node.shape, Shape::Array(_, _)),
         None => false,

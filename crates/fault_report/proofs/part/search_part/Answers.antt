@@ -10,5 +10,5 @@ returns-in_ok-way-in-Ok-clause-part g c =
     let space = g.S.Space.view c.args.space.now in
     let means = fault_means space space (run_type c.args.run.now) c.args.run.now.ask.now c.args.fault
     c.requires.of_type c.requires.meant in
-    rw (c.new.ensures, c.in_ok-way-in-Ok.ensures, c.as_slice.ensures.value)
+    rw (c.new.ensures.way, c.in_ok-way-in-Ok.ensures, c.as_slice.ensures.value)
     (arises_there (λ bytes known. c.in-Ok.ensures.is bytes known (fault_of c.args.fault) (means bytes known)))
