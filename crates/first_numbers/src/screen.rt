@@ -123,7 +123,7 @@ fn place_of(order: Order, count: u32, index: u32) -> u64
     }
 }
 
-// The byte of a number that is to be looked at: one that few values have, and rather not 0, which is common.
+// The byte of a number that is to be looked at: one that few values have, and rather none that is common.
 fn best_index(x: &FirstNumber<'_>, count: u32) -> u32
     requires over { is_over_own x.now.own (term_of x.now.constraint.now) ≡ true }
     requires count { 0 < count × (count ≤ 8) }
@@ -144,7 +144,7 @@ fn best_index(x: &FirstNumber<'_>, count: u32) -> u32
     best
 }
 
-// How many bytes leave a value possible. 0 counts as much as all others.
+// How many bytes leave a value possible, where a common byte counts for many.
 fn weight_of(x: &FirstNumber<'_>, index: u32) -> u64
     requires over { is_over_own x.now.own (term_of x.now.constraint.now) ≡ true }
     requires index { index < 8 }
@@ -154,11 +154,20 @@ fn weight_of(x: &FirstNumber<'_>, index: u32) -> u64
     let mut byte: u16 = 0;
     while byte < 256 {
         if steps_with(x, index, byte as u8).is_none() {
-            weight = weight.saturating_add(if byte == 0 { 256 } else { 1 });
+            weight = weight.saturating_add(commonness(byte as u8));
         }
         byte += 1;
     }
     weight
+}
+
+// How common a byte is in files: 0 and 0xff fill what is unused, and blanks are between words.
+fn commonness(byte: u8) -> u64 {
+    match byte {
+        0 | 0xff => 256,
+        b' ' => 32,
+        _ => 1,
+    }
 }
 
 // The steps of the constraint where it fails for one of the bytes.
