@@ -4,6 +4,7 @@ use crate::reading::{big, little, memory, numbered, reads};
 use bit_space::{BitFault, Meter, Order, Space, read_number};
 use std::test::Fail;
 use tests_kit::devices::{Failing, Shifting};
+use tests_kit::rows::same;
 
 /// Bit position, width, and the big-endian and the little-endian number, worked out from the groups.
 const NUMBERS: [(u64, u8, u64, u64); 44] = [
@@ -71,8 +72,7 @@ fn numbers_at_any_bit(rt: HostRuntime) -> Result<(), Fail> {
             Ok(as_little),
         );
     }
-    assert_eq!(rt; meter.steps(), 88);
-    Ok(())
+    same(meter.steps(), 88, "steps")
 }
 
 #[test]
@@ -106,10 +106,10 @@ fn refuses_in_order(rt: HostRuntime) -> Result<(), Fail> {
     reads(&rt, &mut space, &mut meter, big(0, 16), Ok(0xfffe));
     for (pos, width, fault, steps) in REFUSED {
         reads(&rt, &mut space, &mut meter, big(pos, width), Err(fault));
-        assert_eq!(rt; meter.steps(), steps);
+        same(meter.steps(), steps, "steps")?;
     }
     let mut empty = memory(rt.alloc(), &[]).ok_or("memory")?;
-    assert_eq!(rt; empty.len(), 0);
+    same(empty.len(), 0, "bytes of an empty space")?;
     let mut meter = Meter::new(1);
     reads(
         &rt,
@@ -122,14 +122,18 @@ fn refuses_in_order(rt: HostRuntime) -> Result<(), Fail> {
 }
 
 #[test]
-fn counts_to_its_limit(rt: HostRuntime) {
+fn counts_to_its_limit(rt: HostRuntime) -> Result<(), Fail> {
     let mut meter = Meter::new(1);
     assert!(rt; meter.tick().is_ok());
     assert!(rt; meter.made() < meter.steps());
     meter.note_made();
-    assert_eq!(rt; (meter.steps(), meter.made(), meter.limit()), (1, 1, 1));
-    assert!(rt; meter.tick().is_err());
-    assert_eq!(rt; (meter.steps(), meter.made(), meter.limit()), (1, 1, 1));
+    for row in ["after a tick", "after another"] {
+        same(meter.steps(), 1, row)?;
+        same(meter.made(), 1, row)?;
+        same(meter.limit(), 1, row)?;
+        assert!(rt; meter.tick().is_err());
+    }
+    Ok(())
 }
 
 #[test]
@@ -157,7 +161,7 @@ fn reads_once(rt: HostRuntime) -> Result<(), Fail> {
     );
     let mut space = Failing::new(&[1, 2, 3], 0)?;
     reads(&rt, &mut space, &mut meter, little(3, 17), Ok(0x1008));
-    assert_eq!(rt; space.reads, 1);
+    same(space.reads, 1, "reads")?;
     reads(
         &rt,
         &mut space,
@@ -165,8 +169,7 @@ fn reads_once(rt: HostRuntime) -> Result<(), Fail> {
         little(9, 16),
         Err(BitFault::End),
     );
-    assert_eq!(rt; space.reads, 1);
-    Ok(())
+    same(space.reads, 1, "reads, one of them past the end")
 }
 
 #[test]
@@ -177,13 +180,10 @@ fn fails_at_one_read(rt: HostRuntime) -> Result<(), Fail> {
         let mut space = Failing::new(&bytes, failing)?;
         for read in 1..=5u64 {
             let number = read_number(&mut space, 4088 * 8, 64, Order::Big, &mut meter);
-            assert_eq!(rt;
-                number.is_err(),
-                read == failing,
-                "read {read} of {failing}"
-            );
-            assert_eq!(rt; space.failures, u64::from(read >= failing));
-            assert_eq!(rt; meter.steps(), read);
+            let row = format!(in rt.alloc(); "read {read}, where read {failing} fails")?;
+            same(number.is_err(), read == failing, row.as_str())?;
+            same(space.failures, u64::from(read >= failing), row.as_str())?;
+            same(meter.steps(), read, row.as_str())?;
         }
     }
     Ok(())

@@ -6,6 +6,7 @@ use bit_space::{BitFault, MemSpace, Meter, Paged, Space};
 use std::alloc::Global;
 use std::test::Fail;
 use tests_kit::devices::Failing;
+use tests_kit::rows::same;
 
 /// Pages over bytes, one read of which fails, counted from 1.
 fn pages<'a>(
@@ -24,11 +25,10 @@ fn pages_give_the_bytes(rt: HostRuntime) -> Result<(), Fail> {
     bytes.push(0x12)?;
     bytes.push(0x34)?;
     let mut paged = Paged::new(rt.alloc(), MemSpace::new(bytes)?)?;
-    assert_eq!(rt; paged.len(), 4097);
+    same(paged.len(), 4097, "bytes")?;
     let mut meter = Meter::new(1);
     reads(&rt, &mut paged, &mut meter, big(32760, 16), Ok(4660));
-    assert_eq!(rt; meter.steps(), 1);
-    Ok(())
+    same(meter.steps(), 1, "steps")
 }
 
 #[test]
@@ -40,8 +40,7 @@ fn pages_are_kept(rt: HostRuntime) -> Result<(), Fail> {
     for at in 0..8192 {
         reads_numbered(&rt, &mut paged, &mut meter, at);
     }
-    assert_eq!(rt; counts.reads.get(), 2);
-    Ok(())
+    same(counts.reads.get(), 2, "reads")
 }
 
 /// Pages that are read one after another, and the reads of the space below up to then.
@@ -63,7 +62,7 @@ fn sixteen_pages_are_kept(rt: HostRuntime) -> Result<(), Fail> {
         for page in first..end {
             reads_numbered(&rt, &mut paged, &mut meter, 4096 * page);
         }
-        assert_eq!(rt; counts.reads.get(), reads);
+        same(counts.reads.get(), reads, "reads")?;
     }
     Ok(())
 }
@@ -73,7 +72,7 @@ fn pages_across(rt: HostRuntime) -> Result<(), Fail> {
     let bytes = numbered(rt.alloc(), 10_000).ok_or("memory")?;
     let mut paged = Paged::new(rt.alloc(), memory(rt.alloc(), &bytes).ok_or("memory")?)?;
     let mut found = vec![in rt.alloc(); 0u8; 9000]?;
-    assert_eq!(rt; paged.len(), 10_000);
+    same(paged.len(), 10_000, "bytes")?;
     assert!(rt; paged.read_at(900, found.as_mut_slice()).is_ok());
     assert!(rt; Some(found.as_slice()) == bytes.as_slice().get(900..9900));
     assert!(rt; paged.read_at(10_000, &mut []).is_ok());
@@ -85,7 +84,7 @@ fn memory_gives_its_bytes(rt: HostRuntime) -> Result<(), Fail> {
     let bytes = numbered(rt.alloc(), 10_000).ok_or("memory")?;
     let mut plain = memory(rt.alloc(), &bytes).ok_or("memory")?;
     let mut found = vec![in rt.alloc(); 0u8; 9000]?;
-    assert_eq!(rt; plain.len(), 10_000);
+    same(plain.len(), 10_000, "bytes")?;
     assert!(rt; plain.read_at(900, found.as_mut_slice()).is_ok());
     assert!(rt; Some(found.as_slice()) == bytes.as_slice().get(900..9900));
     Ok(())
@@ -126,12 +125,12 @@ fn failures_under_pages(rt: HostRuntime) -> Result<(), Fail> {
             if read == failing {
                 let bits = big(8 * u64::from(at), 8);
                 reads(&rt, &mut paged, &mut meter, bits, Err(BitFault::Device));
-                assert_eq!(rt; counts.failures.get(), 1);
+                same(counts.failures.get(), 1, "failures at the read that fails")?;
             }
             reads_numbered(&rt, &mut paged, &mut meter, at);
         }
-        assert_eq!(rt; meter.steps(), 4);
-        assert_eq!(rt; counts.failures.get(), 1);
+        same(meter.steps(), 4, "steps")?;
+        same(counts.failures.get(), 1, "failures")?;
     }
     Ok(())
 }

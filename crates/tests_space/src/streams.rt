@@ -3,6 +3,7 @@
 use bit_space::Space;
 use spool::{Source, StreamFault, read_stream};
 use std::test::Fail;
+use tests_kit::rows::{same, same_bytes};
 use tests_kit::streams::{Blanks, OneByOne};
 
 #[test]
@@ -13,18 +14,17 @@ fn reads_byte_by_byte_up_to_an_error(rt: HostRuntime) -> Result<(), Fail> {
         failing: 0,
     };
     let mut source = Source::Memory(read_stream(rt.alloc(), &mut reader, 3)?);
-    assert_eq!(rt; source.len(), 3);
+    same(source.len(), 3, "bytes")?;
     let mut read = [0; 2];
     source.read_at(1, &mut read)?;
-    assert_eq!(rt; &read, b"bc");
+    same_bytes(&read, b"bc", "the last two bytes")?;
     reader = OneByOne {
         bytes: b"abc",
         reads: 0,
         failing: 2,
     };
     assert!(rt; read_stream(rt.alloc(), &mut reader, 3).err() == Some(StreamFault::Device));
-    assert_eq!(rt; reader.reads, 2);
-    Ok(())
+    same(reader.reads, 2, "reads")
 }
 
 #[test]

@@ -6,15 +6,16 @@ use bit_space::{BitFault, Meter, Paged, Space};
 use spool::{Window, window_end};
 use std::test::Fail;
 use tests_kit::devices::{Failing, Shifting};
+use tests_kit::rows::{same, same_bytes};
 
 #[test]
 fn a_window_has_the_first_bytes(rt: HostRuntime) -> Result<(), Fail> {
     let bytes = memory(rt.alloc(), &[0x12, 0x34, 0x56, 0x78]).ok_or("memory")?;
     let mut window = Window::new(bytes, 3);
     let mut found = [0; 2];
-    assert_eq!(rt; window.len(), 3);
+    same(window.len(), 3, "bytes")?;
     assert!(rt; window.read_at(1, &mut found).is_ok());
-    assert_eq!(rt; found, [0x34, 0x56]);
+    same_bytes(&found, &[0x34, 0x56], "the last two bytes")?;
     assert!(rt; window.read_at(3, &mut []).is_ok());
     Ok(())
 }
@@ -43,7 +44,7 @@ fn a_long_window_is_the_space(rt: HostRuntime) -> Result<(), Fail> {
         let bytes = memory(rt.alloc(), &[0x12, 0x34, 0x56, 0x78]).ok_or("memory")?;
         let mut window = Window::new(bytes, end);
         let mut meter = Meter::new(1);
-        assert_eq!(rt; window.len(), 4);
+        same(window.len(), 4, "bytes")?;
         reads(&rt, &mut window, &mut meter, big(0, 32), Ok(0x1234_5678));
     }
     Ok(())
@@ -54,7 +55,7 @@ fn an_empty_window(rt: HostRuntime) -> Result<(), Fail> {
     let bytes = memory(rt.alloc(), &[0x12]).ok_or("memory")?;
     let mut window = Window::new(bytes, 0);
     let mut meter = Meter::new(1);
-    assert_eq!(rt; window.len(), 0);
+    same(window.len(), 0, "bytes")?;
     reads(&rt, &mut window, &mut meter, big(0, 1), Err(BitFault::End));
     Ok(())
 }
@@ -93,7 +94,7 @@ fn pages_of_a_window_end_at_the_cut(rt: HostRuntime) -> Result<(), Fail> {
     };
     let mut paged = Paged::new(rt.alloc(), Window::new(counted, 5000))?;
     let mut meter = Meter::new(10);
-    assert_eq!(rt; paged.len(), 5000);
+    same(paged.len(), 5000, "bytes")?;
     reads(&rt, &mut paged, &mut meter, big(8 * 4999, 8), Ok(1));
     reads(&rt, &mut paged, &mut meter, big(8 * 4096, 8), Ok(1));
     reads(
@@ -103,8 +104,7 @@ fn pages_of_a_window_end_at_the_cut(rt: HostRuntime) -> Result<(), Fail> {
         big(8 * 5000, 8),
         Err(BitFault::End),
     );
-    assert_eq!(rt; counts.reads.get(), 1);
-    Ok(())
+    same(counts.reads.get(), 1, "reads")
 }
 
 /// The bit at which a window begins, its bytes, those of the space, and where it ends.
@@ -124,11 +124,8 @@ const ENDS: [(u64, Option<u64>, u64, u64); 10] = [
 #[test]
 fn ends_of_windows(rt: HostRuntime) -> Result<(), Fail> {
     for (start, count, len, end) in ENDS {
-        assert_eq!(rt;
-            window_end(start, count, len),
-            end,
-            "{count:?} bytes from bit {start} on, of {len}"
-        );
+        let row = format!(in rt.alloc(); "{count:?} bytes from bit {start} on, of {len}")?;
+        same(window_end(start, count, len), end, row.as_str())?;
     }
     Ok(())
 }
