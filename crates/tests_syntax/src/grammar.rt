@@ -5,6 +5,7 @@ use pickle_syntax::tree::{Expression, Form, Reference, Suffix, Target};
 use pickle_syntax::{ParseFault, lex, parse};
 use std::alloc::Global;
 use std::test::Fail;
+use tests_kit::rows::same_text;
 use tests_kit::text::bytes_of;
 
 /// Pickles with the number of their declarations, or the fault.
@@ -252,7 +253,7 @@ fn pickles_are_accepted_or_refused_at_a_token(rt: HostRuntime) -> Result<(), Fai
             let (text, told) = line.split_once(" ==> ").ok_or("no arrow")?;
             let pickle = bytes_of(alloc, text)?;
             let found = answer(alloc, &pickle)?;
-            assert_eq!(rt; found.as_str(), told, "{line}");
+            same_text(found.as_str(), told, line)?;
         }
     }
     Ok(())
@@ -264,7 +265,7 @@ fn operators_group_by_their_levels(rt: HostRuntime) -> Result<(), Fail> {
     for line in BOUNDS.lines() {
         let (bound, told) = line.split_once(" ==> ").ok_or("no arrow")?;
         let found = bound_of(alloc, bound)?;
-        assert_eq!(rt; found.as_str(), told, "{line}");
+        same_text(found.as_str(), told, line)?;
     }
     Ok(())
 }

@@ -5,6 +5,7 @@ use bit_space::Order;
 use pickle_heads::{Head, HeadFault, Identified, Inside, Options, Orders, Records, head_of};
 use std::alloc::{AllocError, Global};
 use std::test::Fail;
+use tests_kit::rows::{same, same_bytes, same_text};
 use tests_kit::text::bytes_of;
 
 /// The first two lines.
@@ -182,11 +183,7 @@ fn titles_of_heads(rt: HostRuntime) -> Result<(), Fail> {
         let (text, told) = line.split_once(" ==> ").ok_or("a row without an arrow")?;
         let bytes = bytes_of(alloc, text)?;
         let found = shown(alloc, head_of(b"x", &bytes))?;
-        assert_eq!(rt;
-            found.as_bytes(),
-            bytes_of(alloc, told)?.as_slice(),
-            "{line}"
-        );
+        same_bytes(found.as_bytes(), &bytes_of(alloc, told)?, line)?;
     }
     Ok(())
 }
@@ -200,29 +197,30 @@ fn lines_of_heads(rt: HostRuntime) -> Result<(), Fail> {
         bytes.extend_from_slice(&bytes_of(alloc, text)?)?;
         let found = shown(alloc, head_of(b"x", &bytes))?;
         let wanted = format!(in alloc; ",,{told}")?;
-        assert_eq!(rt; found.as_str(), wanted.as_str(), "{line}");
+        same_text(found.as_str(), wanted.as_str(), line)?;
     }
     Ok(())
 }
 
-/// The orders of a line win over that of the options, and without either it is big-endian.
+/// Heads, and the byte orders in which their types are tried. The orders of a line win over that of the options, and
+/// without either it is big-endian.
+const ORDERS: [(&str, &[Order]); 3] = [
+    (
+        "\n// main: T, options: --endian little\n// Identified by: S, big, little",
+        &[Order::Big, Order::Little],
+    ),
+    (
+        "\n// main: T, options: --endian little\n// Identified by: S",
+        &[Order::Little],
+    ),
+    ("\n// main: T\n// Identified by: S", &[Order::Big]),
+];
+
 #[test]
-fn orders_of_heads(rt: HostRuntime) -> Result<(), Fail> {
-    let little = b"\n// main: T, options: --endian little\n// Identified by: S, big, little";
-    assert_eq!(rt;
-        head_of(b"x", little).orders(),
-        [Order::Big, Order::Little].as_slice()
-    );
-    let of_options = b"\n// main: T, options: --endian little\n// Identified by: S";
-    assert_eq!(rt;
-        head_of(b"x", of_options).orders(),
-        [Order::Little].as_slice()
-    );
-    let of_neither = b"\n// main: T\n// Identified by: S";
-    assert_eq!(rt; head_of(b"x", of_neither).orders(), [Order::Big].as_slice());
-    assert_eq!(rt;
-        head_of(b"x", b"\n\n// Form of: ").fault,
-        Some(HeadFault::Form)
-    );
-    Ok(())
+fn orders_of_heads() -> Result<(), Fail> {
+    for (pickle, orders) in ORDERS {
+        same(head_of(b"x", pickle.as_bytes()).orders(), orders, pickle)?;
+    }
+    let fault = head_of(b"x", b"\n\n// Form of: ").fault;
+    same(fault, Some(HeadFault::Form), "Form of: ")
 }

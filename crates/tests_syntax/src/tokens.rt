@@ -4,6 +4,7 @@ use pickle_syntax::lex;
 use pickle_syntax::token::Kind;
 use std::alloc::{AllocError, Global};
 use std::test::Fail;
+use tests_kit::rows::same_text;
 use tests_kit::text::bytes_of;
 
 /// Numbers, with and without suffixes.
@@ -171,7 +172,7 @@ fn tokens_or_a_fault(rt: HostRuntime) -> Result<(), Fail> {
             let (text, told) = line.split_once(" ==>").ok_or("no arrow")?;
             let bytes = bytes_of(alloc, text)?;
             let found = lexed(alloc, &bytes)?;
-            assert_eq!(rt; found.as_str(), told, "{line}");
+            same_text(found.as_str(), told, line)?;
         }
     }
     Ok(())
@@ -187,6 +188,5 @@ fn spans(rt: HostRuntime) -> Result<(), Fail> {
         shown.push_str(&span)?;
     }
     let told = "Some((1, 5)) Some((6, 7)) Some((8, 9)) Some((18, 23)) Some((23, 24)) None ";
-    assert_eq!(rt; shown.as_str(), told);
-    Ok(())
+    same_text(shown.as_str(), told, "spans")
 }
