@@ -7,6 +7,7 @@ use pickle_source::site::{Purpose, Site, SourceStep};
 use pickle_source::text::Text;
 use std::alloc::Global;
 use std::test::Fail;
+use tests_kit::rows::same_bytes;
 use tests_kit::text::bytes_of;
 
 /// A pickle with each kind of part. `09 is a tab.
@@ -162,7 +163,7 @@ fn parts_stand_in_their_places(rt: HostRuntime) -> Result<(), Fail> {
                 Some(site) => told_of(alloc, &script, site)?,
                 None => b"none".to_vec(alloc)?,
             };
-            assert_eq!(rt; std::str::from_utf8(&found)?, told, "{words}");
+            same_bytes(&found, told.as_bytes(), line)?;
         }
     }
     Ok(())
@@ -181,7 +182,7 @@ fn long_texts_are_cut(rt: HostRuntime) -> Result<(), Fail> {
             .ok_or("no constraint")?;
         let found = excerpt(alloc, &script, part)?;
         let told = bytes_of(alloc, told)?;
-        assert_eq!(rt; std::str::from_utf8(&found)?, std::str::from_utf8(&told)?);
+        same_bytes(&found, &told, count)?;
     }
     Ok(())
 }

@@ -3,8 +3,8 @@
 use pickle_syntax::{lex, parse};
 use pickle_types::Table;
 use std::alloc::Global;
-use std::process::Abort;
 use std::test::Fail;
+use tests_kit::rows::{holds, same, same_text};
 use tests_kit::text::bytes_of;
 
 /// Each kind of fault.
@@ -136,20 +136,14 @@ fn answer(alloc: Global, text: &[u8]) -> Result<String, Fail> {
     }
 }
 
-fn expect(rt: &impl Abort, alloc: Global, pickle: &[u8], told: &str) -> Result<(), Fail> {
-    let found = answer(alloc, pickle)?;
-    let text = str::from_utf8(pickle)?;
-    assert_eq!(rt; found.as_str(), told, "{text}");
-    Ok(())
-}
-
 #[test]
 fn counts_types_or_tells_a_fault(rt: HostRuntime) -> Result<(), Fail> {
+    let alloc = rt.alloc();
     for table in [FAULTS, ACCEPTED, UNSEEN, LEFT_OUT, CHAINS, MANY, ALIKE] {
         for line in table.lines() {
             let (text, told) = line.split_once(" ==> ").ok_or("no arrow")?;
-            let pickle = bytes_of(rt.alloc(), text)?;
-            expect(&rt, rt.alloc(), &pickle, told)?;
+            let found = answer(alloc, &bytes_of(alloc, text)?)?;
+            same_text(found.as_str(), told, line)?;
         }
     }
     Ok(())
@@ -162,74 +156,76 @@ fn finds_types(rt: HostRuntime) -> Result<(), Fail> {
         alloc,
         b"type E = struct { byte v : v != 0; }; type A = struct { E[] es; byte z; };",
     )?;
-    for name in [b"A".as_slice(), b"E", b"ulong"] {
-        assert!(rt; table.find(name).is_some());
+    for name in ["A", "E", "ulong"] {
+        holds(table.find(name.as_bytes()).is_some(), name)?;
     }
-    for name in [b"string".as_slice(), b"", b"A "] {
-        assert!(rt; table.find(name).is_none());
+    for name in ["string", "", "A "] {
+        holds(table.find(name.as_bytes()).is_none(), name)?;
     }
-    assert!(rt; table.find(b"A") != table.find(b"E"));
+    holds(table.find(b"A") != table.find(b"E"), "A is not E")?;
     let none = table_of(alloc, b"")?;
-    assert!(rt; none.is_empty());
+    holds(none.is_empty(), "no types")?;
     let renamed = table_of(alloc, b"type A = byte; type B = A;")?;
-    assert_eq!(rt; renamed.find(b"A"), renamed.find(b"byte"));
-    assert_eq!(rt; renamed.find(b"B"), renamed.find(b"byte"));
+    for name in ["A", "B"] {
+        same(renamed.find(name.as_bytes()), renamed.find(b"byte"), name)?;
+    }
     Ok(())
 }
 
 /// Whether each of so many types is found by its name, with a later node than those before, and no other name is found.
-fn finds_each_type(rt: &impl Abort, alloc: Global, count: u8) -> Result<(), Fail> {
+fn finds_each_type(alloc: Global, count: u8) -> Result<(), Fail> {
     let text = format!(in alloc; "«0..{count} type f~ = byte[~]; »")?;
     let table = table_of(alloc, &bytes_of(alloc, &text)?)?;
     let mut least = 0;
     for i in 0..count {
         let name = format!(in alloc; "f{i}")?;
         let found = table.find(name.as_bytes()).ok_or("no type")?;
-        assert!(rt; least <= found.node(), "{name}");
+        holds(least <= found.node(), name.as_str())?;
         least = found.node().saturating_add(1);
         let longer = format!(in alloc; "f{i}_")?;
-        assert!(rt; table.find(longer.as_bytes()).is_none(), "{longer}");
+        holds(table.find(longer.as_bytes()).is_none(), longer.as_str())?;
     }
     let next = format!(in alloc; "f{count}")?;
-    assert!(rt; table.find(next.as_bytes()).is_none(), "{next}");
-    Ok(())
+    holds(table.find(next.as_bytes()).is_none(), next.as_str())
 }
 
 #[test]
 fn finds_each_of_some_types(rt: HostRuntime) -> Result<(), Fail> {
     for count in [0, 1, 2, 3, 100, 255] {
-        finds_each_type(&rt, rt.alloc(), count)?;
+        finds_each_type(rt.alloc(), count)?;
     }
     Ok(())
 }
 
 /// Expects an answer for a pickle in two parts. The first part is left as it was.
 fn expect_behind(
-    rt: &impl Abort,
     alloc: Global,
+    kind: &str,
     fields: &mut Vec<u8>,
     rest: &str,
     told: &str,
 ) -> Result<(), Fail> {
     let count = fields.len();
+    let row = format!(in alloc; "{kind} of {count} bytes, {rest}")?;
     fields.extend_from_slice(rest.as_bytes())?;
-    expect(rt, alloc, fields, told)?;
+    let found = answer(alloc, fields)?;
+    same_text(found.as_str(), told, row.as_str())?;
     fields.truncate(count);
     Ok(())
 }
 
 /// Whether each field of a type of so many bits is found by its name, no other name is found, and a second field of the
 /// same name is refused.
-fn finds_fields(rt: &impl Abort, alloc: Global, kind: &str, count: u8) -> Result<(), Fail> {
+fn finds_fields(alloc: Global, kind: &str, count: u8) -> Result<(), Fail> {
     let text = format!(in alloc; "type A = {kind} {{ «0..{count} bit f~; »")?;
     let mut fields = bytes_of(alloc, &text)?;
     for i in 0..count {
         let select = format!(in alloc; "}}; type B = struct {{ A a; byte b : a.f{i} == 0; }};")?;
-        expect_behind(rt, alloc, &mut fields, &select, "types 2")?;
+        expect_behind(alloc, kind, &mut fields, &select, "types 2")?;
         let again = format!(in alloc; "bit f{i}; }}; ")?;
         expect_behind(
-            rt,
             alloc,
+            kind,
             &mut fields,
             &again,
             "refused DuplicateField in type 1",
@@ -237,8 +233,8 @@ fn finds_fields(rt: &impl Abort, alloc: Global, kind: &str, count: u8) -> Result
     }
     let select = format!(in alloc; "}}; type B = struct {{ A a; byte b : a.f{count} == 0; }};")?;
     expect_behind(
-        rt,
         alloc,
+        kind,
         &mut fields,
         &select,
         "refused UnknownName in type 2",
@@ -251,7 +247,7 @@ fn fields_of_few_and_of_many(rt: HostRuntime) -> Result<(), Fail> {
     for count in [1, 31, 32, 33, 64] {
         let integral = format!(in alloc; "struct uint<{count}>")?;
         for kind in ["struct", "pinned struct", integral.as_str(), "union"] {
-            finds_fields(&rt, alloc, kind, count)?;
+            finds_fields(alloc, kind, count)?;
         }
     }
     Ok(())
@@ -274,7 +270,7 @@ fn bounds_of_worked_types(rt: HostRuntime) -> Result<(), Fail> {
         let (bits, told) = counts.split_once(' ').ok_or("no bounds")?;
         let pickle = bytes_of(alloc, text)?;
         let found = bounds_of(alloc, &pickle, name, bits.parse::<u64>()?)?;
-        assert_eq!(rt; found.as_str(), told, "{line}");
+        same_text(found.as_str(), told, line)?;
     }
     Ok(())
 }
