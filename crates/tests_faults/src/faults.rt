@@ -11,8 +11,8 @@ use pickle_map::{MapFault, Store, map};
 use pickle_types::{Table, TypeId};
 use run_parts::accept::accept;
 use std::alloc::Global;
-use std::process::Abort;
 use std::test::Fail;
+use tests_kit::rows::holds;
 use tests_kit::text::hex_of;
 
 /// More steps than any row takes.
@@ -138,20 +138,19 @@ fn found_path(alloc: Global, table: &Table, id: TypeId, row: &Row) -> Result<Vec
 }
 
 // The fault arises at the end of the row's path, and not after it. The search finds that path.
-fn expect_part(rt: &impl Abort, alloc: Global, table: &Table, line: &str) -> Result<(), Fail> {
+fn expect_part(alloc: Global, table: &Table, line: &str) -> Result<(), Fail> {
     let (name, rest) = line.split_once(' ').ok_or("no bytes")?;
     let (digits, places) = rest.split_once(' ').unwrap_or((rest, ""));
     let id = type_of(table, name)?;
     let mut row = row_of(alloc, digits, places)?;
     let fault = fault_of(alloc, table, id, &row)?;
     let found = is_at(alloc, table, id, &row, fault, row.path.as_slice())?;
-    assert!(rt; found, "{line}");
+    holds(found, line)?;
     let path = found_path(alloc, table, id, &row)?;
-    assert!(rt; path.as_slice() == row.path.as_slice(), "{line}");
+    holds(path.as_slice() == row.path.as_slice(), line)?;
     row.path.push(0)?;
     let found_inside = is_at(alloc, table, id, &row, fault, row.path.as_slice())?;
-    assert!(rt; !found_inside, "{line}");
-    Ok(())
+    holds(!found_inside, line)
 }
 
 #[test]
@@ -162,7 +161,7 @@ fn a_fault_arises_in_one_part(rt: HostRuntime) -> Result<(), Fail> {
         Err(refusal) => return Err(Fail::from(refusal)),
     };
     for line in ROWS.lines() {
-        expect_part(&rt, alloc, &table, line)?;
+        expect_part(alloc, &table, line)?;
     }
     Ok(())
 }

@@ -4,6 +4,8 @@ use bit_space::{MemSpace, Order};
 use identification::{Formats, Ranked, Source, formats_of, identify};
 use std::alloc::Global;
 use std::test::Fail;
+use tests_kit::rows::same_text;
+use tests_kit::text::hex_of;
 
 /// A format that is identified by one byte.
 const BOX: &[u8] = b"// box: A box.\n// main: Box\n// Identified by: Sign\n
@@ -50,12 +52,8 @@ fn prepared(alloc: Global, sources: &[Source<'_>]) -> Result<Formats, Fail> {
     }
 }
 
-fn found(alloc: Global, formats: &Formats, start: u64, bytes: &[u8]) -> Result<Vec<Ranked>, Fail> {
-    let mut space = MemSpace::new(Vec::from_slice(alloc, bytes)?)?;
-    Ok(identify(alloc, formats, start, &mut space)?)
-}
-
-// The places, orders, chains, constrained bits and sizes of what is found, in a text.
+// The places, orders, chains, constrained bits and sizes of what is found, in a text: a blank before each, and `;` after
+// it.
 fn told(alloc: Global, ranked: &[Ranked]) -> Result<String, Fail> {
     let mut text = String::new(alloc);
     for one in ranked {
@@ -65,7 +63,7 @@ fn told(alloc: Global, ranked: &[Ranked]) -> Result<String, Fail> {
             Order::Big => "big",
         };
         let part = format!(in alloc;
-            "{} {} {} {} {}; ",
+            " {} {} {} {} {};",
             fit.place, order, one.closer, fit.measured.constrained, fit.measured.size
         )?;
         text.push_str(part.as_str())?;
@@ -73,76 +71,63 @@ fn told(alloc: Global, ranked: &[Ranked]) -> Result<String, Fail> {
     Ok(text)
 }
 
+// What fits the bytes that a row gives, from the bit that it gives.
+fn told_at(alloc: Global, formats: &Formats, row: &str) -> Result<String, Fail> {
+    let (start, digits) = row.split_once(' ').ok_or("no bytes")?;
+    let mut space = MemSpace::new(hex_of(alloc, digits)?)?;
+    let ranked = identify(alloc, formats, start.parse::<u64>()?, &mut space)?;
+    told(alloc, &ranked)
+}
+
+// Expects what a table tells of formats.
+fn expect_fits(alloc: Global, sources: &[Source<'_>], table: &str) -> Result<(), Fail> {
+    let formats = prepared(alloc, sources)?;
+    for line in table.lines() {
+        let (row, told) = line.split_once(" ==>").ok_or("no arrow")?;
+        same_text(told_at(alloc, &formats, row)?.as_str(), told, line)?;
+    }
+    Ok(())
+}
+
+/// The bit from which on formats are tried, the bytes of a file in hexadecimal digits, and what fits.
+const CLOSER: &str = "\
+0 010203 ==> 3 big 0 8 24; 2 big 1 16 16; 1 big 2 8 8;
+0 0102 ==> 2 big 0 16 16; 1 big 1 8 8;
+0 010903 ==> 3 big 0 8 24; 1 big 1 8 8;
+0 0000 ==>
+0  ==>";
+
+const STARTS: &str = "\
+8 0001 ==> 0 big 0 8 8;
+4 0010 ==> 0 big 0 8 8;
+24 0001 ==>";
+
 #[test]
 fn closer_forms_come_first(rt: HostRuntime) -> Result<(), Fail> {
-    let alloc = rt.alloc();
     let sources = [
         source(b"bare", BARE),
         source(b"box", BOX),
         source(b"crate", CRATE),
         source(b"trunk", TRUNK),
     ];
-    let formats = prepared(alloc, &sources)?;
-    assert_eq!(rt;
-        told(alloc, &found(alloc, &formats, 0, &[1, 2, 3])?)?.as_str(),
-        "3 big 0 8 24; 2 big 1 16 16; 1 big 2 8 8; "
-    );
-    assert_eq!(rt;
-        told(alloc, &found(alloc, &formats, 0, &[1, 2])?)?.as_str(),
-        "2 big 0 16 16; 1 big 1 8 8; "
-    );
-    assert_eq!(rt;
-        told(alloc, &found(alloc, &formats, 0, &[1, 9, 3])?)?.as_str(),
-        "3 big 0 8 24; 1 big 1 8 8; "
-    );
-    assert_eq!(rt;
-        told(alloc, &found(alloc, &formats, 0, &[0, 0])?)?.as_str(),
-        ""
-    );
-    assert_eq!(rt; told(alloc, &found(alloc, &formats, 0, &[])?)?.as_str(), "");
-    Ok(())
+    expect_fits(rt.alloc(), &sources, CLOSER)
 }
 
 #[test]
 fn a_format_starts_at_a_bit(rt: HostRuntime) -> Result<(), Fail> {
-    let alloc = rt.alloc();
-    let sources = [source(b"box", BOX)];
-    let formats = prepared(alloc, &sources)?;
-    assert_eq!(rt;
-        told(alloc, &found(alloc, &formats, 8, &[0, 1])?)?.as_str(),
-        "0 big 0 8 8; "
-    );
-    assert_eq!(rt;
-        told(alloc, &found(alloc, &formats, 4, &[0, 16])?)?.as_str(),
-        "0 big 0 8 8; "
-    );
-    assert_eq!(rt;
-        told(alloc, &found(alloc, &formats, 24, &[0, 1])?)?.as_str(),
-        ""
-    );
-    Ok(())
+    expect_fits(rt.alloc(), &[source(b"box", BOX)], STARTS)
 }
 
 #[test]
 fn little_comes_before_big(rt: HostRuntime) -> Result<(), Fail> {
-    let alloc = rt.alloc();
     let sources = [source(b"box", BOX), source(b"pair", PAIR)];
-    let formats = prepared(alloc, &sources)?;
-    assert_eq!(rt;
-        told(alloc, &found(alloc, &formats, 0, &[1, 1])?)?.as_str(),
-        "1 little 0 16 16; 1 big 0 16 16; 0 big 0 8 8; "
-    );
-    Ok(())
+    let row = "0 0101 ==> 1 little 0 16 16; 1 big 0 16 16; 0 big 0 8 8;";
+    expect_fits(rt.alloc(), &sources, row)
 }
 
 #[test]
 fn numbers_with_constraints_count(rt: HostRuntime) -> Result<(), Fail> {
-    let alloc = rt.alloc();
     let sources = [source(b"parts", PARTS), source(b"whole", WHOLE)];
-    let formats = prepared(alloc, &sources)?;
-    assert_eq!(rt;
-        told(alloc, &found(alloc, &formats, 0, &[1, 2, 7])?)?.as_str(),
-        "1 big 0 16 24; 0 big 0 4 16; "
-    );
-    Ok(())
+    let row = "0 010207 ==> 1 big 0 16 24; 0 big 0 4 16;";
+    expect_fits(rt.alloc(), &sources, row)
 }

@@ -3,16 +3,61 @@
 use identification::{Source, Unfit, formats_of};
 use std::alloc::Global;
 use std::test::Fail;
+use tests_kit::rows::same_text;
 
-const GOOD: &[u8] =
-    b"// a: A.\n// main: A\n// Identified by: A\ntype A = struct { byte a : a == 1; };\n";
+const GOOD: &str =
+    "// a: A.\n// main: A\n// Identified by: A\ntype A = struct { byte a : a == 1; };\n";
+
+/// The name of a pickle that comes after a good one, the pickle, and what is wrong.
+const ROWS: [(&str, &str, &str); 12] = [
+    ("b", GOOD, "None"),
+    ("b", "type A = int;", "None"),
+    ("a", GOOD, "Some((1, Order))"),
+    ("A", GOOD, "Some((1, Order))"),
+    ("b", "type A = ", "Some((1, Refused(Syntax(9))))"),
+    (
+        "b",
+        "\n\n// Identified by: A, sideways\ntype A = int;",
+        "Some((1, Head(Identified)))",
+    ),
+    (
+        "b",
+        "\n// main: A\n// Identified by: B\ntype A = byte;",
+        "Some((1, NoIdentifyingType))",
+    ),
+    (
+        "b",
+        "\n// main: B\n// Identified by: nothing\ntype A = byte;",
+        "Some((1, NoMainType))",
+    ),
+    (
+        "b",
+        "\n\n// Identified by: A\ntype A = byte;",
+        "Some((1, NoMainType))",
+    ),
+    (
+        "b",
+        "\n// main: A\n// Identified by: nothing\n// Form of: c\ntype A = byte;",
+        "Some((1, NoForm))",
+    ),
+    (
+        "b",
+        "\n// main: A\n// Identified by: nothing\n// Form of: b\ntype A = byte;",
+        "Some((1, Cycle))",
+    ),
+    (
+        "b",
+        "\n// main: A\n// Identified by: nothing\n// Form of: a\ntype A = byte;",
+        "None",
+    ),
+];
 
 // What is wrong with a pickle after a good one, and its place.
 fn wrong<'a>(alloc: Global, name: &'a [u8], pickle: &'a [u8]) -> Option<(usize, Unfit)> {
     let sources = [
         Source {
             name: b"a",
-            pickle: GOOD,
+            pickle: GOOD.as_bytes(),
         },
         Source { name, pickle },
     ];
@@ -25,69 +70,10 @@ fn wrong<'a>(alloc: Global, name: &'a [u8], pickle: &'a [u8]) -> Option<(usize, 
 #[test]
 fn formats_are_named(rt: HostRuntime) -> Result<(), Fail> {
     let alloc = rt.alloc();
-    assert_eq!(rt; wrong(alloc, b"b", GOOD), None);
-    assert_eq!(rt; wrong(alloc, b"b", b"type A = int;"), None);
-    assert_eq!(rt; wrong(alloc, b"a", GOOD), Some((1, Unfit::Order)));
-    assert_eq!(rt; wrong(alloc, b"A", GOOD), Some((1, Unfit::Order)));
-    assert!(rt;
-        matches!(
-            wrong(alloc, b"b", b"type A = "),
-            Some((1, Unfit::Refused(_)))
-        )
-    );
-    assert!(rt;
-        matches!(
-            wrong(
-                alloc,
-                b"b",
-                b"\n\n// Identified by: A, sideways\ntype A = int;"
-            ),
-            Some((1, Unfit::Head(_)))
-        )
-    );
-    assert_eq!(rt;
-        wrong(
-            alloc,
-            b"b",
-            b"\n// main: A\n// Identified by: B\ntype A = byte;"
-        ),
-        Some((1, Unfit::NoIdentifyingType))
-    );
-    assert_eq!(rt;
-        wrong(
-            alloc,
-            b"b",
-            b"\n// main: B\n// Identified by: nothing\ntype A = byte;"
-        ),
-        Some((1, Unfit::NoMainType))
-    );
-    assert_eq!(rt;
-        wrong(alloc, b"b", b"\n\n// Identified by: A\ntype A = byte;"),
-        Some((1, Unfit::NoMainType))
-    );
-    assert_eq!(rt;
-        wrong(
-            alloc,
-            b"b",
-            b"\n// main: A\n// Identified by: nothing\n// Form of: c\ntype A = byte;"
-        ),
-        Some((1, Unfit::NoForm))
-    );
-    assert_eq!(rt;
-        wrong(
-            alloc,
-            b"b",
-            b"\n// main: A\n// Identified by: nothing\n// Form of: b\ntype A = byte;"
-        ),
-        Some((1, Unfit::Cycle))
-    );
-    assert_eq!(rt;
-        wrong(
-            alloc,
-            b"b",
-            b"\n// main: A\n// Identified by: nothing\n// Form of: a\ntype A = byte;"
-        ),
-        None
-    );
+    for (name, pickle, told) in ROWS {
+        let wrong = wrong(alloc, name.as_bytes(), pickle.as_bytes());
+        let found = format!(in alloc; "{wrong:?}")?;
+        same_text(found.as_str(), told, pickle)?;
+    }
     Ok(())
 }

@@ -9,6 +9,8 @@ use run_parts::outcome::Outcome;
 use std::alloc::Global;
 use std::test::Fail;
 use tests_kit::devices::Failing;
+use tests_kit::rows::{holds, same_bytes, same_text};
+use tests_kit::text::hex_of;
 
 /// A format that is identified by one byte, and a closer form of it.
 const BOX: &[u8] = b"// box: A \"box\".\n// main: Box\n// Identified by: Sign\n
@@ -73,91 +75,87 @@ fn told<S: Space>(
     Ok((outcome, text))
 }
 
-fn told_of(
-    alloc: Global,
-    bytes: &[u8],
-    all: bool,
-    form: AnswerForm,
-) -> Result<(Outcome, Vec<u8>), Fail> {
-    let mut space = MemSpace::new(Vec::from_slice(alloc, bytes)?)?;
-    told(alloc, &mut space, all, form)
+// The outcome and the text of a row.
+fn told_of(alloc: Global, row: &str) -> Result<String, Fail> {
+    let (digits, words) = row.split_once(' ').ok_or("no words")?;
+    let form = if words.ends_with("json") {
+        AnswerForm::Json
+    } else {
+        AnswerForm::Text
+    };
+    let mut space = MemSpace::new(hex_of(alloc, digits)?)?;
+    let (outcome, text) = told(alloc, &mut space, words.starts_with("all"), form)?;
+    let text = str::from_utf8(&text)?;
+    Ok(format!(in alloc; "{outcome:?} {text}")?)
 }
 
+/// The bytes of a file in hexadecimal digits, whether the first or all of its formats are printed, and in which form.
+/// Then the outcome and the text.
+const ROWS: [(&str, &str); 9] = [
+    ("0102 first text", "Done crate\tCrate\tlittle\n"),
+    (
+        "0102 all text",
+        "Done crate\tCrate\tlittle\tbox\tBox\tbig\tnote\tNote\tbig\tpair\tPair\tlittle\n",
+    ),
+    (
+        "0102 first json",
+        "Done {\"format\":\"crate\",\"type\":\"Crate\",\"endian\":\"little\",\"size\":16,\"description\":\"A crate.\"}\n",
+    ),
+    (
+        "01 all json",
+        "Done [{\"format\":\"box\",\"type\":\"Box\",\"endian\":\"big\",\"size\":8,\"description\":\"A \\\"box\\\".\"}]\n",
+    ),
+    (
+        "0102 all json",
+        "Done [{\"format\":\"crate\",\"type\":\"Crate\",\"endian\":\"little\",\"size\":16,\"description\":\"A crate.\"},\
+        {\"format\":\"box\",\"type\":\"Box\",\"endian\":\"big\",\"size\":8,\"description\":\"A \\\"box\\\".\"},\
+        {\"format\":\"note\",\"type\":\"Note\",\"endian\":\"big\",\"size\":16,\"description\":\"A note.\"},\
+        {\"format\":\"pair\",\"type\":\"Pair\",\"endian\":\"little\",\"size\":16,\"description\":\"A pair.\"}]\n",
+    ),
+    ("00 all text", "Done note\tNote\tbig\n"),
+    ("00 first text", "Unidentified "),
+    ("0000 all text", "Unidentified "),
+    ("02 all json", "Unidentified "),
+];
+
+// The first format or all are printed, as text or as objects. Formats without a signature are of all alone.
 #[test]
-fn the_first_or_all_are_printed(rt: HostRuntime) -> Result<(), Fail> {
+fn formats_are_printed(rt: HostRuntime) -> Result<(), Fail> {
     let alloc = rt.alloc();
-    let (outcome, text) = told_of(alloc, &[1, 2], false, AnswerForm::Text)?;
-    assert_eq!(rt; outcome, Outcome::Done);
-    assert_eq!(rt; text.as_slice(), b"crate\tCrate\tlittle\n".as_slice());
-    let (outcome, text) = told_of(alloc, &[1, 2], true, AnswerForm::Text)?;
-    assert_eq!(rt; outcome, Outcome::Done);
-    assert_eq!(rt;
-        text.as_slice(),
-        b"crate\tCrate\tlittle\tbox\tBox\tbig\tnote\tNote\tbig\tpair\tPair\tlittle\n".as_slice()
-    );
+    for (row, told) in ROWS {
+        let found = told_of(alloc, row)?;
+        same_text(found.as_str(), told, row)?;
+    }
     Ok(())
 }
 
 #[test]
-fn objects_are_printed(rt: HostRuntime) -> Result<(), Fail> {
-    let alloc = rt.alloc();
-    let (outcome, text) = told_of(alloc, &[1, 2], false, AnswerForm::Json)?;
-    assert_eq!(rt; outcome, Outcome::Done);
-    assert_eq!(rt;
-        text.as_slice(),
-        b"{\"format\":\"crate\",\"type\":\"Crate\",\"endian\":\"little\",\"size\":16,\"description\":\"A crate.\"}\n".as_slice()
-    );
-    let (_, text) = told_of(alloc, &[1], true, AnswerForm::Json)?;
-    assert_eq!(rt;
-        text.as_slice(),
-        b"[{\"format\":\"box\",\"type\":\"Box\",\"endian\":\"big\",\"size\":8,\"description\":\"A \\\"box\\\".\"}]\n".as_slice()
-    );
-    let (_, text) = told_of(alloc, &[1, 2], true, AnswerForm::Json)?;
-    assert!(rt; text.as_slice().starts_with(b"[{\"format\":\"crate\""));
-    assert!(rt;
-        text.as_slice().ends_with(
-            b"},{\"format\":\"pair\",\"type\":\"Pair\",\"endian\":\"little\",\"size\":16,\"description\":\"A pair.\"}]\n"
-        )
-    );
-    Ok(())
-}
-
-#[test]
-fn formats_without_a_signature_are_of_all(rt: HostRuntime) -> Result<(), Fail> {
-    let alloc = rt.alloc();
-    let (outcome, text) = told_of(alloc, &[0], true, AnswerForm::Text)?;
-    assert_eq!(rt; outcome, Outcome::Done);
-    assert_eq!(rt; text.as_slice(), b"note\tNote\tbig\n".as_slice());
-    let (outcome, _) = told_of(alloc, &[0], false, AnswerForm::Text)?;
-    assert_eq!(rt; outcome, Outcome::Unidentified);
-    let (outcome, _) = told_of(alloc, &[0, 0], true, AnswerForm::Text)?;
-    assert_eq!(rt; outcome, Outcome::Unidentified);
-    Ok(())
-}
-
-#[test]
-fn nothing_is_printed_without_a_format(rt: HostRuntime) -> Result<(), Fail> {
-    let alloc = rt.alloc();
-    let (outcome, text) = told_of(alloc, &[2], true, AnswerForm::Json)?;
-    assert_eq!(rt; outcome, Outcome::Unidentified);
-    assert!(rt; text.is_empty());
+fn nothing_is_printed_of_an_unread_file(rt: HostRuntime) -> Result<(), Fail> {
     let mut space = Failing::new(&[1, 2], 1)?;
-    let (outcome, text) = told(alloc, &mut space, false, AnswerForm::Text)?;
-    assert!(rt; matches!(outcome, Outcome::Fault(_)));
-    assert!(rt; text.is_empty());
-    Ok(())
+    let (outcome, text) = told(rt.alloc(), &mut space, false, AnswerForm::Text)?;
+    holds(matches!(outcome, Outcome::Fault(_)), "a fault")?;
+    holds(text.is_empty(), "no text")
 }
+
+/// Pickles that are no formats, by name, and what is said of them.
+const UNPREPARED: [(&str, Unfit, &str); 2] = [
+    (
+        "png",
+        Unfit::Refused(Refusal::Syntax(17)),
+        "error: the pickle png is no format: refused Syntax at byte 17\n",
+    ),
+    (
+        "a\tb",
+        Unfit::Cycle,
+        "error: the pickle a\\tb is no format: it is a form of itself\n",
+    ),
+];
 
 #[test]
 fn a_pickle_that_is_no_format_is_named(rt: HostRuntime) -> Result<(), Fail> {
-    let alloc = rt.alloc();
-    assert_eq!(rt;
-        unprepared_text(alloc, b"png", Unfit::Refused(Refusal::Syntax(17)))?.as_slice(),
-        b"error: the pickle png is no format: refused Syntax at byte 17\n".as_slice()
-    );
-    assert_eq!(rt;
-        unprepared_text(alloc, b"a\tb", Unfit::Cycle)?.as_slice(),
-        b"error: the pickle a\\tb is no format: it is a form of itself\n".as_slice()
-    );
+    for (name, why, told) in UNPREPARED {
+        let text = unprepared_text(rt.alloc(), name.as_bytes(), why)?;
+        same_bytes(&text, told.as_bytes(), name)?;
+    }
     Ok(())
 }

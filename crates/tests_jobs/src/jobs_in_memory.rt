@@ -6,8 +6,8 @@ use jobs::why::Why;
 use poke_batch::fault_form::FaultForm;
 use poke_batch::words::read_asked;
 use std::alloc::Global;
-use std::process::Abort;
 use std::test::Fail;
+use tests_kit::rows::{holds, same_bytes};
 
 /// A command line, what its job writes to the writer, and the line of its ending or of its fault, in a block each.
 const ROWS: [(&str, &str, &str); 18] = [
@@ -281,13 +281,26 @@ fn written_by(alloc: Global, words: &str) -> Result<Written, Fail> {
     })
 }
 
+// Expects what a job writes to the writer, the line of its ending or of its fault, and its usage error. It tells nothing
+// aside.
+fn expect_written(
+    alloc: Global,
+    words: &str,
+    out: &str,
+    line: &str,
+    usage: &str,
+) -> Result<(), Fail> {
+    let written = written_by(alloc, words)?;
+    same_bytes(&written.out, out.as_bytes(), words)?;
+    same_bytes(&written.line, line.as_bytes(), words)?;
+    same_bytes(&written.reasons, usage.as_bytes(), words)?;
+    holds(written.aside.is_empty(), words)
+}
+
 #[test]
 fn jobs_write_their_answers(rt: HostRuntime) -> Result<(), Fail> {
     for (words, out, line) in ROWS {
-        let written = written_by(rt.alloc(), words)?;
-        assert_eq!(&rt; written.out.as_slice(), out.as_bytes(), "{words}");
-        assert_eq!(&rt; written.line.as_slice(), line.as_bytes(), "{words}");
-        assert!(rt; written.aside.is_empty(), "{words}");
+        expect_written(rt.alloc(), words, out, line, "")?;
     }
     Ok(())
 }
@@ -296,11 +309,7 @@ fn jobs_write_their_answers(rt: HostRuntime) -> Result<(), Fail> {
 #[test]
 fn heads_and_windows_apply(rt: HostRuntime) -> Result<(), Fail> {
     for (words, out, line, usage) in HEAD_ROWS {
-        let written = written_by(rt.alloc(), words)?;
-        assert_eq!(&rt; written.out.as_slice(), out.as_bytes(), "{words}");
-        assert_eq!(&rt; written.line.as_slice(), line.as_bytes(), "{words}");
-        assert_eq!(&rt; written.reasons.as_slice(), usage.as_bytes(), "{words}");
-        assert!(rt; written.aside.is_empty(), "{words}");
+        expect_written(rt.alloc(), words, out, line, usage)?;
     }
     Ok(())
 }
@@ -309,10 +318,7 @@ fn heads_and_windows_apply(rt: HostRuntime) -> Result<(), Fail> {
 #[test]
 fn formats_are_installed(rt: HostRuntime) -> Result<(), Fail> {
     for (words, out, line, usage) in FORMAT_ROWS {
-        let written = written_by(rt.alloc(), words)?;
-        assert_eq!(&rt; written.out.as_slice(), out.as_bytes(), "{words}");
-        assert_eq!(&rt; written.line.as_slice(), line.as_bytes(), "{words}");
-        assert_eq!(&rt; written.reasons.as_slice(), usage.as_bytes(), "{words}");
+        expect_written(rt.alloc(), words, out, line, usage)?;
     }
     Ok(())
 }
@@ -322,8 +328,8 @@ fn formats_are_installed(rt: HostRuntime) -> Result<(), Fail> {
 fn refusals_have_reasons(rt: HostRuntime) -> Result<(), Fail> {
     for (words, start) in REFUSED_ROWS {
         let written = written_by(rt.alloc(), words)?;
-        assert!(rt; written.out.is_empty(), "{words}");
-        assert!(rt; written.reasons.starts_with(start.as_bytes()), "{words}");
+        holds(written.out.is_empty(), words)?;
+        holds(written.reasons.starts_with(start.as_bytes()), words)?;
     }
     Ok(())
 }
@@ -331,11 +337,8 @@ fn refusals_have_reasons(rt: HostRuntime) -> Result<(), Fail> {
 // The reasons of one file among many go aside, after its name.
 #[test]
 fn reasons_go_aside(rt: HostRuntime) -> Result<(), Fail> {
-    let written = written_by(rt.alloc(), "each --why p.pk P none")?;
-    assert_eq!(&rt; written.out.as_slice(), b"none\t3\tfault Open\n".as_slice());
-    assert_eq!(&rt;
-        written.aside.as_slice(),
-        b"none:\n  it isn't on the shelf\n".as_slice()
-    );
-    Ok(())
+    let words = "each --why p.pk P none";
+    let written = written_by(rt.alloc(), words)?;
+    same_bytes(&written.out, b"none\t3\tfault Open\n", words)?;
+    same_bytes(&written.aside, b"none:\n  it isn't on the shelf\n", words)
 }

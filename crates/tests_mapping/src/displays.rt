@@ -6,6 +6,7 @@ use poke_batch::accept::Refusal;
 use poke_batch::outcome::Outcome;
 use poke_batch::tell::tell;
 use std::test::Fail;
+use tests_kit::rows::{same_bytes, same_text};
 
 #[test]
 fn faults_of_mappings(rt: HostRuntime) -> Result<(), Fail> {
@@ -21,8 +22,8 @@ fn faults_of_mappings(rt: HostRuntime) -> Result<(), Fail> {
         let fault = MapFault { kind, at: 12 };
         let mut err = Vec::new(alloc);
         let _status = tell(Outcome::Fault(fault), &mut err);
-        assert!(rt; err.as_slice() == line.as_bytes(), "{line}");
-        assert_eq!(rt; format!(in alloc; "{fault}\n")?.as_str(), line);
+        same_bytes(&err, line.as_bytes(), line)?;
+        same_text(format!(in alloc; "{fault}\n")?.as_str(), line, line)?;
     }
     Ok(())
 }
@@ -43,8 +44,8 @@ fn refusals(rt: HostRuntime) -> Result<(), Fail> {
     for (refusal, line) in refusals {
         let mut err = Vec::new(alloc);
         let _status = tell(Outcome::Refused(refusal), &mut err);
-        assert!(rt; err.as_slice() == line.as_bytes(), "{line}");
-        assert_eq!(rt; format!(in alloc; "{refusal}\n")?.as_str(), line);
+        same_bytes(&err, line.as_bytes(), line)?;
+        same_text(format!(in alloc; "{refusal}\n")?.as_str(), line, line)?;
     }
     Ok(())
 }

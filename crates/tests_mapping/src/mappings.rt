@@ -12,8 +12,8 @@ use pickle_types::{Table, TypeId};
 use poke_batch::accept::accept;
 use poke_batch::{Ask, Mode, Status, print, run_map};
 use std::alloc::{AllocError, Global};
-use std::process::Abort;
 use std::test::Fail;
+use tests_kit::rows::{holds, same, same_bytes, same_text};
 
 /// More steps than any row takes.
 pub const LIMIT: u64 = 1_000_000_000;
@@ -73,15 +73,14 @@ pub fn space_of(alloc: Global, row: &Row<'_>) -> Result<MemSpace, Fail> {
 }
 
 /// Expects a row's text, steps and values.
-pub fn expect(rt: &impl Abort, row: &Row<'_>, said: &str, meter: &Meter) {
-    assert_eq!(rt; said, row.said.as_str(), "{}", row.line);
-    assert_eq!(rt; meter.steps(), row.steps, "{}", row.line);
-    assert_eq!(rt; meter.made(), row.made, "{}", row.line);
+pub fn expect(row: &Row<'_>, said: &str, meter: &Meter) -> Result<(), Fail> {
+    same_text(said, row.said.as_str(), row.line)?;
+    same(meter.steps(), row.steps, row.line)?;
+    same(meter.made(), row.made, row.line)
 }
 
 /// Maps a row into an empty store, and expects what the row says.
 pub fn expect_mapped<S: Space>(
-    rt: &impl Abort,
     alloc: Global,
     table: &Table,
     row: &Row<'_>,
@@ -92,8 +91,7 @@ pub fn expect_mapped<S: Space>(
 {
     let mut meter = Meter::new(LIMIT);
     let said = map_row(alloc, table, row, space, &mut meter, store)?;
-    expect(rt, row, said.as_str(), &meter);
-    Ok(())
+    expect(row, said.as_str(), &meter)
 }
 
 fn run_row<S: Space>(
@@ -114,7 +112,7 @@ fn run_row<S: Space>(
 }
 
 // A run of a row writes its value or its fault.
-fn expect_run(rt: &impl Abort, alloc: Global, row: &Row<'_>) -> Result<(), Fail> {
+fn expect_run(alloc: Global, row: &Row<'_>) -> Result<(), Fail> {
     let mut line = Vec::from_slice(alloc, row.said.as_bytes())?;
     line.push(b'\n')?;
     let mut out = Vec::new(alloc);
@@ -125,14 +123,13 @@ fn expect_run(rt: &impl Abort, alloc: Global, row: &Row<'_>) -> Result<(), Fail>
     } else {
         (&out, &err, Status::Done)
     };
-    assert!(rt; written.as_slice() == line.as_slice(), "{}", row.line);
-    assert!(rt; empty.is_empty(), "{}", row.line);
-    assert_eq!(rt; ended, status, "{}", row.line);
-    Ok(())
+    same_bytes(written, &line, row.line)?;
+    holds(empty.is_empty(), row.line)?;
+    same(ended, status, row.line)
 }
 
 // Whichever read of a row fails, only the fault of the device is written.
-fn expect_failures(rt: &impl Abort, alloc: Global, row: &Row<'_>) -> Result<(), Fail> {
+fn expect_failures(alloc: Global, row: &Row<'_>) -> Result<(), Fail> {
     let mut all = Failing::new(&row.bytes, 0)?;
     run_row(
         alloc,
@@ -146,15 +143,10 @@ fn expect_failures(rt: &impl Abort, alloc: Global, row: &Row<'_>) -> Result<(), 
         let mut out = Vec::new(alloc);
         let mut err = Vec::new(alloc);
         let ended = run_row(alloc, row, &mut space, &mut out, &mut err);
-        assert!(rt; out.is_empty(), "{}", row.line);
-        assert_eq!(rt;
-            err.as_slice(),
-            b"fault Device\n".as_slice(),
-            "{}",
-            row.line
-        );
-        assert_eq!(rt; ended, Status::Outside, "{}", row.line);
-        assert_eq!(rt; space.reads, failing, "{}", row.line);
+        holds(out.is_empty(), row.line)?;
+        same_bytes(&err, b"fault Device\n", row.line)?;
+        same(ended, Status::Outside, row.line)?;
+        same(space.reads, failing, row.line)?;
     }
     Ok(())
 }
@@ -163,8 +155,8 @@ fn expect_failures(rt: &impl Abort, alloc: Global, row: &Row<'_>) -> Result<(), 
 fn writes_values_and_faults(rt: HostRuntime) -> Result<(), Fail> {
     let alloc = rt.alloc();
     for row in &all_rows(alloc)? {
-        expect_run(&rt, alloc, row)?;
-        expect_failures(&rt, alloc, row)?;
+        expect_run(alloc, row)?;
+        expect_failures(alloc, row)?;
     }
     Ok(())
 }
@@ -178,38 +170,37 @@ fn slots_of(table: &Table, row: &Row<'_>) -> Result<usize, Fail> {
 }
 
 // Maps a row from memory, from pages, and twice into a store with the capacity of its bound.
-fn expect_values(rt: &impl Abort, alloc: Global, table: &Table, row: &Row<'_>) -> Result<(), Fail> {
+fn expect_values(alloc: Global, table: &Table, row: &Row<'_>) -> Result<(), Fail> {
     let mut space = space_of(alloc, row)?;
     let mut first = Store::new(alloc);
-    expect_mapped(rt, alloc, table, row, &mut space, &mut first)?;
+    expect_mapped(alloc, table, row, &mut space, &mut first)?;
     let mut pages = Paged::new(alloc, space_of(alloc, row)?)?;
     let mut second = Store::new(alloc);
-    expect_mapped(rt, alloc, table, row, &mut pages, &mut second)?;
+    expect_mapped(alloc, table, row, &mut pages, &mut second)?;
     let mut store = Store::with_room(alloc, slots_of(table, row)?)?;
-    expect_mapped(rt, alloc, table, row, &mut space, &mut store)?;
+    expect_mapped(alloc, table, row, &mut space, &mut store)?;
     store.clear();
-    assert!(rt; store.root(table).is_none(), "{}", row.line);
-    expect_mapped(rt, alloc, table, row, &mut space, &mut store)
+    holds(store.root(table).is_none(), row.line)?;
+    expect_mapped(alloc, table, row, &mut space, &mut store)
 }
 
 // With a limit below its steps, a row takes exactly as many steps as the limit. With a limit of its steps, it ends.
-fn expect_limits(rt: &impl Abort, alloc: Global, table: &Table, row: &Row<'_>) -> Result<(), Fail> {
+fn expect_limits(alloc: Global, table: &Table, row: &Row<'_>) -> Result<(), Fail> {
     let told = format!(in alloc; "fault Limit at {}#b", row.start)?;
     let mut space = space_of(alloc, row)?;
     for limit in 0..row.steps {
         let mut store = Store::new(alloc);
         let mut meter = Meter::new(limit);
         let said = map_row(alloc, table, row, &mut space, &mut meter, &mut store)?;
-        assert_eq!(rt; said.as_str(), told.as_str(), "{}", row.line);
-        assert_eq!(rt; meter.steps(), limit, "{}", row.line);
-        assert!(rt; meter.made() <= row.made, "{}", row.line);
-        assert!(rt; store.root(table).is_none(), "{}", row.line);
+        same_text(said.as_str(), told.as_str(), row.line)?;
+        same(meter.steps(), limit, row.line)?;
+        holds(meter.made() <= row.made, row.line)?;
+        holds(store.root(table).is_none(), row.line)?;
     }
     let mut store = Store::new(alloc);
     let mut meter = Meter::new(row.steps);
     let said = map_row(alloc, table, row, &mut space, &mut meter, &mut store)?;
-    expect(rt, row, said.as_str(), &meter);
-    Ok(())
+    expect(row, said.as_str(), &meter)
 }
 
 #[test]
@@ -217,8 +208,8 @@ fn maps_within_its_steps_and_its_room(rt: HostRuntime) -> Result<(), Fail> {
     let alloc = rt.alloc();
     for row in &all_rows(alloc)? {
         let table = table_of(alloc, row.pickle)?;
-        expect_values(&rt, alloc, &table, row)?;
-        expect_limits(&rt, alloc, &table, row)?;
+        expect_values(alloc, &table, row)?;
+        expect_limits(alloc, &table, row)?;
     }
     Ok(())
 }
@@ -228,8 +219,8 @@ fn maps_large_values(rt: HostRuntime) -> Result<(), Fail> {
     let alloc = rt.alloc();
     for row in &read_rows(alloc, large::TABLE)? {
         let table = table_of(alloc, row.pickle)?;
-        expect_run(&rt, alloc, row)?;
-        expect_values(&rt, alloc, &table, row)?;
+        expect_run(alloc, row)?;
+        expect_values(alloc, &table, row)?;
     }
     Ok(())
 }

@@ -6,6 +6,7 @@ use crate::tables::read_rows;
 use bit_space::{Meter, Paged};
 use pickle_map::Store;
 use std::test::Fail;
+use tests_kit::rows::{holds, same, same_text};
 
 /// Four reads: three of elements, the last of which is rolled back, and one after them.
 const ELEMENTS: &str = r#"type E = struct { byte v : v != 0; }; type A = struct { E[] es; byte z; };
@@ -51,15 +52,15 @@ fn reads_each_number_once(rt: HostRuntime) -> Result<(), Fail> {
             let mut store = Store::new(alloc);
             let mut meter = Meter::new(LIMIT);
             let said = map_row(alloc, &table, row, &mut space, &mut meter, &mut store)?;
-            assert_eq!(rt; said.as_str(), told.as_str());
-            assert_eq!(rt; meter.steps(), steps);
-            assert!(rt; meter.made() <= row.made);
-            assert!(rt; store.root(&table).is_none());
+            same_text(said.as_str(), told.as_str(), row.line)?;
+            same(meter.steps(), steps, row.line)?;
+            holds(meter.made() <= row.made, row.line)?;
+            holds(store.root(&table).is_none(), row.line)?;
         }
         let mut space = Failing::new(&row.bytes, 0)?;
         let mut store = Store::new(alloc);
-        expect_mapped(&rt, alloc, &table, row, &mut space, &mut store)?;
-        assert_eq!(rt; space.reads, 4);
+        expect_mapped(alloc, &table, row, &mut space, &mut store)?;
+        same(space.reads, 4, row.line)?;
     }
     Ok(())
 }
@@ -76,7 +77,7 @@ fn judges_the_bytes_that_it_keeps(rt: HostRuntime) -> Result<(), Fail> {
             failures: 0,
         };
         let mut store = Store::new(alloc);
-        expect_mapped(&rt, alloc, &table, row, &mut space, &mut store)?;
+        expect_mapped(alloc, &table, row, &mut space, &mut store)?;
     }
     Ok(())
 }
@@ -94,13 +95,14 @@ fn reads_each_page_once(rt: HostRuntime) -> Result<(), Fail> {
             let mut store = Store::new(alloc);
             let mut meter = Meter::new(LIMIT);
             let said = map_row(alloc, &table, row, &mut space, &mut meter, &mut store)?;
-            assert_eq!(rt; said.as_str(), "fault Device at 0#b");
-            assert!(rt; meter.steps() < row.steps && meter.made() < row.made);
+            same_text(said.as_str(), "fault Device at 0#b", row.line)?;
+            holds(meter.steps() < row.steps, row.line)?;
+            holds(meter.made() < row.made, row.line)?;
         }
         let beyond = pages.saturating_add(1);
         let mut space = Paged::new(alloc, Failing::new(&row.bytes, beyond)?)?;
         let mut store = Store::new(alloc);
-        expect_mapped(&rt, alloc, &table, row, &mut space, &mut store)?;
+        expect_mapped(alloc, &table, row, &mut space, &mut store)?;
     }
     Ok(())
 }
@@ -112,7 +114,7 @@ fn reads_a_number_across_pages(rt: HostRuntime) -> Result<(), Fail> {
         let table = table_of(alloc, row.pickle)?;
         let mut space = Paged::new(alloc, Failing::new(&row.bytes, 0)?)?;
         let mut store = Store::new(alloc);
-        expect_mapped(&rt, alloc, &table, row, &mut space, &mut store)?;
+        expect_mapped(alloc, &table, row, &mut space, &mut store)?;
     }
     Ok(())
 }

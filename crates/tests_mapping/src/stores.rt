@@ -10,8 +10,8 @@ use crate::tables::{Row, read_rows};
 use bit_space::Meter;
 use pickle_map::{Store, map};
 use std::alloc::Global;
-use std::process::Abort;
 use std::test::Fail;
+use tests_kit::rows::{holds, same, same_text};
 
 const VALUE_FAULT_VALUE: &str =
     r#"type E = struct { byte v : v != 0; }; type A = struct { E[] es; byte z; };
@@ -49,12 +49,7 @@ const THREE: &str = r#"type T = byte[3];
   T 0 big 010203 | 8 4 | [1UB,2UB,3UB]"#;
 
 // Maps a row, and clears the store after a value. A fault leaves it empty anyway.
-fn map_and_empty(
-    rt: &impl Abort,
-    alloc: Global,
-    row: &Row<'_>,
-    store: &mut Store,
-) -> Result<(), Fail>
+fn map_and_empty(alloc: Global, row: &Row<'_>, store: &mut Store) -> Result<(), Fail>
     requires empty { store.old ≡ emptied store.old }
     ensures emptied { OnOk result (store.new ≡ emptied store.new) }
     ensures room { KeepsRoom store.old store.new }
@@ -73,22 +68,22 @@ fn map_and_empty(
         }
         Err(fault) => fault_text(alloc, fault)?,
     };
-    assert!(rt; store.root(&table).is_none());
-    expect(rt, row, said.as_str(), &meter);
-    Ok(())
+    holds(store.root(&table).is_none(), row.line)?;
+    expect(row, said.as_str(), &meter)
 }
 
 #[test]
 fn maps_after_a_value_and_after_a_fault(rt: HostRuntime) -> Result<(), Fail> {
     let alloc = rt.alloc();
     let rows = read_rows(alloc, VALUE_FAULT_VALUE)?;
-    assert_eq!(rt; rows.len(), 3);
+    let [value, fault, other] = rows.as_slice() else {
+        return Err(Fail::from("not three rows"));
+    };
     let mut store = Store::new(alloc);
-    map_and_empty(&rt, alloc, &rows[0], &mut store)?;
-    map_and_empty(&rt, alloc, &rows[1], &mut store)?;
-    map_and_empty(&rt, alloc, &rows[2], &mut store)?;
-    map_and_empty(&rt, alloc, &rows[0], &mut store)?;
-    Ok(())
+    map_and_empty(alloc, value, &mut store)?;
+    map_and_empty(alloc, fault, &mut store)?;
+    map_and_empty(alloc, other, &mut store)?;
+    map_and_empty(alloc, value, &mut store)
 }
 
 // The slots of an attempt are free again before the next attempt. A store therefore needs capacity only for what is
@@ -101,9 +96,9 @@ fn maps_in_so_many_slots(rt: HostRuntime) -> Result<(), Fail> {
             let table = table_of(alloc, row.pickle)?;
             let mut space = space_of(alloc, row)?;
             let mut growing = Store::with_room(alloc, slots)?;
-            expect_mapped(&rt, alloc, &table, row, &mut space, &mut growing)?;
+            expect_mapped(alloc, &table, row, &mut space, &mut growing)?;
             let mut fixed = Store::with_most(alloc, slots)?;
-            expect_mapped(&rt, alloc, &table, row, &mut space, &mut fixed)?;
+            expect_mapped(alloc, &table, row, &mut space, &mut fixed)?;
         }
     }
     Ok(())
@@ -119,13 +114,13 @@ fn counts_up_to_what_has_no_slot(rt: HostRuntime) -> Result<(), Fail> {
             let mut store = Store::with_most(alloc, slots)?;
             let mut meter = Meter::new(LIMIT);
             let said = map_row(alloc, &table, row, &mut space, &mut meter, &mut store)?;
-            assert_eq!(rt; said.as_str(), "fault Memory at 0#b");
-            assert_eq!(rt; meter.steps(), steps);
-            assert!(rt; meter.made() <= row.made);
-            assert!(rt; store.root(&table).is_none());
+            same_text(said.as_str(), "fault Memory at 0#b", row.line)?;
+            same(meter.steps(), steps, row.line)?;
+            holds(meter.made() <= row.made, row.line)?;
+            holds(store.root(&table).is_none(), row.line)?;
         }
         let mut store = Store::with_most(alloc, 4)?;
-        expect_mapped(&rt, alloc, &table, row, &mut space, &mut store)?;
+        expect_mapped(alloc, &table, row, &mut space, &mut store)?;
     }
     Ok(())
 }

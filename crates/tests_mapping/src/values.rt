@@ -5,6 +5,7 @@ use crate::tables::read_rows;
 use pickle_map::{Store, ValueRef};
 use std::alloc::{AllocError, Global};
 use std::test::Fail;
+use tests_kit::rows::{holds, same, same_text};
 
 /// A value of each kind, an absent field, and fields and structs without a name.
 const RECORD: &str =
@@ -92,24 +93,27 @@ fn describe(alloc: Global, value: ValueRef<'_>) -> Result<String, AllocError> {
     )
 }
 
+/// What the calls return for the part at a place of the root.
+fn describe_at(alloc: Global, root: ValueRef<'_>, path: &str) -> Result<String, Fail> {
+    match part_at(root, path)? {
+        Some(part) => Ok(describe(alloc, part)?),
+        None => Ok(String::from_str(alloc, "nothing")?),
+    }
+}
+
 #[test]
 fn reads_each_part(rt: HostRuntime) -> Result<(), Fail> {
     let alloc = rt.alloc();
     for row in &read_rows(alloc, RECORD)? {
         let table = table_of(alloc, row.pickle)?;
         let mut store = Store::new(alloc);
-        assert!(rt; store.root(&table).is_none());
+        holds(store.root(&table).is_none(), row.line)?;
         let mut space = space_of(alloc, row)?;
-        expect_mapped(&rt, alloc, &table, row, &mut space, &mut store)?;
+        expect_mapped(alloc, &table, row, &mut space, &mut store)?;
         for line in PARTS.lines() {
             let (path, told) = line.split_once(": ").ok_or("no colon")?;
-            match part_at(store.root(&table).ok_or("no value")?, path)? {
-                Some(part) => {
-                    let part = describe(alloc, part)?;
-                    assert_eq!(rt; part.as_str(), told, "at {path}");
-                }
-                None => assert_eq!(rt; told, "nothing", "at {path}"),
-            }
+            let root = store.root(&table).ok_or("no value")?;
+            same_text(describe_at(alloc, root, path)?.as_str(), told, line)?;
         }
     }
     Ok(())
@@ -122,12 +126,12 @@ fn tells_sizes(rt: HostRuntime) -> Result<(), Fail> {
         let table = table_of(alloc, row.pickle)?;
         let mut space = space_of(alloc, row)?;
         let mut packing = Store::new(alloc);
-        expect_mapped(&rt, alloc, &table, row, &mut space, &mut packing)?;
+        expect_mapped(alloc, &table, row, &mut space, &mut packing)?;
         let mut counting = Store::with_room(alloc, 100)?;
-        expect_mapped(&rt, alloc, &table, row, &mut space, &mut counting)?;
+        expect_mapped(alloc, &table, row, &mut space, &mut counting)?;
         for store in [&packing, &counting] {
             let root = store.root(&table).ok_or("no value")?;
-            assert_eq!(rt; root.size(), 16, "{}", row.line);
+            same(root.size(), 16, row.line)?;
         }
     }
     Ok(())

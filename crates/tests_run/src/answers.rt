@@ -13,8 +13,8 @@ use bit_space::{MemSpace, Order};
 use poke_batch::{Ask, Mode, Status, run_bound, run_check, run_map};
 use std::alloc::Global;
 use std::io::Write;
-use std::process::Abort;
 use std::test::Fail;
+use tests_kit::rows::{holds, same_bytes, same_text};
 use tests_kit::streams::Halting;
 use tests_kit::text::{bytes_of, hex_of};
 
@@ -78,7 +78,7 @@ fn run<O: Write, E: Write>(
     Ok(run_bound(alloc, pickle, name.as_bytes(), bits, out, err))
 }
 
-fn expect(rt: &impl Abort, alloc: Global, pickle: &[u8], line: &str) -> Result<(), Fail> {
+fn expect(alloc: Global, pickle: &[u8], line: &str) -> Result<(), Fail> {
     let (asked, answer) = line.trim_start().split_once(" | ").ok_or("no bar")?;
     let (status, said) = answer.split_once(" | ").ok_or("one bar")?;
     let mut text = bytes_of(alloc, said)?;
@@ -91,11 +91,10 @@ fn expect(rt: &impl Abort, alloc: Global, pickle: &[u8], line: &str) -> Result<(
     } else {
         (&err, &out)
     };
-    assert_eq!(rt; written.as_slice(), text.as_slice(), "{line}");
-    assert!(rt; empty.is_empty(), "{line}");
+    same_bytes(written, &text, line)?;
+    holds(empty.is_empty(), line)?;
     let ended = format!(in alloc; "{ended:?}")?;
-    assert_eq!(rt; ended.as_str(), status, "{line}");
-    Ok(())
+    same_text(ended.as_str(), status, line)
 }
 
 #[test]
@@ -116,7 +115,7 @@ fn answers(rt: HostRuntime) -> Result<(), Fail> {
             let (text, lines) = block.split_once('\n').ok_or("no row")?;
             let pickle = bytes_of(alloc, text)?;
             for line in lines.lines() {
-                expect(&rt, alloc, &pickle, line)?;
+                expect(alloc, &pickle, line)?;
             }
         }
     }
@@ -125,7 +124,6 @@ fn answers(rt: HostRuntime) -> Result<(), Fail> {
 
 /// Expects the first bytes of a text on a writer that accepts only so many, and on the other writer the line of that.
 fn expect_cut(
-    rt: &impl Abort,
     alloc: Global,
     pickle: &[u8],
     line: &str,
@@ -150,35 +148,23 @@ fn expect_cut(
     } else {
         b""
     };
-    assert_eq!(rt;
+    same_bytes(
         cut.text(),
         text.get(..room).unwrap_or(text.as_slice()),
-        "{line}"
-    );
-    assert_eq!(rt; other.text(), told, "{line}");
+        line,
+    )?;
+    same_bytes(other.text(), told, line)?;
     let ended = format!(in alloc; "{ended:?}")?;
-    assert_eq!(rt;
-        ended.as_str(),
-        if whole { status } else { "Outside" },
-        "{line}"
-    );
-    Ok(())
+    same_text(ended.as_str(), if whole { status } else { "Outside" }, line)
 }
 
-fn expect_cuts(rt: &impl Abort, alloc: Global, pickle: &[u8], line: &str) -> Result<(), Fail> {
+fn expect_cuts(alloc: Global, pickle: &[u8], line: &str) -> Result<(), Fail> {
     for room in 0..=36 {
         for step in [1, 2, 3, 4, 4096] {
             for dry in [false, true] {
-                expect_cut(rt, alloc, pickle, line, room, Halting::new(room, step, dry))?;
+                expect_cut(alloc, pickle, line, room, Halting::new(room, step, dry))?;
             }
-            expect_cut(
-                rt,
-                alloc,
-                pickle,
-                line,
-                room,
-                Halting::failing_once(room, step),
-            )?;
+            expect_cut(alloc, pickle, line, room, Halting::failing_once(room, step))?;
         }
     }
     Ok(())
@@ -191,7 +177,7 @@ fn stops_where_a_writer_does(rt: HostRuntime) -> Result<(), Fail> {
         let (text, lines) = block.split_once('\n').ok_or("no row")?;
         let pickle = bytes_of(alloc, text)?;
         for line in lines.lines() {
-            expect_cuts(&rt, alloc, &pickle, line)?;
+            expect_cuts(alloc, &pickle, line)?;
         }
     }
     Ok(())

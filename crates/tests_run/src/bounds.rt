@@ -2,6 +2,7 @@
 
 use poke_batch::bound::put_bounds;
 use std::test::Fail;
+use tests_kit::rows::same_bytes;
 
 #[test]
 fn tells_bounds(rt: HostRuntime) -> Result<(), Fail> {
@@ -20,7 +21,7 @@ fn tells_bounds(rt: HostRuntime) -> Result<(), Fail> {
     ] {
         let mut out = Vec::new(rt.alloc());
         put_bounds(&mut out, steps, slots)?;
-        assert_eq!(rt; out.as_slice(), text.as_bytes());
+        same_bytes(&out, text.as_bytes(), text)?;
     }
     Ok(())
 }

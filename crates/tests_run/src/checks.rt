@@ -2,8 +2,8 @@
 
 use poke_batch::{Status, run_check};
 use std::alloc::Global;
-use std::process::Abort;
 use std::test::Fail;
+use tests_kit::rows::{holds, same, same_bytes};
 use tests_kit::text::bytes_of;
 
 /// Pickles that are accepted.
@@ -102,7 +102,7 @@ type T1 = byte[];«1..64 type T^ = T~[];» ==> TooDeep in type 64
 type A = struct {«0..1000  byte;»}; type B = struct {«0..1000  byte;»} x; ==> Syntax at byte 12039
 «0..70 type T~ = byte;»type A = uint<65>; ==> Width in type 71"#;
 
-fn expect(rt: &impl Abort, alloc: Global, pickle: &[u8], told: &str) -> Result<(), Fail> {
+fn expect(alloc: Global, pickle: &[u8], told: &str) -> Result<(), Fail> {
     let mut out = Vec::new(alloc);
     let mut err = Vec::new(alloc);
     let status = run_check(alloc, pickle, &mut out, &mut err);
@@ -116,10 +116,9 @@ fn expect(rt: &impl Abort, alloc: Global, pickle: &[u8], told: &str) -> Result<(
             Status::Refused,
         )
     };
-    assert_eq!(rt; written.as_slice(), line.as_bytes(), "{told}");
-    assert!(rt; empty.is_empty());
-    assert_eq!(rt; status, wanted);
-    Ok(())
+    same_bytes(written, line.as_bytes(), told)?;
+    holds(empty.is_empty(), told)?;
+    same(status, wanted, told)
 }
 
 #[test]
@@ -128,7 +127,7 @@ fn counts_types_or_refuses(rt: HostRuntime) -> Result<(), Fail> {
         for line in table.lines() {
             let (text, told) = line.split_once(" ==> ").ok_or("no arrow")?;
             let pickle = bytes_of(rt.alloc(), text)?;
-            expect(&rt, rt.alloc(), &pickle, told)?;
+            expect(rt.alloc(), &pickle, told)?;
         }
     }
     Ok(())

@@ -5,9 +5,9 @@ use poke_batch::{DumpFault, dump};
 use std::alloc::Global;
 use std::io;
 use std::io::Write;
-use std::process::Abort;
 use std::test::Fail;
 use tests_kit::devices::Shifting;
+use tests_kit::rows::{holds, same, same_bytes};
 use tests_kit::text::{bytes_of, hex_of};
 
 const RULER: &str = "76543210  0011 2233 4455 6677 8899 aabb ccdd eeff  0123456789ABCDEF\n";
@@ -48,7 +48,7 @@ const DUMPS: &str =
 18446744073709551615 18446744073709551615 3031323334353637383961626364656667 ==> 
 0 128 48656c6c6f ==> 00000000: 4865 6c6c 6f                             Hello`0a"#;
 
-fn expect(rt: &impl Abort, alloc: Global, line: &str) -> Result<(), Fail> {
+fn expect(alloc: Global, line: &str) -> Result<(), Fail> {
     let (asked, told) = line.split_once(" ==>").ok_or("no arrow")?;
     let (from, rest) = asked.split_once(' ').ok_or("no size")?;
     let (size, digits) = rest.split_once(' ').ok_or("no bytes")?;
@@ -57,19 +57,18 @@ fn expect(rt: &impl Abort, alloc: Global, line: &str) -> Result<(), Fail> {
     let mut space = MemSpace::new(hex_of(alloc, digits)?)?;
     let mut plain = Vec::new(alloc);
     dump(&mut space, from, size, false, &mut plain)?;
-    assert_eq!(rt; plain.as_slice(), lines.as_slice(), "{line}");
+    same_bytes(&plain, &lines, line)?;
     let mut expected = RULER.as_bytes().to_vec(alloc)?;
     expected.extend_from_slice(&lines)?;
     let mut ruled = Vec::new(alloc);
     dump(&mut space, from, size, true, &mut ruled)?;
-    assert_eq!(rt; ruled.as_slice(), expected.as_slice(), "{line}");
-    Ok(())
+    same_bytes(&ruled, &expected, line)
 }
 
 #[test]
 fn dumps(rt: HostRuntime) -> Result<(), Fail> {
     for line in DUMPS.lines() {
-        expect(&rt, rt.alloc(), line)?;
+        expect(rt.alloc(), line)?;
     }
     Ok(())
 }
@@ -78,7 +77,10 @@ fn dumps(rt: HostRuntime) -> Result<(), Fail> {
 fn reads_each_line_once(rt: HostRuntime) -> Result<(), Fail> {
     let first = "00000000: 0101 0101 0101 0101 0101 0101 0101 0101  ................\n";
     let until_failure = format!(in rt.alloc(); "{RULER}{first}")?;
-    for (failing, outcome, reads) in [(0, Ok(()), 3), (2, Err(DumpFault::Device), 2)] {
+    for (row, failing, outcome, reads) in [
+        ("no read fails", 0, Ok(()), 3),
+        ("the second read fails", 2, Err(DumpFault::Device), 2),
+    ] {
         let mut space = Shifting {
             len: 40,
             reads: 0,
@@ -87,10 +89,10 @@ fn reads_each_line_once(rt: HostRuntime) -> Result<(), Fail> {
         };
         let mut text = Vec::new(rt.alloc());
         let result = dump(&mut space, 0, 128, true, &mut text);
-        assert_eq!(rt; result, outcome);
-        assert_eq!(rt; space.reads, reads);
+        same(result, outcome, row)?;
+        same(space.reads, reads, row)?;
         let is_cut = text.as_slice() == until_failure.as_bytes();
-        assert_eq!(rt; is_cut, failing == 2);
+        same(is_cut, failing == 2, row)?;
     }
     Ok(())
 }
@@ -107,8 +109,7 @@ fn tells_places_above_4_gib(rt: HostRuntime) -> Result<(), Fail> {
     dump(&mut space, (1 << 32) - 16, 128, false, &mut text)?;
     let expected = "fffffff0: 0101 0101 0101 0101 0101 0101 0101 0101  ................\n\
 100000000: 02                                       .\n";
-    assert_eq!(rt; text.as_slice(), expected.as_bytes());
-    Ok(())
+    same_bytes(&text, expected.as_bytes(), "the last two lines")
 }
 
 #[test]
@@ -127,8 +128,12 @@ fn stops_where_the_writer_does(rt: HostRuntime) -> Result<(), Fail> {
             };
             let result = dump(&mut space, 0, 128, true, &mut writer);
             let whole = room == text.len();
-            assert_eq!(rt; result, if whole { Ok(()) } else { Err(DumpFault::Write) });
-            assert!(rt; Some(writer.taken.as_slice()) == text.as_bytes().get(..room));
+            let wanted = if whole { Ok(()) } else { Err(DumpFault::Write) };
+            same(result, wanted, line)?;
+            holds(
+                Some(writer.taken.as_slice()) == text.as_bytes().get(..room),
+                line,
+            )?;
         }
     }
     Ok(())

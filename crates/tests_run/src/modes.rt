@@ -6,6 +6,7 @@ use serde_json::Value;
 use std::alloc::{AllocError, Global};
 use std::io::Write;
 use std::test::Fail;
+use tests_kit::rows::{same, same_bytes};
 use tests_kit::streams::Halting;
 
 /// There is an empty line between cases. The first line of a case is a pickle. Then come a type's name and the file's
@@ -180,13 +181,12 @@ fn writes_each_mode(rt: HostRuntime) -> Result<(), Fail> {
         for mode in MODES {
             let mut out = Vec::new(alloc);
             let status = write_case(alloc, &case, mode, &mut out)?;
-            assert_eq!(rt; out.as_slice(), case.text(mode), "{block}");
-            assert_eq!(rt; status, Status::Done);
+            same_bytes(&out, case.text(mode), block)?;
+            same(status, Status::Done, block)?;
         }
         count = count.saturating_add(1);
     }
-    assert_eq!(rt; count, 7);
-    Ok(())
+    same(count, 7, "the number of cases")
 }
 
 #[test]
@@ -200,8 +200,9 @@ fn writes_a_first_part(rt: HostRuntime) -> Result<(), Fail> {
             let mut out = Halting::new(room, 5, false);
             let status = write_case(alloc, &case, mode, &mut out)?;
             let whole = room == text.len();
-            assert_eq!(rt; out.text(), &text[..room]);
-            assert_eq!(rt; status, if whole { Status::Done } else { Status::Outside });
+            let wanted = if whole { Status::Done } else { Status::Outside };
+            same_bytes(out.text(), &text[..room], block)?;
+            same(status, wanted, block)?;
         }
     }
     Ok(())
@@ -216,7 +217,7 @@ fn another_reader_reads_json(rt: HostRuntime) -> Result<(), Fail> {
         let text = value.to_string(alloc)?;
         // The JSON library sorts keys, and has shorter escapes for some bytes.
         if !block.contains("\\u00") {
-            assert_eq!(rt; text.len().saturating_add(1), case.json.len(), "{block}");
+            same(text.len().saturating_add(1), case.json.len(), block)?;
         }
     }
     Ok(())
@@ -227,26 +228,26 @@ fn another_reader_reads_each_shape(rt: HostRuntime) -> Result<(), Fail> {
     let alloc = rt.alloc();
     let first = read_case(alloc, CASES.split("\n\n").next().ok_or("no case")?)?;
     let value = Value::from_slice(alloc, first.json.as_slice()).map_err(|_| "not read")?;
-    assert_eq!(rt; value.pointer("/es/1/v").and_then(Value::as_u64), Some(6));
-    assert_eq!(rt; value.pointer("/z").and_then(Value::as_u64), Some(0));
+    for (pointer, number) in [("/es/1/v", 6), ("/z", 0)] {
+        same(
+            value.pointer(pointer).and_then(Value::as_u64),
+            Some(number),
+            pointer,
+        )?;
+    }
     let last = read_case(alloc, CASES.split("\n\n").last().ok_or("no case")?)?;
     let value = Value::from_slice(alloc, last.json.as_slice()).map_err(|_| "not read")?;
-    assert_eq!(rt; value.pointer("/f").and_then(Value::as_u64), Some(0));
-    assert_eq!(rt;
-        value.pointer("/2").and_then(Value::as_str),
-        Some("\u{8}\u{c}\r\u{7f}\u{ff}\\")
-    );
-    assert_eq!(rt;
-        value
-            .pointer("/e")
-            .and_then(Value::as_array)
-            .map(|e| e.len()),
-        Some(0)
-    );
-    assert_eq!(rt;
-        value.pointer("/s/magnitude").and_then(Value::as_i64),
-        Some(-2)
-    );
-    assert_eq!(rt; value.pointer("/s/unit").and_then(Value::as_u64), Some(4));
-    Ok(())
+    for (pointer, number) in [("/f", 0), ("/s/unit", 4)] {
+        same(
+            value.pointer(pointer).and_then(Value::as_u64),
+            Some(number),
+            pointer,
+        )?;
+    }
+    let negative = value.pointer("/s/magnitude").and_then(Value::as_i64);
+    same(negative, Some(-2), "/s/magnitude")?;
+    let text = value.pointer("/2").and_then(Value::as_str);
+    same(text, Some("\u{8}\u{c}\r\u{7f}\u{ff}\\"), "/2")?;
+    let array = value.pointer("/e").and_then(Value::as_array);
+    same(array.map(|e| e.len()), Some(0), "/e")
 }

@@ -2,6 +2,7 @@
 
 use poke_batch::offset_word;
 use std::test::Fail;
+use tests_kit::rows::same_text;
 use tests_kit::text::bytes_of;
 
 const WORDS: &str = r"8#B ==> Some(64)
@@ -32,7 +33,7 @@ fn reads_offsets(rt: HostRuntime) -> Result<(), Fail> {
     for line in WORDS.lines() {
         let (word, told) = line.split_once(" ==> ").ok_or("no arrow")?;
         let found = format!(in alloc; "{:?}", offset_word(&bytes_of(alloc, word)?))?;
-        assert_eq!(rt; found.as_str(), told, "{line}");
+        same_text(found.as_str(), told, line)?;
     }
     Ok(())
 }

@@ -11,9 +11,9 @@ use raw_parts::write_raw_part;
 use run_parts::outcome::{Failure, Outcome};
 use std::alloc::Global;
 use std::io::Write;
-use std::process::Abort;
 use std::test::Fail;
 use tests_kit::devices::Failing;
+use tests_kit::rows::{holds, same, same_bytes, same_text};
 use tests_kit::streams::Halting;
 use tests_kit::text::hex_of;
 
@@ -134,7 +134,7 @@ fn table_of(alloc: Global) -> Result<Table, Fail> {
     }
 }
 
-fn expect(rt: &impl Abort, alloc: Global, table: &Table, row: &str) -> Result<(), Fail> {
+fn expect(alloc: Global, table: &Table, row: &str) -> Result<(), Fail> {
     let (given, wanted) = row.split_once(" | ").ok_or("no outcome")?;
     let (line, bytes) = wanted.split_once(" |").ok_or("no bytes")?;
     let (request, file) = request_of(given).ok_or("no request")?;
@@ -144,13 +144,8 @@ fn expect(rt: &impl Abort, alloc: Global, table: &Table, row: &str) -> Result<()
     let mut told = Vec::new(alloc);
     outcome.put_line(&mut told).map_err(|_| "no line")?;
     let told = str::from_utf8(&told).map_err(|_| "no text")?.trim_end();
-    assert_eq!(rt; if told.is_empty() { "done" } else { told }, line, "{row}");
-    assert_eq!(rt;
-        out.as_slice(),
-        hex_of(alloc, bytes.trim_start())?.as_slice(),
-        "{row}"
-    );
-    Ok(())
+    same_text(if told.is_empty() { "done" } else { told }, line, row)?;
+    same_bytes(&out, &hex_of(alloc, bytes.trim_start())?, row)
 }
 
 #[test]
@@ -158,7 +153,7 @@ fn writes_the_bytes_of_parts(rt: HostRuntime) -> Result<(), Fail> {
     let alloc = rt.alloc();
     let table = table_of(alloc)?;
     for row in ROWS.lines() {
-        expect(&rt, alloc, &table, row)?;
+        expect(alloc, &table, row)?;
     }
     Ok(())
 }
@@ -189,11 +184,10 @@ fn writes_chunk_after_chunk(rt: HostRuntime) -> Result<(), Fail> {
     let mut out = Vec::new(alloc);
     let mut space = Failing::new(&file, 0)?;
     let outcome = WIDE.run(alloc, &table, &mut space, &mut out)?;
-    assert_eq!(rt; outcome, Outcome::Done);
-    assert!(rt; Some(out.as_slice()) == file.get(1..200_001));
+    same(outcome, Outcome::Done, "outcome")?;
+    holds(Some(out.as_slice()) == file.get(1..200_001), "bytes")?;
     // Four numbers are mapped, and four chunks copied.
-    assert_eq!(rt; space.reads, 8);
-    Ok(())
+    same(space.reads, 8, "reads")
 }
 
 #[test]
@@ -205,8 +199,8 @@ fn stops_at_a_failing_read(rt: HostRuntime) -> Result<(), Fail> {
         let mut out = Vec::new(alloc);
         let mut space = Failing::new(&file, failing)?;
         let outcome = WIDE.run(alloc, &table, &mut space, &mut out)?;
-        assert_eq!(rt; outcome, Outcome::Failed(Failure::Device));
-        assert!(rt; Some(out.as_slice()) == file.get(1..1 + written));
+        same(outcome, Outcome::Failed(Failure::Device), "outcome")?;
+        holds(Some(out.as_slice()) == file.get(1..1 + written), "bytes")?;
     }
     Ok(())
 }
@@ -219,8 +213,7 @@ fn stops_at_a_failing_writer(rt: HostRuntime) -> Result<(), Fail> {
     let mut out = Halting::new(70_000, 1000, false);
     let mut space = Failing::new(&file, 0)?;
     let outcome = WIDE.run(alloc, &table, &mut space, &mut out)?;
-    assert_eq!(rt; outcome, Outcome::Failed(Failure::Write));
-    assert!(rt; Some(out.text()) == file.get(1..81));
-    assert_eq!(rt; space.reads, 6);
-    Ok(())
+    same(outcome, Outcome::Failed(Failure::Write), "outcome")?;
+    holds(Some(out.text()) == file.get(1..81), "bytes")?;
+    same(space.reads, 6, "reads")
 }

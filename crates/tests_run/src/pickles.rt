@@ -2,6 +2,7 @@
 
 use poke_batch::{PickleFault, read_pickle};
 use std::test::Fail;
+use tests_kit::rows::{same, same_bytes};
 use tests_kit::streams::{Blanks, OneByOne};
 
 #[test]
@@ -12,15 +13,15 @@ fn reads_byte_by_byte_up_to_an_error(rt: HostRuntime) -> Result<(), Fail> {
         failing: 0,
     };
     let pickle = read_pickle(rt.alloc(), &mut reader)?;
-    assert_eq!(rt; pickle.as_slice(), b"abc".as_slice());
+    same_bytes(&pickle, b"abc", "all bytes")?;
     reader = OneByOne {
         bytes: b"abc",
         reads: 0,
         failing: 2,
     };
-    assert!(rt; read_pickle(rt.alloc(), &mut reader).err() == Some(PickleFault::Read));
-    assert_eq!(rt; reader.reads, 2);
-    Ok(())
+    let fault = read_pickle(rt.alloc(), &mut reader).err();
+    same(fault, Some(PickleFault::Read), "the second read")?;
+    same(reader.reads, 2, "reads")
 }
 
 #[test]

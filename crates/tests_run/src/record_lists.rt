@@ -9,6 +9,7 @@ use poke_batch::{Ask, Mode};
 use records::{Ended, Listing, list_records};
 use std::alloc::{AllocError, Global};
 use std::test::Fail;
+use tests_kit::rows::same_text;
 
 const PICKLE: &str = "type One = struct { byte v : v != 0; };\n\
     type Text = struct { byte n : n < 9; byte[n] letters; };\n\
@@ -144,7 +145,7 @@ fn lists_records(rt: HostRuntime) -> Result<(), Fail> {
         let (given, wanted) = line.split_once(" | ").ok_or("no end")?;
         let row = row_of(given).ok_or("no row")?;
         let (out, ended) = list(alloc, &table, &row)?;
-        assert_eq!(rt; told(alloc, &out, ended)?.as_str(), wanted, "{line}");
+        same_text(told(alloc, &out, ended)?.as_str(), wanted, line)?;
     }
     Ok(())
 }

@@ -3,6 +3,7 @@
 use poke_batch::accept::accept;
 use poke_batch::pattern::read_pattern;
 use std::test::Fail;
+use tests_kit::rows::same;
 use type_parts::twice::can_match_twice;
 
 const PICKLE: &str = "type Lone = struct { byte only; };\n\
@@ -56,7 +57,7 @@ fn matches_twice(rt: HostRuntime) -> Result<(), Fail> {
         let id = table.find(name.as_bytes()).ok_or("no type")?;
         let pattern = read_pattern(rt.alloc(), word.as_bytes())?;
         let answer = can_match_twice(rt.alloc(), &table, id, &pattern)?;
-        assert_eq!(rt; answer, twice == "true", "{row}");
+        same(answer, twice == "true", row)?;
     }
     Ok(())
 }

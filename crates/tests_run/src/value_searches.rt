@@ -11,6 +11,7 @@ use searches::{Search, Searched, search_values};
 use std::alloc::{AllocError, Global};
 use std::test::Fail;
 use tests_kit::devices::Failing;
+use tests_kit::rows::same_text;
 
 const PICKLE: &str = "type One = struct { byte v : v != 0; };\n\
     type Seven = struct { byte v : v == 7; };\n\
@@ -114,13 +115,7 @@ fn bytes_in(alloc: Global, word: &str) -> Result<Vec<u8>, AllocError> {
     Ok(bytes)
 }
 
-// Searches as a row says, and returns what is printed and how the search ends.
-fn search(alloc: Global, table: &Table, row: &Row<'_>) -> Result<(Vec<u8>, Searched), Fail> {
-    let mut space = MemSpace::new(bytes_in(alloc, row.bytes)?)?;
-    search_in(alloc, table, row, &mut space)
-}
-
-// The same in a space.
+// Searches in a space as a row says, and returns what is printed and how the search ends.
 fn search_in<S: Space>(
     alloc: Global,
     table: &Table,
@@ -179,24 +174,27 @@ fn table_of(alloc: Global) -> Result<Table, Fail> {
     }
 }
 
+/// The read that fails in a search as the row below says, and what the search gives. At each place the number is read
+/// before the type is mapped, which reads it again. If the first of these reads fails, it decides nothing.
+const FAILING: &str = "\
+1 | 0x0\t0x1;0x1\t0x1;0x2\t0x1;done 24 3 82 None
+2 | fault Device 0 0 100 None
+4 | 0x0\t0x1;fault Device 8 1 94 None
+6 | 0x0\t0x1;0x1\t0x1;fault Device 16 2 88 None
+7 | 0x0\t0x1;0x1\t0x1;0x2\t0x1;done 24 3 82 None
+";
+
 #[test]
 fn keeps_its_lines_at_a_failing_read(rt: HostRuntime) -> Result<(), Fail> {
     let alloc = rt.alloc();
     let table = table_of(alloc)?;
     let row = row_of("One 1,2,3 0 100 8 50 - no - flat").ok_or("no row")?;
     let file = bytes_in(alloc, row.bytes)?;
-    // At each place the number is read before the type is mapped, which reads it again. If the first of these reads fails,
-    // it decides nothing.
-    for (failing, wanted) in [
-        (1, "0x0\t0x1;0x1\t0x1;0x2\t0x1;done 24 3 82 None"),
-        (2, "fault Device 0 0 100 None"),
-        (4, "0x0\t0x1;fault Device 8 1 94 None"),
-        (6, "0x0\t0x1;0x1\t0x1;fault Device 16 2 88 None"),
-        (7, "0x0\t0x1;0x1\t0x1;0x2\t0x1;done 24 3 82 None"),
-    ] {
-        let mut space = Failing::new(&file, failing)?;
+    for line in FAILING.lines() {
+        let (failing, wanted) = line.split_once(" | ").ok_or("no end")?;
+        let mut space = Failing::new(&file, failing.parse::<u64>()?)?;
         let (out, ended) = search_in(alloc, &table, &row, &mut space)?;
-        assert_eq!(rt; answer(alloc, &out, ended)?.as_str(), wanted, "{failing}");
+        same_text(answer(alloc, &out, ended)?.as_str(), wanted, line)?;
     }
     Ok(())
 }
@@ -208,8 +206,9 @@ fn searches_values(rt: HostRuntime) -> Result<(), Fail> {
     for line in ROWS.lines() {
         let (given, wanted) = line.split_once(" | ").ok_or("no end")?;
         let row = row_of(given).ok_or("no row")?;
-        let (out, ended) = search(alloc, &table, &row)?;
-        assert_eq!(rt; answer(alloc, &out, ended)?.as_str(), wanted, "{line}");
+        let mut space = MemSpace::new(bytes_in(alloc, row.bytes)?)?;
+        let (out, ended) = search_in(alloc, &table, &row, &mut space)?;
+        same_text(answer(alloc, &out, ended)?.as_str(), wanted, line)?;
     }
     Ok(())
 }
