@@ -45,8 +45,19 @@ pub fn put_usage<E: Write>(text: &str, explained: bool, err: &mut E) -> Result<(
 
 // Adds which command has a near name, if the first argument is none.
 fn tell_command(alloc: Global, word: &str, text: &mut Vec<u8>) -> Result<(), AllocError> {
-    let commands: [&[u8]; 9] = [
-        b"map", b"show", b"each", b"bound", b"check", b"types", b"formats", b"dump", b"help",
+    let commands: [&[u8]; 12] = [
+        b"map",
+        b"show",
+        b"each",
+        b"records",
+        b"find",
+        b"identify",
+        b"bound",
+        b"check",
+        b"types",
+        b"formats",
+        b"dump",
+        b"help",
     ];
     let word = word.as_bytes();
     if word.first() == Some(&b'-') || commands.contains(&word) {
