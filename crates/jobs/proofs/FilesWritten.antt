@@ -8,7 +8,8 @@ use Rattle.jobs.specs.Aims.{IsAskAt}
 use Rattle.command_line.specs.Starts.{start_bit}
 use Rattle.jobs.specs.Every.{AppendsFile, CutsFile, run_text, runs_of}
 use Rattle.jobs.specs.FaultNames.{failure_of}
-use Rattle.jobs.specs.Files.{Every, IsFormed, Mapped, MapsFrom, maps_from, maps_over, identifies_from, RunsFile, no_text, unopened, no_cache, opened, WritesRun, AppendsRun, CutsRun}
+use Rattle.jobs.specs.Mapped.{Mapped}
+use Rattle.jobs.specs.Files.{Every, IsFormed, MapsFrom, maps_from, maps_over, identifies_from, RunsFile, no_text, unopened, no_cache, opened, WritesRun, AppendsRun, CutsRun}
 use Rattle.jobs.specs.Gives.{Gives}
 use Rattle.jobs.specs.Opened.{FailsNamed, not_text, not_opened, no_pages}
 use Rattle.jobs.specs.declared.fault.FileFault.{FileFault}

@@ -1,5 +1,5 @@
 -- What standard output holds of a search for many formats.
-use Rattle.std.proofs.Common.{◌*◌, ℕ, List, ◌++◌, Option, Ok, sym, subst}
+use Rattle.std.proofs.Common.{ℕ, List, ◌++◌, Option, Ok, sym, subst}
 use Rattle.std.proofs.lemmas.List.{append-nil}
 use Rattle.std.specs.Io.KnownBytes.{Appends}
 use Rattle.bit_space.specs.SpaceView.{SpaceView}

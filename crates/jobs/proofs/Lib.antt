@@ -16,8 +16,10 @@ mod Among
 mod Readable
 mod Listed
 mod Explained
+mod Told
 pub mod Recorded
 pub mod Searched
 pub mod Hunts
 pub mod Copied
 pub mod Tasked
+mod Requested

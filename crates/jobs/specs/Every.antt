@@ -1,7 +1,9 @@
 -- What is written about many files, by what their runs are given.
-use Rattle.std.specs.Prelude.{ℕ, List, Option}
+use Rattle.std.specs.Prelude.{Bool, ℕ, List, Option}
 use Rattle.jobs.specs.Gives.{Gives}
-use Rattle.jobs.specs.Files.{Every, AppendsRun, CutsRun, IdentifiesFrom, Mapped, MapsFrom, RunsFile}
+use Rattle.jobs.specs.Explained.{AreUnfinished, ExplainsFrom}
+use Rattle.jobs.specs.Files.{Every, AppendsRun, CutsRun, IdentifiesFrom, MapsFrom, RunsFile}
+use Rattle.jobs.specs.Mapped.{Mapped}
 use Rattle.jobs.specs.Aims.{aim_of}
 use Rattle.jobs.specs.declared.file_run.FileForm.{FileForm}
 use Rattle.jobs.specs.declared.file_run.FileForm.TheVariants.{Line, Object}
@@ -36,6 +38,11 @@ abbrev pub runs_of : Work → (start : ℕ) → (file : SpaceView) → (MayFail 
 runs_of (Map typed) = MapsFrom (mapped_of typed)
 runs_of (Identify identity) = IdentifiesFrom identity.formats.now identity.all identity.form
 
+-- the lines that explain how it ended, if reasons are requested
+abbrev pub explains_of : (why : Bool) → Work → (start : ℕ) → (file : SpaceView) → (lines : List ℕ) → Type 0
+explains_of why (Map typed) start file = ExplainsFrom (mapped_of typed) why start file
+explains_of why (Identify identity) start file = AreUnfinished identity.formats.now
+
 abbrev pub every_of : Task → Every
 every_of task = record {
   start = task.start;
@@ -44,6 +51,7 @@ every_of task = record {
   form = task.form;
   why = task.explains;
   runs = runs_of task.work;
+  explains = explains_of task.explains task.work;
 }
 
 -- what a task needs of its type, and of what is stored from file to file

@@ -9,12 +9,12 @@ use Rattle.command_line.specs.declared.answer_form.AnswerForm.TheVariants as ans
 use Rattle.command_line.specs.declared.ask.Ask.{Ask}
 use Rattle.command_line.specs.declared.fault_form.FaultForm.{FaultForm}
 use Rattle.command_line.specs.declared.start.Start.{Start}
-use Rattle.command_line.specs.declared.terms.Terms.{Terms}
 use Rattle.identification.specs.declared.format.Formats.{Formats}
 use Rattle.identity_text.specs.Identities.{IdentifiesFile}
 use Rattle.jobs.specs.FaultNames.{failure_of}
 use Rattle.jobs.specs.Gives.{Gives}
-use Rattle.jobs.specs.Aims.{Aim, IsAskAt}
+use Rattle.jobs.specs.Aims.{IsAskAt}
+use Rattle.jobs.specs.Mapped.{Mapped}
 use Rattle.jobs.specs.Names.{most_name}
 use Rattle.jobs.specs.declared.fault.FileFault.{FileFault}
 use Rattle.jobs.specs.declared.file_run.FileForm.{FileForm}
@@ -55,7 +55,7 @@ greater a b = if nat_lt (rank a) (rank b) then b else a
 
 -- what is done with every file: where it starts, after how many bytes the file ends, how many bytes of one without a
 -- length are read, the form of what is written, whether reasons are requested, and how the run over what is seen of an
--- open file ends, of which a read may fail, and the text that it writes
+-- open file ends, of which a read may fail, and the text that it writes; and the lines that explain how it ended
 pub record Every : Type 1 where
   pub start : Start
   pub window : Option ℕ
@@ -63,12 +63,7 @@ pub record Every : Type 1 where
   pub form : FileForm
   pub why : Bool
   pub runs : (start : ℕ) → (file : SpaceView) → (MayFail : Type 0) → Outcome → (text : List ℕ) → Type 0
-
--- what is mapped over every file: the pickle, what is mapped, and under which terms
-pub record Mapped : Type 0 where
-  pub pickle : List ℕ
-  pub aim : Aim
-  pub terms : Terms
+  pub explains : (start : ℕ) → (file : SpaceView) → (lines : List ℕ) → Type 0
 
 -- what is written of a file: its line, or its object with reasons, if they are requested
 abbrev pub IsFormed : FileForm → (why : Bool) → (name : List ℕ) → Outcome → (text line : List ℕ) → Type 0

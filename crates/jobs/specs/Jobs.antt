@@ -20,6 +20,7 @@ use Rattle.command_line.specs.declared.words.Job.TheVariants as job
 use Rattle.jobs.specs.Aims.{IsAskAt, Requested, of_request, plain_request}
 use Rattle.jobs.specs.Chosen.{bound_type}
 use Rattle.jobs.specs.Due.{DueOver, DueRun, End, Holds}
+use Rattle.jobs.specs.Explained.{AreUnfinished, ExplainsFrom}
 use Rattle.jobs.specs.Formats.{DueFormats}
 use Rattle.jobs.specs.Files.{Every, IdentifiesFrom, MapsFrom, answer_form, file_form}
 use Rattle.identification.specs.declared.format.Formats.{Formats}
@@ -111,6 +112,7 @@ every_for why requested pickle = record {
   form = file_form requested.aim.mode requested.faults;
   why = why;
   runs = MapsFrom (record { pickle = pickle; aim = requested.aim; terms = requested.terms });
+  explains = ExplainsFrom (record { pickle = pickle; aim = requested.aim; terms = requested.terms }) why;
 }
 
 -- what finding the formats of files does with every file
@@ -122,6 +124,7 @@ every_format why asked form formats = record {
   form = answer_form form asked.faults;
   why = why;
   runs = IdentifiesFrom formats asked.all form;
+  explains = λ start file. AreUnfinished formats;
 }
 
 -- of what the head of a pickle says: nothing but a usage error if it doesn't say that

@@ -2,11 +2,12 @@ pub mod Chosen
 pub mod Aims
 pub mod FaultNames
 pub mod Gives
+pub mod Telling
 pub mod Names
 pub mod Opened
-pub mod Reasons
 pub mod Endings
 pub mod Due
+pub mod Reasons
 pub mod Installed
 pub mod Formats
 pub mod Spaces
@@ -15,9 +16,12 @@ pub mod PlaceNames
 pub mod Tasks
 pub mod Hunted
 pub mod Identified
+pub mod Mapped
+pub mod Explained
 pub mod Files
 pub mod LongNames
 pub mod Lines
 pub mod Every
 pub mod Jobs
 pub mod Given
+pub mod Asides

@@ -1,8 +1,9 @@
 //! A type of a pickle, mapped over many files.
 ghost use Rattle.std.specs.Prelude.{◌≡◌, Ok};
 ghost use Rattle.jobs.specs.Aims.{of_mapping};
+ghost use Rattle.jobs.specs.Asides.{Tells, TellsFile};
 ghost use Rattle.jobs.specs.Due.{Holds};
-ghost use Rattle.jobs.specs.Jobs.{DueEach};
+ghost use Rattle.jobs.specs.Jobs.{DueEach, every_for};
 
 use crate::aside::Aside;
 use crate::ending::Ending;
@@ -10,14 +11,14 @@ use crate::file_run::{FileForm, Task, Typed, Work};
 use crate::many_files::run_files;
 use crate::opener::{NamedPickle, Opener};
 use crate::settings::Mapping;
-use crate::why::{Why, explain, explain_parts};
+use crate::why::{Why, explain_parts};
 use command_line::request::FileNames;
 use poke_batch::resolve::{refuse_parts, resolve};
 use std::alloc::Global;
 use std::io::Write;
 
 /// Maps a type of a pickle that was read over many files, and writes a line for each. Ends with the greatest exit status
-/// of all.
+/// of all. A refusal of the pickle, or of the type's name, is the caller's to explain.
 #[inline(never)]
 pub fn map_each<P: Opener, A: Aside, O: Write>(
     alloc: Global,
@@ -29,15 +30,14 @@ pub fn map_each<P: Opener, A: Aside, O: Write>(
     aside: &mut A,
     why: &mut Why<'_>,
 ) -> Ending
-    ensures { let due = DueEach (P.gives opener.now) why.old.asked (of_mapping mapping.entry) names.now in
+    ensures holds { let due = DueEach (P.gives opener.now) why.old.asked (of_mapping mapping.entry) names.now in
         Holds (due pickle.now.bytes.items) (O.contents out.old) (O.contents out.new) (Ok result) }
+    ensures told { let every = every_for why.old.asked (of_mapping mapping.entry) pickle.now.bytes.items in
+        Tells (TellsFile (P.gives opener.now) every) (A.told aside.old) (A.told aside.new) }
 {
     let (table, id) = match resolve(alloc, &pickle.bytes, mapping.name) {
         Ok(found) => found,
-        Err(outcome) => {
-            explain(alloc, why, outcome, pickle, mapping.name);
-            return Ending::Run(outcome);
-        }
+        Err(outcome) => return Ending::Run(outcome),
     };
     if let Some(outcome) = refuse_parts(alloc, &table, id, mapping.terms) {
         explain_parts(alloc, why, outcome, &table, id, mapping.terms);

@@ -1,21 +1,25 @@
 //! What is done with one file among many: a type of a pickle is mapped over it, or its format is found.
-ghost use Rattle.std.specs.Prelude.{◌≡◌, [], false, IfOk, IfErr, IfSome, OnErr, OnOk};
+ghost use Rattle.std.specs.Prelude.{◌≡◌, ◌++◌, [], false, true, IfOk, IfErr, IfSome, OnErr, OnOk};
 ghost use Rattle.std.specs.Io.KnownBytes.{Appends, Keeps};
 ghost use Rattle.bit_space.specs.SpaceView.{HasRisen, Keeps as SpaceKeeps};
 ghost use Rattle.text_output.specs.Written.{AppendsPart};
 ghost use Rattle.pickle_types.specs.TypeTable.{nodes_of};
 ghost use Rattle.poke_batch.specs.Ready.{IsReady};
 ghost use Rattle.run_parts.specs.Outcomes.{outcome_status};
+ghost use Rattle.jobs.specs.Asides.{Tells, TellsInForm, TellsLines, TellsName, TellsOutcome, TellsRun, aside_text};
+ghost use Rattle.jobs.specs.Endings.{is_mapped};
 ghost use Rattle.jobs.specs.Every.{AppendsFile, CutsFile, IsReadyFor, IsSet, IsTyped, every_of, mapped_of, run_text, runs_of};
+ghost use Rattle.jobs.specs.Explained.{AreUnfinished, ExplainsFrom, IsOpeningLine, SaysRun, opening_text, unfinished_line};
 ghost use Rattle.jobs.specs.Files.{AppendsRun, CutsRun, EndsBy, IdentifiesFrom, MapsFrom, answer_form, file_form};
 ghost use Rattle.jobs.specs.Opened.{FailsNamed};
+ghost use Rattle.jobs.specs.Reasons.{lines_of};
 
 use crate::aside::Aside;
 use crate::fault::FileFault;
 use crate::one_file::is_mapped;
 use crate::opener::{Lengthless, NamedPickle, Opener};
 use crate::settings::Mapping;
-use crate::why::reasons_of;
+use crate::why::{Reasons, reasons_of};
 use bit_space::{Memory, OpenFault, Paged, Space};
 use command_line::answer_form::AnswerForm;
 use command_line::start::Start;
@@ -32,8 +36,11 @@ use poke_batch::status::Status;
 use poke_batch::type_run::TypeRun;
 use poke_batch::write::{WriteFault, put};
 use spool::Window;
-use std::alloc::Global;
+use std::alloc::{AllocError, Global};
 use std::io::Write;
+
+/// What is told aside of a file for whose reasons an allocation failed.
+const UNTOLD: &[u8] = b"memory doesn't suffice for the reasons of a file\n";
 
 /// What is done with each of many files.
 #[derive(Clone, Copy)]
@@ -138,6 +145,8 @@ pub fn run_name<P: Opener, A: Aside, O: Write>(
         (AppendsFile (P.gives opener.now) (every_of task.entry) name.now (O.contents out.old) (O.contents out.new)) }
     ensures err { OnErr result
         (CutsFile (P.gives opener.now) (every_of task.entry) name.now (O.contents out.old) (O.contents out.new)) }
+    ensures told { Tells (TellsName (P.gives opener.now) (every_of task.entry) name.now) (A.told aside.old)
+        (A.told aside.new) }
 {
     aside.show();
     let status = match open_named(opener, task.spool, name) {
@@ -154,7 +163,8 @@ pub fn finish_file<A: Aside, O: Write>(
     aside: &mut A,
     out: &mut O,
 ) -> Result<(), WriteFault>
-    ensures { Keeps (O.contents out.old) (O.contents out.new) }
+    ensures out { Keeps (O.contents out.old) (O.contents out.new) }
+    ensures told { Keeps (A.told aside.old) (A.told aside.new) }
 {
     if task.flush {
         aside.clear();
@@ -176,6 +186,7 @@ pub fn put_failed<A: Aside, O: Write>(
         (AppendsRun (EndsBy failure) (every_of task.entry) name.now (O.contents out.old) (O.contents out.new)) }
     ensures err { OnErr result
         (CutsRun (EndsBy failure) (every_of task.entry) name.now (O.contents out.old) (O.contents out.new)) }
+    ensures told { Keeps (A.told aside.old) (A.told aside.new) }
 {
     aside.show();
     let outcome = Outcome::Failed(failure);
@@ -213,6 +224,8 @@ fn run_opened<P: Opener, A: Aside, O: Write>(
         (AppendsFile (P.gives opener.now) (every_of task.entry) name.now (O.contents out.old) (O.contents out.new)) }
     ensures err { OnErr result
         (CutsFile (P.gives opener.now) (every_of task.entry) name.now (O.contents out.old) (O.contents out.new)) }
+    ensures told { Tells (TellsName (P.gives opener.now) (every_of task.entry) name.now) (A.told aside.old)
+        (A.told aside.new) }
 {
     let Some(start) = task.start.bit_in(&bytes) else {
         return put_run(task.form, name, Outcome::Offset, b"", b"", out);
@@ -248,6 +261,8 @@ fn run_space<S: Space, A: Aside, O: Write>(
     ensures err { let risen = HasRisen (S.view space.old).failures (S.view space.new).failures in OnErr result
         (CutsRun (runs_of task.entry.work start (S.view space.old) risen) (every_of task.entry) name.now
         (O.contents out.old) (O.contents out.new)) }
+    ensures told { Tells (TellsRun name.now ((every_of task.entry).explains start (S.view space.old)))
+        (A.told aside.old) (A.told aside.new) }
     ensures keeps { SpaceKeeps (S.view space.old) (S.view space.new) }
 {
     match task.work {
@@ -274,6 +289,8 @@ fn identify_space<S: Space, A: Aside, O: Write>(
     ensures err { let risen = HasRisen (S.view space.old).failures (S.view space.new).failures in OnErr result
         (CutsRun (IdentifiesFrom identity.entry.formats.now identity.entry.all identity.entry.form start
         (S.view space.old) risen) (every_of task.entry) name.now (O.contents out.old) (O.contents out.new)) }
+    ensures told { Tells (TellsRun name.now (AreUnfinished identity.entry.formats.now)) (A.told aside.old)
+        (A.told aside.new) }
     ensures keeps { SpaceKeeps (S.view space.old) (S.view space.new) }
 {
     let mut text = Vec::new(task.alloc);
@@ -293,19 +310,25 @@ fn identify_space<S: Space, A: Aside, O: Write>(
 }
 
 // The lines that name the formats at some places, whose attempts took too long. If an allocation fails there are none.
-fn unfinished_lines(alloc: Global, formats: &Formats, unfinished: &[usize]) -> Vec<u8> {
+fn unfinished_lines(alloc: Global, formats: &Formats, unfinished: &[usize]) -> Vec<u8>
+    ensures { AreUnfinished formats.now result.items }
+{
     let mut lines = Vec::new(alloc);
     for place in unfinished {
         if let Some(format) = formats.list.get(*place) {
-            if put_unfinished(&mut lines, &format.name).is_err() {
-                return Vec::new(alloc);
+            match put_unfinished(&mut lines, &format.name) {
+                Ok(()) => {}
+                Err(WriteFault) => return Vec::new(alloc),
             }
         }
     }
     lines
 }
 
-fn put_unfinished(lines: &mut Vec<u8>, format: &[u8]) -> Result<(), WriteFault> {
+#[tactic(auto, using(text_output::proofs::Parts::written))]
+fn put_unfinished(lines: &mut Vec<u8>, format: &[u8]) -> Result<(), WriteFault>
+    ensures { OnOk result (lines.new.items ≡ lines.old.items ++ unfinished_line format.now) }
+{
     put(lines, b"  trying ")?;
     put_name(lines, format)?;
     put(lines, b" took more than 1000000000 steps\n")
@@ -357,36 +380,49 @@ fn run_unopened<P: Opener, A: Aside, O: Write>(
         (AppendsFile (P.gives opener.now) (every_of task.entry) name.now (O.contents out.old) (O.contents out.new)) }
     ensures err { OnErr result
         (CutsFile (P.gives opener.now) (every_of task.entry) name.now (O.contents out.old) (O.contents out.new)) }
+    ensures told { Tells (TellsName (P.gives opener.now) (every_of task.entry) name.now) (A.told aside.old)
+        (A.told aside.new) }
 {
     let lines = unopened_lines(opener, task, name, fault);
     let outcome = Outcome::Failed(fault.failure());
-    let status = put_run(task.form, name, outcome, b"", &lines, out)?;
-    tell_reasons(task, name, &lines, aside, out)?;
+    let status = put_run(task.form, name, outcome, b"", lines.lines(), out)?;
+    tell_reasons(task, name, lines.lines(), aside, out)?;
     Ok(status)
 }
 
-// The line that says why a file wasn't opened, if that is requested. If an allocation fails there is none.
-fn unopened_lines<P: Opener>(opener: &P, task: Task<'_>, name: &[u8], fault: FileFault) -> Vec<u8>
-    ensures quiet { task.entry.explains ≡ false → result.items ≡ [] }
+// The line that says why a file wasn't opened, if that is requested.
+fn unopened_lines<P: Opener>(opener: &P, task: Task<'_>, name: &[u8], fault: FileFault) -> Reasons
+    ensures quiet { task.entry.explains ≡ false → lines_of result ≡ [] }
+    ensures lines { IsOpeningLine (lines_of result) }
 {
-    let mut lines = Vec::new(task.alloc);
-    if task.explains && fault == FileFault::Space(OpenFault::NotOpened) {
-        let reason = match str::from_utf8(name) {
-            Ok(path) => opener.reason(path, Lengthless::with_spool(task.spool)),
-            Err(_) => "the name isn't UTF-8",
-        };
-        if put_line(&mut lines, reason).is_err() {
-            lines.clear();
-        }
+    if !task.explains || fault != FileFault::Space(OpenFault::NotOpened) {
+        return Reasons::new(task.alloc);
     }
-    lines
+    let reason = match str::from_utf8(name) {
+        Ok(path) => opener.reason(path, Lengthless::with_spool(task.spool)),
+        Err(_) => "the name isn't UTF-8",
+    };
+    opening_line(task.alloc, reason)
 }
 
-/// Adds a line that says why a file isn't opened.
-pub fn put_line(lines: &mut Vec<u8>, reason: &str) -> Result<(), WriteFault> {
-    put(lines, b"  ")?;
-    put(lines, reason.as_bytes())?;
-    put(lines, b"\n")
+/// The line that says why a file isn't opened.
+pub fn opening_line(alloc: Global, reason: &str) -> Reasons
+    ensures { IsOpeningLine (lines_of result) }
+{
+    let mut line = Vec::new(alloc);
+    match put_line(&mut line, reason) {
+        Ok(()) => Reasons::made(alloc, Ok(line)),
+        Err(WriteFault) => Reasons::made(alloc, Err(AllocError)),
+    }
+}
+
+#[tactic(auto, using(text_output::proofs::Parts::written))]
+fn put_line(line: &mut Vec<u8>, reason: &str) -> Result<(), WriteFault>
+    ensures { OnOk result (line.new.items ≡ line.old.items ++ opening_text reason.now) }
+{
+    put(line, b"  ")?;
+    put(line, reason.as_bytes())?;
+    put(line, b"\n")
 }
 
 // Maps a type over what is seen of an open file, and writes the run in its form.
@@ -409,6 +445,11 @@ fn map_space<S: Space, A: Aside, O: Write>(
     ensures err { let risen = HasRisen (S.view space.old).failures (S.view space.new).failures in OnErr result
         (CutsRun (MapsFrom (mapped_of typed.entry) start (S.view space.old) risen) (every_of task.entry) name.now
         (O.contents out.old) (O.contents out.new)) }
+    ensures told { Tells (TellsRun name.now (ExplainsFrom (mapped_of typed.entry) task.entry.explains start
+        (S.view space.old))) (A.told aside.old) (A.told aside.new) }
+    ensures outcome { task.entry.explains ≡ true →
+        OnOk result (TellsOutcome task.entry.form (mapped_of typed.entry) start
+        (S.view space.old) kept.new.outcome name.now (A.told aside.old) (A.told aside.new)) }
     ensures keeps { SpaceKeeps (S.view space.old) (S.view space.new) }
 {
     let ask = &typed.mapping.ask_at(start, space.len());
@@ -423,35 +464,37 @@ fn map_space<S: Space, A: Aside, O: Write>(
         FileForm::Line(faults) => {
             let status = run_file(&run, faults, kept, name, space, out)?;
             let lines = reason_lines(task, typed.pickle, &run, kept.outcome(), space);
-            tell_reasons(task, name, &lines, aside, out)?;
+            tell_reasons(task, name, lines.lines(), aside, out)?;
             Ok(status)
         }
         FileForm::Object => {
             map_file(&run, kept, space);
             let lines = reason_lines(task, typed.pickle, &run, kept.outcome(), space);
-            kept.put_object(out, name, &lines)
+            kept.put_object(out, name, lines.lines())
         }
     }
 }
 
-// The lines that explain how the run of a file ended, if they are requested and the file was mapped. If an allocation
-// fails there are none.
+// The lines that explain how the run of a file ended, if they are requested and the file was mapped.
 fn reason_lines<S: Space>(
     task: Task<'_>,
     pickle: &NamedPickle,
     run: &TypeRun<'_>,
     outcome: Outcome,
     space: &mut S,
-) -> Vec<u8>
-    ensures quiet { task.entry.explains ≡ false → result.items ≡ [] }
+) -> Reasons
+    ensures quiet { task.entry.explains ≡ false → lines_of result ≡ [] }
+    ensures unmapped { is_mapped (outcome_status outcome) ≡ false → lines_of result ≡ [] }
+    ensures says { task.entry.explains ≡ true → is_mapped (outcome_status outcome) ≡ true
+        → SaysRun (S.view space.old) (S.view space.new) run.now outcome result }
     ensures keeps { SpaceKeeps (S.view space.old) (S.view space.new) }
 {
     if !task.explains || !is_mapped(outcome.status()) {
-        return Vec::new(task.alloc);
+        return Reasons::new(task.alloc);
     }
     match reasons_of(run, pickle, outcome, space) {
-        Ok(reasons) => reasons.text,
-        Err(_) => Vec::new(task.alloc),
+        Ok(reasons) => Reasons::made(task.alloc, Ok(reasons.text)),
+        Err(AllocError) => Reasons::made(task.alloc, Err(AllocError)),
     }
 }
 
@@ -463,7 +506,8 @@ pub fn tell_reasons<A: Aside, O: Write>(
     aside: &mut A,
     out: &mut O,
 ) -> Result<(), WriteFault>
-    ensures { Keeps (O.contents out.old) (O.contents out.new) }
+    ensures out { Keeps (O.contents out.old) (O.contents out.new) }
+    ensures told { TellsInForm task.entry.form name.now lines.now (A.told aside.old) (A.told aside.new) result }
 {
     match task.form {
         FileForm::Line(_) => tell_lines(task.alloc, name, lines, aside, out),
@@ -471,7 +515,8 @@ pub fn tell_reasons<A: Aside, O: Write>(
     }
 }
 
-// Writes lines about a file aside, after its name and after what `out` has of it.
+// Writes lines about a file aside, after its name and after what `out` has of it. The file's exit status is that of its
+// line, even if they can't be written.
 fn tell_lines<A: Aside, O: Write>(
     alloc: Global,
     name: &[u8],
@@ -479,22 +524,26 @@ fn tell_lines<A: Aside, O: Write>(
     aside: &mut A,
     out: &mut O,
 ) -> Result<(), WriteFault>
-    ensures { Keeps (O.contents out.old) (O.contents out.new) }
+    ensures out { Keeps (O.contents out.old) (O.contents out.new) }
+    ensures told { TellsLines name.now lines.now (A.told aside.old) (A.told aside.new) result }
 {
     if lines.is_empty() {
         return Ok(());
     }
     aside.clear();
     flush(out)?;
-    // The file's exit status is that of its line, even if its reasons can't be written.
     let mut text = Vec::new(alloc);
-    if gather_reasons(&mut text, name, lines).is_ok() {
-        aside.tell(&text);
+    match gather_reasons(&mut text, name, lines) {
+        Ok(()) => aside.tell(&text),
+        Err(WriteFault) => aside.tell(UNTOLD),
     }
     Ok(())
 }
 
-fn gather_reasons(text: &mut Vec<u8>, name: &[u8], lines: &[u8]) -> Result<(), WriteFault> {
+#[tactic(auto, using(text_output::proofs::Parts::written))]
+fn gather_reasons(text: &mut Vec<u8>, name: &[u8], lines: &[u8]) -> Result<(), WriteFault>
+    ensures { OnOk result (text.new.items ≡ text.old.items ++ aside_text name.now lines.now) }
+{
     put_name(text, name)?;
     put(text, b":\n")?;
     put(text, lines)

@@ -13,7 +13,7 @@ use crate::one_file::{map_space, tell, tell_start};
 use crate::opener::{NamedPickle, Opener};
 use crate::settings::{Mapping, settle_terms};
 use crate::usage::{end_formatless, refuse};
-use crate::why::Why;
+use crate::why::{Why, explain};
 use bit_space::{Order, Paged, Space};
 use command_line::request::{Over, Request};
 use identification::{Documented, Format, Formats, identify};
@@ -119,7 +119,7 @@ fn none_fits(why: &mut Why<'_>) -> Outcome
     ensures { result ≡ Outcome.Unidentified }
 {
     if why.asked {
-        tell(why.text, NONE_FITS);
+        tell(&mut why.reasons.text, NONE_FITS);
     }
     Outcome::Unidentified
 }
@@ -203,6 +203,7 @@ fn show_as<S: Space, O: Write>(
     let mapping = Mapping::of_type(request, &documented.name, order);
     let ask = &mapping.ask_at(start, space.len());
     let outcome = map_space(alloc, pickle, ask, mapping.terms, space, out, why);
+    explain(alloc, why, outcome, pickle, &documented.name);
     tell_taken(outcome, pickle, why);
     outcome
 }
@@ -212,7 +213,7 @@ fn tell_taken(outcome: Outcome, pickle: &NamedPickle, why: &mut Why<'_>) {
     if !why.asked || outcome.status() != Status::Fault {
         return;
     }
-    tell(why.text, b"  the file was identified by ");
-    tell(why.text, pickle.path.as_bytes());
-    tell(why.text, b"\n");
+    tell(&mut why.reasons.text, b"  the file was identified by ");
+    tell(&mut why.reasons.text, pickle.path.as_bytes());
+    tell(&mut why.reasons.text, b"\n");
 }

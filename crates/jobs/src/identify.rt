@@ -1,5 +1,6 @@
 //! The formats of many files, among the pickles that are installed.
 ghost use Rattle.std.specs.Prelude.{◌≡◌, Ok, map, option_map};
+ghost use Rattle.jobs.specs.Asides.{Tells, TellsFile, TellsFormats};
 ghost use Rattle.jobs.specs.Due.{Holds};
 ghost use Rattle.jobs.specs.Files.{answer_form};
 ghost use Rattle.jobs.specs.Installed.{HasFormats, installed_pickle};
@@ -33,8 +34,10 @@ pub fn identify_each<P: Opener, O: Write, A: Aside>(
     aside: &mut A,
     why: &mut Why<'_>,
 ) -> Result<Ending, FileFault>
-    ensures { Holds (DueIdentified (P.gives opener.now) why.old.asked asked.now form)
+    ensures holds { Holds (DueIdentified (P.gives opener.now) why.old.asked asked.now form)
         (O.contents out.old) (O.contents out.new) result }
+    ensures told { Tells (TellsFormats (P.gives opener.now) why.old.asked asked.now form)
+        (A.told aside.old) (A.told aside.new) }
 {
     let installed = opener.read_installed(asked.folder.as_deref())?;
     match formats_among(alloc, &installed) {
@@ -59,8 +62,11 @@ fn identify_among<P: Opener, O: Write, A: Aside>(
     aside: &mut A,
     explains: bool,
 ) -> Ending
-    ensures { Holds (DueNamed (P.gives opener.now) (every_format explains asked.now form formats.now) asked.now.names)
+    ensures holds { let every = every_format explains asked.now form formats.now in
+        Holds (DueNamed (P.gives opener.now) every asked.now.names)
         (O.contents out.old) (O.contents out.new) (Ok result) }
+    ensures told { let every = every_format explains asked.now form formats.now in
+        Tells (TellsFile (P.gives opener.now) every) (A.told aside.old) (A.told aside.new) }
 {
     let identity = Identity {
         formats,

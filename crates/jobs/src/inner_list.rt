@@ -9,7 +9,7 @@ ghost use Rattle.poke_batch.specs.TypeRuns.{run_type};
 use crate::one_file::{is_mapped, tell};
 use crate::opener::NamedPickle;
 use crate::record_list::{is_limit, listing_of, report_end, tell_limit, write_names};
-use crate::why::{Why, explain_parts, reasons_of};
+use crate::why::{Why, explain_mapped, explain_parts};
 use bit_space::{Memory, Space};
 use command_line::path::Path;
 use command_line::request::RecordList;
@@ -94,12 +94,11 @@ fn list_elements<S: Space, O: Write>(
 
 fn tell_if_asked(why: &mut Why<'_>, line: &[u8]) {
     if why.asked {
-        tell(why.text, line);
+        tell(&mut why.reasons.text, line);
     }
 }
 
-// Explains why there is no record where a list ended, if reasons are requested: what stops a mapping of the whole value. If
-// an allocation fails nothing is said.
+// Explains why there is no record where a list ended, if reasons are requested: what stops a mapping of the whole value.
 fn explain_inner_end<S: Space>(
     run: &TypeRun<'_>,
     pickle: &NamedPickle,
@@ -117,7 +116,5 @@ fn explain_inner_end<S: Space>(
         tell_limit(run.alloc, run.ask.limit, progress, why);
         return;
     }
-    if let Ok(reasons) = reasons_of(run, pickle, outcome, space) {
-        *why.text = reasons.text;
-    }
+    explain_mapped(run, pickle, outcome, space, why);
 }

@@ -1,13 +1,17 @@
 //! A name of a list that is too long to be opened. Its line is written as the name is read, so it needs no memory.
 ghost use Rattle.std.specs.Prelude.{◌≡◌, ◌++◌, [], false, IfOk, OnErr, OnOk};
 ghost use Rattle.std.specs.Io.KnownBytes.{Appends};
+ghost use Rattle.jobs.specs.Asides.{Tells, TellsLong};
 ghost use Rattle.jobs.specs.Every.{every_of};
+ghost use Rattle.jobs.specs.Explained.{IsOpeningLine};
+ghost use Rattle.jobs.specs.Reasons.{lines_of};
 ghost use Rattle.jobs.specs.LongNames.{CopiesRest, CutsLong, CutsRest, WritesLong, before_name, end_of_name, name_part, rest_failure};
 ghost use Rattle.text_output.specs.Written.{AppendsPart};
 
 use crate::aside::Aside;
-use crate::file_run::{FileForm, Task, finish_file, put_line, tell_reasons};
+use crate::file_run::{FileForm, Task, finish_file, opening_line, tell_reasons};
 use crate::names::next_byte;
+use crate::why::Reasons;
 use poke_batch::file_line::{put_after_name, put_name};
 use poke_batch::file_object::{put_later_members, put_name_bytes};
 use poke_batch::outcome::{Failure, Outcome};
@@ -48,13 +52,19 @@ pub fn run_long<L: Read, A: Aside, O: Write>(
         (O.contents out.old) (O.contents out.new)) }
     ensures err { OnErr result (CutsLong (every_of task.entry) start.now (L.remaining list.old)
         (O.contents out.old) (O.contents out.new)) }
+    ensures told { Tells (TellsLong (every_of task.entry) start.now) (A.told aside.old) (A.told aside.new) }
 {
     aside.show();
     put_start(task.form, start, out)?;
     let rest = put_rest(task.form, list, out)?;
     let lines = long_lines(task, rest);
-    put_end(task.form, Outcome::Failed(rest.failure()), &lines, out)?;
-    tell_reasons(task, start, &lines, aside, out)?;
+    put_end(
+        task.form,
+        Outcome::Failed(rest.failure()),
+        lines.lines(),
+        out,
+    )?;
+    tell_reasons(task, start, lines.lines(), aside, out)?;
     finish_file(task, aside, out)?;
     Ok(rest)
 }
@@ -117,18 +127,15 @@ fn put_rest<L: Read, O: Write>(
     Ok(Rest::Unread)
 }
 
-// The line that says why the file of a long name isn't opened, if that is requested. If an allocation fails there is
-// none.
-fn long_lines(task: Task<'_>, rest: Rest) -> Vec<u8>
-    ensures quiet { task.entry.explains ≡ false → result.items ≡ [] }
+// The line that says why the file of a long name isn't opened, if that is requested.
+fn long_lines(task: Task<'_>, rest: Rest) -> Reasons
+    ensures quiet { task.entry.explains ≡ false → lines_of result ≡ [] }
+    ensures lines { IsOpeningLine (lines_of result) }
 {
-    let mut lines = Vec::new(task.alloc);
-    if task.explains && rest == Rest::Ended {
-        if put_line(&mut lines, "the name has more than 4096 bytes").is_err() {
-            lines.clear();
-        }
+    if !task.explains || rest != Rest::Ended {
+        return Reasons::new(task.alloc);
     }
-    lines
+    opening_line(task.alloc, "the name has more than 4096 bytes")
 }
 
 // Writes the end of a line, after its name.

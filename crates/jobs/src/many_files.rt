@@ -1,6 +1,7 @@
 //! Many files, whose names are in the arguments or in a list, one after another.
 ghost use Rattle.std.specs.Prelude.{◌≡◌, ◌<◌, Ok, IfErr, IfNone, IfOk, IfSome, OnErr, vec_capacity};
 ghost use Rattle.std.specs.Io.KnownBytes.{IsAtEnd, Keeps};
+ghost use Rattle.jobs.specs.Asides.{Tells, TellsFile};
 ghost use Rattle.jobs.specs.Due.{Holds};
 ghost use Rattle.jobs.specs.Every.{IsReadyFor, IsSet, every_of};
 ghost use Rattle.jobs.specs.Files.{AppendsLine, CutsLine, WritesWord, greater, rank};
@@ -32,8 +33,9 @@ pub fn run_files<P: Opener, A: Aside, O: Write>(
     aside: &mut A,
 ) -> Ending
     requires set { IsSet task.work }
-    ensures { Holds (DueNamed (P.gives opener.now) (every_of task.entry) files.now)
+    ensures holds { Holds (DueNamed (P.gives opener.now) (every_of task.entry) files.now)
         (O.contents out.old) (O.contents out.new) (Ok result) }
+    ensures told { Tells (TellsFile (P.gives opener.now) (every_of task.entry)) (A.told aside.old) (A.told aside.new) }
 {
     let ending = run_names(opener, task, files, out, aside);
     aside.clear();
@@ -59,8 +61,9 @@ fn run_names<P: Opener, A: Aside, O: Write>(
     aside: &mut A,
 ) -> Ending
     requires set { IsSet task.work }
-    ensures { Holds (DueNamed (P.gives opener.now) (every_of task.entry) files.now)
+    ensures holds { Holds (DueNamed (P.gives opener.now) (every_of task.entry) files.now)
         (O.contents out.old) (O.contents out.new) (Ok result) }
+    ensures told { Tells (TellsFile (P.gives opener.now) (every_of task.entry)) (A.told aside.old) (A.told aside.new) }
 {
     match files {
         FileNames::Words(words) => {
@@ -82,8 +85,9 @@ fn run_words<P: Opener, A: Aside, O: Write>(
     aside: &mut A,
 ) -> Result<Status, WriteFault>
     requires set { IsSet task.work }
-    ensures { HoldsWords (P.gives opener.now) (every_of task.entry) words.now
+    ensures holds { HoldsWords (P.gives opener.now) (every_of task.entry) words.now
         (O.contents out.old) (O.contents out.new) result }
+    ensures told { Tells (TellsFile (P.gives opener.now) (every_of task.entry)) (A.told aside.old) (A.told aside.new) }
 {
     let mut kept = store_for(task);
     let mut greatest = Status::Done;
@@ -111,6 +115,7 @@ fn run_word<P: Opener, A: Aside, O: Write>(
         (O.contents out.old) (O.contents out.new)) }
     ensures err { OnErr result (CutsLine (WritesWord (P.gives opener.now) (every_of task.entry) word.now)
         (O.contents out.old) (O.contents out.new)) }
+    ensures told { Tells (TellsFile (P.gives opener.now) (every_of task.entry)) (A.told aside.old) (A.told aside.new) }
 {
     match opener.file_name(word) {
         Ok(name) => run_name(opener, task, kept, name.as_bytes(), aside, out),
@@ -127,8 +132,9 @@ fn run_list<P: Opener, L: Read + Drop, A: Aside, O: Write>(
     aside: &mut A,
 ) -> Result<Status, ListFault>
     requires set { IsSet task.work }
-    ensures { HoldsList (P.gives opener.now) (every_of task.entry) (L.remaining list)
+    ensures holds { HoldsList (P.gives opener.now) (every_of task.entry) (L.remaining list)
         (O.contents out.old) (O.contents out.new) result }
+    ensures told { Tells (TellsFile (P.gives opener.now) (every_of task.entry)) (A.told aside.old) (A.told aside.new) }
 {
     let Ok(mut list) = BufReader::new(task.alloc, list) else {
         return Err(ListFault::Memory);
@@ -175,6 +181,7 @@ fn run_next<P: Opener, L: BufRead, A: Aside, O: Write>(
         (IsAtEnd (L.remaining list.old) × Keeps (O.contents out.old) (O.contents out.new))) }
     ensures err { IfErr result (StopsNext (P.gives opener.now) (every_of task.entry) (L.remaining list.old)
         (O.contents out.old) (O.contents out.new)) }
+    ensures told { Tells (TellsFile (P.gives opener.now) (every_of task.entry)) (A.told aside.old) (A.told aside.new) }
 {
     let next = read_name(list, name)?;
     let bytes = name.as_slice();

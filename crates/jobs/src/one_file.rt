@@ -12,7 +12,7 @@ use crate::ending::Ending;
 use crate::fault::FileFault;
 use crate::opener::{NamedPickle, Opener};
 use crate::settings::Mapping;
-use crate::why::{Why, explain, explain_parts, reasons_of};
+use crate::why::{Reasons, Why, explain_parts, reasons_of};
 use bit_space::{Order, Paged, Space};
 use command_line::start::Start;
 use pickle_heads::head_of;
@@ -62,7 +62,8 @@ pub fn map_file<P: Opener, O: Write>(
     Ok(Ending::Run(outcome))
 }
 
-/// Maps a type of a pickle over a space and, if reasons are requested, explains how the run ended.
+/// Maps a type of a pickle over a space and, if reasons are requested, explains how the run ended. A refusal of the pickle,
+/// or of the type's name, is the caller's to explain.
 pub fn map_space<S: Space, O: Write>(
     alloc: Global,
     pickle: &NamedPickle,
@@ -78,10 +79,7 @@ pub fn map_space<S: Space, O: Write>(
 {
     let (table, id) = match resolve(alloc, &pickle.bytes, ask.name) {
         Ok(found) => found,
-        Err(outcome) => {
-            explain(alloc, why, outcome, pickle, ask.name);
-            return outcome;
-        }
+        Err(outcome) => return outcome,
     };
     if let Some(outcome) = refuse_parts(alloc, &table, id, terms) {
         explain_parts(alloc, why, outcome, &table, id, terms);
@@ -118,13 +116,14 @@ fn explain_run<S: Space, O: Write>(
         return outcome;
     }
     let Ok(reasons) = reasons_of(run, pickle, outcome, space) else {
+        why.reasons.lose();
         return outcome;
     };
     let ended = show_met(run.terms, outcome, reasons.met.as_slice(), out);
     if ended == outcome {
-        *why.text = reasons.text;
+        *why.reasons = Reasons::made(run.alloc, Ok(reasons.text));
         if !is_within(run.terms.most_output, &reasons.met) {
-            tell(why.text, TOO_LONG);
+            tell(&mut why.reasons.text, TOO_LONG);
         }
     }
     ended
@@ -166,13 +165,16 @@ pub fn tell_arguments(path: &str, order: Order, pickle: &NamedPickle, why: &mut 
     }
     if path.ends_with(PICKLE_ENDING) {
         tell(
-            why.text,
+            &mut why.reasons.text,
             b"  FILE ends in .pk: are PICKLE and FILE swapped?\n",
         );
     }
     let head = head_of(b"", &pickle.bytes);
     if order == Order::Big && head.options.order == Some(Order::Little) {
-        tell(why.text, b"  the pickle's head says: --endian little\n");
+        tell(
+            &mut why.reasons.text,
+            b"  the pickle's head says: --endian little\n",
+        );
     }
 }
 
@@ -194,7 +196,7 @@ pub fn tell_start(alloc: Global, why: &mut Why<'_>, start: Start, bytes: u64) {
         return;
     }
     if let Ok(line) = format!(in alloc; "  --byte -{back}: the file has {bytes} bytes\n") {
-        *why.text = line.into_bytes();
+        *why.reasons = Reasons::made(alloc, Ok(line.into_bytes()));
     }
 }
 

@@ -5,7 +5,7 @@ ghost use Rattle.jobs.specs.Tasks.{CopiesSpace, IsRunOf};
 
 use crate::one_file::is_mapped;
 use crate::opener::NamedPickle;
-use crate::why::{Why, reasons_of};
+use crate::why::{Why, explain_mapped};
 use bit_space::Space;
 use poke_batch::outcome::Outcome;
 use poke_batch::type_run::TypeRun;
@@ -30,7 +30,7 @@ pub fn copy_part<S: Space, O: Write>(
     outcome
 }
 
-// Explains how a run ended, if reasons are requested. If an allocation fails nothing is said.
+// Explains how a run ended, if reasons are requested.
 fn explain_copy<S: Space>(
     run: &TypeRun<'_>,
     pickle: &NamedPickle,
@@ -40,10 +40,7 @@ fn explain_copy<S: Space>(
 )
     ensures { Keeps (S.view space.old) (S.view space.new) }
 {
-    if !why.asked || !is_mapped(outcome.status()) {
-        return;
-    }
-    if let Ok(reasons) = reasons_of(run, pickle, outcome, space) {
-        *why.text = reasons.text;
+    if why.asked && is_mapped(outcome.status()) {
+        explain_mapped(run, pickle, outcome, space, why);
     }
 }

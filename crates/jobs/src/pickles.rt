@@ -1,8 +1,9 @@
 //! The jobs that read a pickle alone.
-ghost use Rattle.std.specs.Prelude.{◌≡◌, IfNone, IfSome, Ok};
+ghost use Rattle.std.specs.Prelude.{◌≡◌, IfNone, IfSome, Ok, Some};
 ghost use Rattle.jobs.specs.Due.{DueOver, Holds};
 ghost use Rattle.jobs.specs.Given.{DueAnswer, IsAskedAbout, IsOverFiles};
 ghost use Rattle.jobs.specs.Jobs.{DueBound, DueTextBound, DueTightBound};
+ghost use Rattle.jobs.specs.Reasons.{Explains, ExplainsWord};
 ghost use Rattle.jobs.specs.declared.ending.Ending.TheVariants.{Run};
 
 use crate::answers::{check_in_json, types_in_json};
@@ -112,8 +113,9 @@ pub fn answer_about<P: Opener, O: Write>(
     out: &mut O,
     why: &mut Why<'_>,
 ) -> Result<Ending, FileFault>
-    ensures { Holds (DueOver (P.gives opener.now) word.now (DueAnswer why.old.asked word.now question.entry))
+    ensures holds { Holds (DueOver (P.gives opener.now) word.now (DueAnswer why.old.asked word.now question.entry))
         (O.contents out.old) (O.contents out.new) result }
+    ensures says { ExplainsWord (P.gives opener.now) (Some word.now) why.old.asked why.new.reasons.now result }
 {
     let pickle = opener.read_pickle(word)?;
     Ok(answer(alloc, &pickle, word, question, out, why))
@@ -128,8 +130,9 @@ fn answer<O: Write>(
     out: &mut O,
     why: &mut Why<'_>,
 ) -> Ending
-    ensures { Holds (DueAnswer why.old.asked word.now question.entry pickle.now.bytes.items)
+    ensures holds { Holds (DueAnswer why.old.asked word.now question.entry pickle.now.bytes.items)
         (O.contents out.old) (O.contents out.new) (Ok result) }
+    ensures says { Explains (λ source. source ≡ pickle.now) why.old.asked why.new.reasons.now (Ok result) }
 {
     match question {
         Question::Check(AnswerForm::Json) => check_in_json(alloc, &pickle.bytes, why.asked, out),
@@ -167,8 +170,9 @@ fn answer_bound<O: Write>(
     out: &mut O,
     why: &mut Why<'_>,
 ) -> Ending
-    ensures { Holds (DueBound word.now name.now bits pickle.now.bytes.items)
+    ensures holds { Holds (DueBound word.now name.now bits pickle.now.bytes.items)
         (O.contents out.old) (O.contents out.new) (Ok result) }
+    ensures says { Explains (λ source. source ≡ pickle.now) why.old.asked why.new.reasons.now (Ok result) }
 {
     match bound_type(word, name, &pickle.bytes) {
         Ok(name) => {
@@ -189,8 +193,9 @@ fn answer_tight_bound<O: Write>(
     out: &mut O,
     why: &mut Why<'_>,
 ) -> Ending
-    ensures { Holds (DueTightBound word.now name.now bits pickle.now.bytes.items)
+    ensures holds { Holds (DueTightBound word.now name.now bits pickle.now.bytes.items)
         (O.contents out.old) (O.contents out.new) (Ok result) }
+    ensures says { Explains (λ source. source ≡ pickle.now) why.old.asked why.new.reasons.now (Ok result) }
 {
     match bound_type(word, name, &pickle.bytes) {
         Ok(name) => {
@@ -211,8 +216,9 @@ fn answer_text_bound<O: Write>(
     out: &mut O,
     why: &mut Why<'_>,
 ) -> Ending
-    ensures { Holds (DueTextBound word.now name.now texts.bits texts.style texts.mode pickle.now.bytes.items)
+    ensures holds { Holds (DueTextBound word.now name.now texts.bits texts.style texts.mode pickle.now.bytes.items)
         (O.contents out.old) (O.contents out.new) (Ok result) }
+    ensures says { Explains (λ source. source ≡ pickle.now) why.old.asked why.new.reasons.now (Ok result) }
 {
     match bound_type(word, name, &pickle.bytes) {
         Ok(name) => {
@@ -231,7 +237,8 @@ fn end_in_words(
     name: &[u8],
     why: &mut Why<'_>,
 ) -> Ending
-    ensures { result ≡ Run outcome }
+    ensures is { result ≡ Run outcome }
+    ensures says { Explains (λ source. source ≡ pickle.now) why.old.asked why.new.reasons.now (Ok result) }
 {
     explain(alloc, why, outcome, pickle, name);
     Ending::Run(outcome)

@@ -9,7 +9,7 @@ use crate::by_head::list_path;
 use crate::inner_list::list_inside;
 use crate::one_file::{is_mapped, tell};
 use crate::opener::NamedPickle;
-use crate::why::{Why, reasons_of};
+use crate::why::{Why, explain_mapped};
 use bit_space::Space;
 use command_line::path::{Path, PathFault, read_path};
 use command_line::request::{RecordList, RecordsOf};
@@ -122,7 +122,7 @@ pub fn listing_of(list: RecordList) -> Listing
     }
 }
 
-// Explains why there is no record where a list ended, if reasons are requested. If an allocation fails nothing is said.
+// Explains why there is no record where a list ended, if reasons are requested.
 fn explain_end<S: Space>(
     run: &TypeRun<'_>,
     pickle: &NamedPickle,
@@ -152,9 +152,7 @@ fn explain_end<S: Space>(
         Outcome::Left(_) => next.map_new(space, &mut Vec::new(run.alloc)),
         _ => outcome,
     };
-    if let Ok(reasons) = reasons_of(&next, pickle, stopped, space) {
-        *why.text = reasons.text;
-    }
+    explain_mapped(&next, pickle, stopped, space, why);
 }
 
 /// Whether a list ended since no step was left.
@@ -168,7 +166,7 @@ pub fn tell_limit(alloc: Global, limit: u64, progress: Progress, why: &mut Why<'
     if let Ok(line) = format!(in alloc;
         "  the steps of all records are used up: --limit {limit}, of which {left} were left here\n"
     ) {
-        tell(why.text, line.as_bytes());
+        tell(&mut why.reasons.text, line.as_bytes());
     }
 }
 
@@ -180,6 +178,6 @@ pub fn report_end(wanted: bool, alloc: Global, progress: Progress, why: &mut Why
     }
     let Progress { place, count, .. } = progress;
     if let Ok(line) = format!(in alloc; "end {place}#b records {count}\n") {
-        tell(why.text, line.as_bytes());
+        tell(&mut why.reasons.text, line.as_bytes());
     }
 }

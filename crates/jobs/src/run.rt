@@ -1,9 +1,12 @@
 //! A job, done over an opener and a writer.
-ghost use Rattle.std.specs.Prelude.{◌≡◌, ◌≢◌};
+ghost use Rattle.std.specs.Prelude.{◌≡◌, ◌≢◌, Some};
+ghost use Rattle.command_line.specs.Subjects.{pickle_of};
 ghost use Rattle.jobs.specs.Aims.{of_mapping};
+ghost use Rattle.jobs.specs.Asides.{Tells, TellsJob, TellsOver, TellsRequest, TellsSettled};
 ghost use Rattle.jobs.specs.Due.{DueOver, Holds};
 ghost use Rattle.jobs.specs.Given.{DueSettled, IsOverFiles};
 ghost use Rattle.jobs.specs.Jobs.{DueFile, DueMapping, DueRequest, DueUnnamed, HoldsJob};
+ghost use Rattle.jobs.specs.Reasons.{Explains, ExplainsWord, word_of};
 
 use crate::aside::Aside;
 use crate::by_head::{Chosen, choose, first_order};
@@ -21,7 +24,7 @@ use crate::pickles::{answer_about, question_of};
 use crate::settings::{Mapping, settle_terms};
 use crate::task::{Task, do_in_file};
 use crate::usage::refuse;
-use crate::why::Why;
+use crate::why::{Why, explain_ending};
 use command_line::request::{Over, Request};
 use command_line::subject::Subject;
 use poke_batch::terms::Terms;
@@ -43,8 +46,11 @@ pub fn run_job<P: Opener, O: Write, A: Aside>(
     aside: &mut A,
     why: &mut Why<'_>,
 ) -> Result<Ending, FileFault>
-    ensures { HoldsJob (P.gives opener.now) why.old.asked asked.old.job asked.old.answer
+    ensures holds { HoldsJob (P.gives opener.now) why.old.asked asked.old.job asked.old.answer
         (O.contents out.old) (O.contents out.new) result }
+    ensures says { ExplainsWord (P.gives opener.now) (word_of asked.old.job) why.old.asked why.new.reasons.now result }
+    ensures told { Tells (TellsJob (P.gives opener.now) why.old.asked asked.old.job asked.old.answer)
+        (A.told aside.old) (A.told aside.new) }
 {
     match question_of(asked) {
         Some((word, question)) => answer_about(alloc, opener, word, question, out, why),
@@ -62,8 +68,11 @@ fn run_over_files<P: Opener, O: Write, A: Aside>(
     why: &mut Why<'_>,
 ) -> Result<Ending, FileFault>
     requires over { IsOverFiles asked.old.job }
-    ensures { HoldsJob (P.gives opener.now) why.old.asked asked.old.job asked.old.answer
+    ensures holds { HoldsJob (P.gives opener.now) why.old.asked asked.old.job asked.old.answer
         (O.contents out.old) (O.contents out.new) result }
+    ensures says { ExplainsWord (P.gives opener.now) (word_of asked.old.job) why.old.asked why.new.reasons.now result }
+    ensures told { Tells (TellsJob (P.gives opener.now) why.old.asked asked.old.job asked.old.answer)
+        (A.told aside.old) (A.told aside.new) }
 {
     match &mut asked.job {
         Job::Request(request) => run_request(alloc, opener, request, out, aside, why),
@@ -82,8 +91,11 @@ fn run_plain<P: Opener, O: Write, A: Aside>(
 ) -> Result<Ending, FileFault>
     requires over { IsOverFiles asked.now.job }
     requires plain { (request : Request) → asked.now.job ≢ Job.Request request }
-    ensures { HoldsJob (P.gives opener.now) why.old.asked asked.now.job asked.now.answer
+    ensures holds { HoldsJob (P.gives opener.now) why.old.asked asked.now.job asked.now.answer
         (O.contents out.old) (O.contents out.new) result }
+    ensures says { ExplainsWord (P.gives opener.now) (word_of asked.now.job) why.old.asked why.new.reasons.now result }
+    ensures told { Tells (TellsJob (P.gives opener.now) why.old.asked asked.now.job asked.now.answer)
+        (A.told aside.old) (A.told aside.new) }
 {
     match &asked.job {
         Job::Map {
@@ -111,7 +123,7 @@ fn run_plain<P: Opener, O: Write, A: Aside>(
                 ruler: *ruler,
                 tells_rest: asked.default_size,
             };
-            dump_file(alloc, opener, file, range, out, why.text)
+            dump_file(alloc, opener, file, range, out, &mut why.reasons.text)
         }
         Job::Identify(files) => {
             let form = asked.answer;
@@ -132,11 +144,15 @@ fn map_plain<P: Opener, O: Write>(
     out: &mut O,
     why: &mut Why<'_>,
 ) -> Result<Ending, FileFault>
-    ensures { let due = DueFile (P.gives opener.now) why.old.asked (of_mapping mapping.entry) path.now in
+    ensures holds { let due = DueFile (P.gives opener.now) why.old.asked (of_mapping mapping.entry) path.now in
         Holds (DueOver (P.gives opener.now) word.now due) (O.contents out.old) (O.contents out.new) result }
+    ensures says { ExplainsWord (P.gives opener.now) (Some word.now) why.old.asked why.new.reasons.now result }
 {
     let pickle = opener.read_pickle(word)?;
-    map_file(alloc, opener, mapping, &pickle, path, out, why)
+    let asked = why.asked;
+    let ended = map_file(alloc, opener, mapping, &pickle, path, out, why);
+    explain_ending(alloc, asked, why.reasons, ended, &pickle, mapping.name);
+    ended
 }
 
 // Does what a request says, once its pickle says which type is mapped.
@@ -148,8 +164,12 @@ fn run_request<P: Opener, O: Write, A: Aside>(
     aside: &mut A,
     why: &mut Why<'_>,
 ) -> Result<Ending, FileFault>
-    ensures { Holds (DueRequest (P.gives opener.now) why.old.asked request.old)
+    ensures holds { Holds (DueRequest (P.gives opener.now) why.old.asked request.old)
         (O.contents out.old) (O.contents out.new) result }
+    ensures says { ExplainsWord (P.gives opener.now) (pickle_of request.old.subject) why.old.asked why.new.reasons.now
+        result }
+    ensures told { Tells (TellsRequest (P.gives opener.now) why.old.asked request.old)
+        (A.told aside.old) (A.told aside.new) }
 {
     let Some(word) = request.subject.pickle() else {
         return run_unnamed(alloc, opener, request, out, why);
@@ -199,8 +219,11 @@ fn run_settled<P: Opener, O: Write, A: Aside>(
     aside: &mut A,
     why: &mut Why<'_>,
 ) -> Result<Ending, FileFault>
-    ensures { let due = DueSettled (P.gives opener.now) why.old.asked request.now in
+    ensures holds { let due = DueSettled (P.gives opener.now) why.old.asked request.now in
         Holds (due pickle.now.bytes.items) (O.contents out.old) (O.contents out.new) result }
+    ensures says { Explains (λ source. source ≡ pickle.now) why.old.asked why.new.reasons.now result }
+    ensures told { Tells (TellsSettled (P.gives opener.now) why.old.asked request.now pickle.now.bytes.items)
+        (A.told aside.old) (A.told aside.new) }
 {
     match choose(&request.subject, &pickle.bytes) {
         Ok(chosen) => {
@@ -232,8 +255,34 @@ fn map_over<P: Opener, O: Write, A: Aside>(
     aside: &mut A,
     why: &mut Why<'_>,
 ) -> Result<Ending, FileFault>
-    ensures { let due = DueMapping (P.gives opener.now) why.old.asked (of_mapping mapping.entry) over.now in
+    ensures holds { let due = DueMapping (P.gives opener.now) why.old.asked (of_mapping mapping.entry) over.now in
         Holds (due pickle.now.bytes.items) (O.contents out.old) (O.contents out.new) result }
+    ensures says { Explains (λ source. source ≡ pickle.now) why.old.asked why.new.reasons.now result }
+    ensures told { Tells (TellsOver (P.gives opener.now) why.old.asked (of_mapping mapping.entry) pickle.now.bytes.items
+        over.now) (A.told aside.old) (A.told aside.new) }
+{
+    let asked = why.asked;
+    let ended = map_files(alloc, opener, mapping, pickle, over, out, aside, why);
+    explain_ending(alloc, asked, why.reasons, ended, pickle, mapping.name);
+    ended
+}
+
+// Maps over the file, the files or the list of a request. A refusal of the pickle, or of the type's name, is the caller's to
+// explain.
+fn map_files<P: Opener, O: Write, A: Aside>(
+    alloc: Global,
+    opener: &P,
+    mapping: Mapping<'_>,
+    pickle: &NamedPickle,
+    over: &Over,
+    out: &mut O,
+    aside: &mut A,
+    why: &mut Why<'_>,
+) -> Result<Ending, FileFault>
+    ensures holds { let due = DueMapping (P.gives opener.now) why.old.asked (of_mapping mapping.entry) over.now in
+        Holds (due pickle.now.bytes.items) (O.contents out.old) (O.contents out.new) result }
+    ensures told { Tells (TellsOver (P.gives opener.now) why.old.asked (of_mapping mapping.entry) pickle.now.bytes.items
+        over.now) (A.told aside.old) (A.told aside.new) }
 {
     match over {
         Over::File(file) => map_file(alloc, opener, mapping, pickle, file, out, why),

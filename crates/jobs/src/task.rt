@@ -18,7 +18,7 @@ use crate::part_copy::copy_part;
 use crate::record_list::list_run;
 use crate::settings::Mapping;
 use crate::value_search::search_run;
-use crate::why::{Why, explain, explain_parts};
+use crate::why::{Why, explain_parts};
 use bit_space::{Paged, Space};
 use command_line::fault_form::FaultForm;
 use command_line::request::{RecordList, RecordsOf, ValueSearch};
@@ -71,7 +71,8 @@ impl Task<'_> {
     }
 }
 
-/// Does a task with the file at a path, by a type of a pickle that was read.
+/// Does a task with the file at a path, by a type of a pickle that was read. A refusal of the pickle, or of the type's name,
+/// is the caller's to explain.
 #[inline(never)]
 pub fn do_in_file<P: Opener, O: Write>(
     alloc: Global,
@@ -147,10 +148,7 @@ fn do_in_space<S: Space, O: Write>(
 {
     let (table, id) = match resolve(alloc, &pickle.bytes, ask.name) {
         Ok(found) => found,
-        Err(outcome) => {
-            explain(alloc, why, outcome, pickle, ask.name);
-            return outcome;
-        }
+        Err(outcome) => return outcome,
     };
     if let Some(outcome) = refuse_own_parts(alloc, task, &table, id, terms) {
         explain_parts(alloc, why, outcome, &table, id, terms);

@@ -27,8 +27,8 @@ const HELP: &[u8] = b"\n\nFor more information, try '--help'.\n";
 pub fn refuse(why: &mut Why<'_>, word: &str, missing: NoType<'_>) -> Ending
     ensures { (result ≡ Silent Refused) ⊎ (result ≡ Run (outcome.Failed failure.Memory)) }
 {
-    why.text.clear();
-    let put = put_usage(why.text, word.as_bytes(), missing);
+    why.reasons.clear();
+    let put = put_usage(&mut why.reasons.text, word.as_bytes(), missing);
     usage_ending(put, why)
 }
 
@@ -58,13 +58,13 @@ fn refuse_pickle(
 ) -> Ending
     ensures { (result ≡ Silent Refused) ⊎ (result ≡ Run (outcome.Failed failure.Memory)) }
 {
-    why.text.clear();
+    why.reasons.clear();
     let name = match installed.get(no.place) {
         Some(one) => one.name.as_slice(),
         None => b"",
     };
     let put = match unprepared_text(alloc, name, no.why) {
-        Ok(text) => put(why.text, &text),
+        Ok(text) => put(&mut why.reasons.text, &text),
         Err(AllocError) => Err(WriteFault),
     };
     usage_ending(put, why)
@@ -77,7 +77,7 @@ fn usage_ending(put: Result<(), WriteFault>, why: &mut Why<'_>) -> Ending
     match put {
         Ok(()) => Ending::Silent(Status::Refused),
         Err(WriteFault) => {
-            why.text.clear();
+            why.reasons.clear();
             Ending::Run(Outcome::Failed(Failure::Memory))
         }
     }

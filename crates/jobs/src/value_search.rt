@@ -69,7 +69,7 @@ pub fn tell_given_up(alloc: Global, searched: Searched, faults: FaultForm, why: 
         }
     };
     if let Ok(line) = line {
-        tell(why.text, line.as_bytes());
+        tell(&mut why.reasons.text, line.as_bytes());
     }
 }
 
@@ -82,6 +82,6 @@ fn tell_lacking(alloc: Global, searched: Searched, why: &mut Why<'_>) {
     if let Ok(line) = format!(in alloc;
         "  the value at {place}#b lacks the part: --absent empty leaves its column empty\n"
     ) {
-        tell(why.text, line.as_bytes());
+        tell(&mut why.reasons.text, line.as_bytes());
     }
 }

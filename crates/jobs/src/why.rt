@@ -1,10 +1,12 @@
 //! The reasons of a job, which are printed after its line.
-ghost use Rattle.std.specs.Prelude.{◌≡◌, true, IfNone, IfOk, IfSome, vec_capacity};
+ghost use Rattle.std.specs.Prelude.{◌≡◌, [], true, false, IfNone, IfOk, IfSome};
 ghost use Rattle.bit_space.specs.SpaceView.{Keeps};
 ghost use Rattle.fault_report.specs.Why.{TellsWhy, run_of};
-ghost use Rattle.jobs.specs.Reasons.{Gains, IsExplained, IsUntold, Says, SaysNotes, SaysParts, SaysRefusal};
+ghost use Rattle.jobs.specs.Reasons.{Explains, Gains, IsExplained, Says, IsMade, SaysNotes, SaysRefusal, lines_of, untold_line};
 ghost use Rattle.poke_batch.specs.TypeRuns.{run_type};
 
+use crate::ending::Ending;
+use crate::fault::FileFault;
 use crate::opener::NamedPickle;
 use bit_space::Space;
 use fault_report::impossible::impossible_text;
@@ -20,18 +22,91 @@ use poke_batch::type_run::TypeRun;
 use std::alloc::{AllocError, Global};
 
 /// What is printed instead of reasons for which an allocation failed.
-pub const UNTOLD: &[u8] = b"  memory doesn't suffice for the reasons\n";
+const UNTOLD: &[u8] = b"  memory doesn't suffice for the reasons\n";
+
+/// The reasons of a job.
+#[derive(Drop)]
+pub struct Reasons {
+    /// Lines.
+    pub text: Vec<u8>,
+    /// Whether an allocation failed for those before these lines. No memory is needed to say so.
+    pub lack_memory: bool,
+}
+
+impl Reasons {
+    /// No reasons.
+    pub fn new(alloc: Global) -> Reasons
+        ensures text { result.text.items ≡ [] }
+        ensures memory { result.lack_memory ≡ false }
+    {
+        Reasons {
+            text: Vec::new(alloc),
+            lack_memory: false,
+        }
+    }
+
+    /// Reasons that were made, or weren't for want of memory.
+    pub fn made(alloc: Global, text: Result<Vec<u8>, AllocError>) -> Reasons
+        ensures { IsMade text result }
+    {
+        match text {
+            Ok(text) => Reasons {
+                text,
+                lack_memory: false,
+            },
+            Err(AllocError) => Reasons {
+                text: Vec::new(alloc),
+                lack_memory: true,
+            },
+        }
+    }
+
+    /// Removes them.
+    pub fn clear(&mut self)
+        ensures text { self.new.text.items ≡ [] }
+        ensures memory { self.new.lack_memory ≡ false }
+    {
+        self.text.clear();
+        self.lack_memory = false;
+    }
+
+    /// Says that memory lacks for them.
+    pub fn lose(&mut self)
+        ensures { self.new.lack_memory ≡ true }
+    {
+        self.text.clear();
+        self.lack_memory = true;
+    }
+
+    /// What is printed before their text: the line that says that memory lacks for them, if it does.
+    pub fn untold(&self) -> &[u8]
+        ensures { result.now ≡ untold_line self.now.lack_memory }
+    {
+        if self.lack_memory { UNTOLD } else { b"" }
+    }
+
+    /// That line or, if memory doesn't lack, their text.
+    pub fn lines(&self) -> &[u8]
+        ensures { result.now ≡ lines_of self.now }
+    {
+        if self.lack_memory {
+            UNTOLD
+        } else {
+            self.text.as_slice()
+        }
+    }
+}
 
 /// Where the reasons of a job are written.
 #[derive(Drop)]
 pub struct Why<'a> {
-    pub text: &'a mut Vec<u8>,
+    pub reasons: &'a mut Reasons,
     /// Whether reasons are requested.
     pub asked: bool,
 }
 
 /// Writes why a pickle, or the name of a type in it, is refused, if reasons are requested and the run ended so. If an
-/// allocation fails there is [`UNTOLD`], and without room for it nothing.
+/// allocation fails, the reasons say that memory lacks.
 pub fn explain(
     alloc: Global,
     why: &mut Why<'_>,
@@ -40,18 +115,48 @@ pub fn explain(
     name: &[u8],
 )
     ensures says { why.old.asked ≡ true → IsExplained outcome
-        → Says (SaysRefusal pickle.now outcome) (vec_capacity why.old.text.now) why.new.text.now.items }
-    ensures otherwise { Gains why.old.asked (λ text. IsExplained outcome) why.old.text.now.items
-        why.new.text.now.items }
+        → Says (SaysRefusal pickle.now outcome) why.new.reasons.now }
+    ensures otherwise { Gains why.old.asked (IsExplained outcome) why.old.reasons.now why.new.reasons.now }
     ensures asked { why.new.asked ≡ why.old.asked }
 {
-    if !why.asked {
+    if why.asked {
+        say_refusal(alloc, why.reasons, outcome, pickle, name);
+    }
+}
+
+/// Explains the refusal of a pickle, or of the name of a type in it, with which a job ended, if it did and reasons are
+/// requested.
+pub fn explain_ending(
+    alloc: Global,
+    asked: bool,
+    reasons: &mut Reasons,
+    ended: Result<Ending, FileFault>,
+    pickle: &NamedPickle,
+    name: &[u8],
+)
+    ensures { Explains (λ source. source ≡ pickle.now) asked reasons.new ended }
+{
+    if !asked {
         return;
     }
-    match refusal_text(alloc, outcome, pickle, name) {
-        Some(Ok(text)) => *why.text = text,
-        Some(Err(AllocError)) => leave_untold(why.text),
-        None => {}
+    if let Ok(Ending::Run(outcome)) = ended {
+        say_refusal(alloc, reasons, outcome, pickle, name);
+    }
+}
+
+// Writes why a pickle, or the name of a type in it, is refused, if a run ended so.
+fn say_refusal(
+    alloc: Global,
+    reasons: &mut Reasons,
+    outcome: Outcome,
+    pickle: &NamedPickle,
+    name: &[u8],
+)
+    ensures says { IsExplained outcome → Says (SaysRefusal pickle.now outcome) reasons.new }
+    ensures otherwise { Gains true (IsExplained outcome) reasons.old reasons.new }
+{
+    if let Some(text) = refusal_text(alloc, outcome, pickle, name) {
+        *reasons = Reasons::made(alloc, text);
     }
 }
 
@@ -76,19 +181,8 @@ fn refusal_text(
     }
 }
 
-/// Replaces reasons for which an allocation failed by [`UNTOLD`], if there is room for it.
-pub fn leave_untold(text: &mut Vec<u8>)
-    ensures { IsUntold (vec_capacity text.old) text.new.items }
-{
-    text.clear();
-    match text.extend_from_slice(UNTOLD) {
-        Ok(()) => {}
-        Err(AllocError) => text.clear(),
-    }
-}
-
 /// Writes which requested part no value of a type has, if reasons are requested and the run ended so. If an allocation
-/// fails there is [`UNTOLD`], and without room for it nothing.
+/// fails, the reasons say that memory lacks.
 pub fn explain_parts(
     alloc: Global,
     why: &mut Why<'_>,
@@ -97,28 +191,47 @@ pub fn explain_parts(
     id: TypeId,
     terms: &Terms,
 )
-    ensures text { Gains why.old.asked (SaysParts outcome) why.old.text.now.items why.new.text.now.items }
+    ensures otherwise { Gains why.old.asked (outcome ≡ Outcome.ImpossiblePart) why.old.reasons.now why.new.reasons.now }
     ensures asked { why.new.asked ≡ why.old.asked }
 {
     if !why.asked || outcome != Outcome::ImpossiblePart {
         return;
     }
-    match impossible_text(alloc, table, id, terms) {
-        Ok(text) => *why.text = text.into_bytes(),
-        Err(AllocError) => leave_untold(why.text),
-    }
+    *why.reasons = match impossible_text(alloc, table, id, terms) {
+        Ok(text) => Reasons::made(alloc, Ok(text.into_bytes())),
+        Err(AllocError) => Reasons::made(alloc, Err(AllocError)),
+    };
 }
 
-/// Writes what an accepted pickle says and can't mean. If an allocation fails nothing more is written.
+/// Writes what an accepted pickle says and can't mean. If an allocation fails, the reasons say that memory lacks.
 pub fn warn(alloc: Global, why: &mut Why<'_>, status: Status, pickle: &NamedPickle)
-    ensures text { Gains why.old.asked (SaysNotes pickle.now) why.old.text.now.items why.new.text.now.items }
+    ensures says { why.old.asked ≡ true → status ≡ Status.Done → Says (SaysNotes pickle.now) why.new.reasons.now }
+    ensures otherwise { Gains why.old.asked (status ≡ Status.Done) why.old.reasons.now why.new.reasons.now }
     ensures asked { why.new.asked ≡ why.old.asked }
 {
     if !why.asked || status != Status::Done {
         return;
     }
-    if let Ok(text) = accepted_warnings(alloc, &pickle.bytes, pickle.path.as_bytes()) {
-        *why.text = text;
+    let notes = accepted_warnings(alloc, &pickle.bytes, pickle.path.as_bytes());
+    *why.reasons = Reasons::made(alloc, notes);
+}
+
+/// Writes what explains how a run over a type of a pickle ended. If an allocation fails, the reasons say that memory lacks.
+pub fn explain_mapped<S: Space>(
+    run: &TypeRun<'_>,
+    pickle: &NamedPickle,
+    outcome: Outcome,
+    space: &mut S,
+    why: &mut Why<'_>,
+)
+    ensures says { let ended = run_of (S.view space.old) (S.view space.new) run.now.ask.now run.now.terms.now outcome in
+        Says (TellsWhy ended (run_type run.now)) why.new.reasons.now }
+    ensures asked { why.new.asked ≡ why.old.asked }
+    ensures keeps { Keeps (S.view space.old) (S.view space.new) }
+{
+    match reasons_of(run, pickle, outcome, space) {
+        Ok(reasons) => *why.reasons = Reasons::made(run.alloc, Ok(reasons.text)),
+        Err(AllocError) => why.reasons.lose(),
     }
 }
 

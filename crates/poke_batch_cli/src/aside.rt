@@ -1,4 +1,7 @@
 //! What is written to standard error while many files are mapped.
+
+ghost use Rattle.std.specs.Prelude.{None};
+
 use crate::file_names::{names_of, shows_progress};
 use crate::progress::{Counted, Progress};
 use command_line::request::FileNames;
@@ -34,6 +37,9 @@ impl<C: Clock + Drop, E: Write + Drop> StandardError<C, E> {
 }
 
 impl<C: Clock + Drop, E: Write + Drop> Aside for StandardError<C, E> {
+    // Nothing is known of what the system's standard error has.
+    ghost told = { λ _. None };
+
     fn show(&mut self) {
         if let Some(progress) = &mut self.progress {
             progress.show(&self.clock, &mut self.err);

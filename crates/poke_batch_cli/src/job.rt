@@ -10,7 +10,7 @@ use bit_space::OpenFault;
 use command_line::answer_form::AnswerForm;
 use command_line::request::{Over, Request};
 use command_line::subject::Subject;
-use jobs::why::{Why, leave_untold};
+use jobs::why::{Reasons, Why};
 use jobs::{Ending, FileFault, Lengthless, report_in_json, run_job};
 use poke_batch::outcome::{Failure, Outcome};
 use poke_batch::pickle::PickleFault;
@@ -25,18 +25,18 @@ use std::rt::{Clock, Env, Files};
 const GATHERED: usize = 65_536;
 
 /// Does a job, and returns how it ended once the whole answer is written to `out`. If reasons are requested they go to
-/// `reason`; those of one file among many go to `aside`, after the file's line.
+/// `reasons`; those of one file among many go to `aside`, after the file's line.
 pub fn do_job<
     R: Files<File = File> + Env + Input + Clock + AllocGlobal + Clone + Drop,
     O: Write + Drop,
     A: Write + Copy,
->(rt: &R, mut asked: Asked, out: O, aside: A, reason: &mut Vec<u8>) -> Ending {
+>(rt: &R, mut asked: Asked, out: O, aside: A, reasons: &mut Reasons) -> Ending {
     let out = ClearedWriter::new(out, aside, shows_reads(&asked.job));
     let Ok(mut out) = BufWriter::with_capacity(rt.alloc(), GATHERED, out) else {
         return Ending::Run(Outcome::Failed(Failure::Memory));
     };
     let mut why = Why {
-        text: reason,
+        reasons,
         asked: asked.why,
     };
     let ending = match run_any(rt, &mut asked, &mut out, aside, &mut why) {
@@ -46,7 +46,7 @@ pub fn do_job<
             end_by_fault(
                 Outcome::Failed(fault.failure()),
                 asked.answer,
-                why.text,
+                why.reasons,
                 &mut out,
             )
         }
@@ -56,7 +56,7 @@ pub fn do_job<
     }
     // Bytes that the writer didn't accept aren't offered to it again.
     let (_writer, _rest) = out.into_parts();
-    reason.clear();
+    reasons.clear();
     // One line is printed: that of the first failure, if it has one.
     match ending {
         Ending::Run(outcome) if outcome.status() == Status::Outside => ending,
@@ -68,14 +68,14 @@ pub fn do_job<
 fn end_by_fault<O: Write>(
     outcome: Outcome,
     form: AnswerForm,
-    lines: &mut Vec<u8>,
+    reasons: &mut Reasons,
     out: &mut O,
 ) -> Ending {
     match form {
         AnswerForm::Text => Ending::Run(outcome),
         AnswerForm::Json => {
-            let ending = report_in_json(outcome, lines.as_slice(), out);
-            lines.clear();
+            let ending = report_in_json(outcome, reasons.lines(), out);
+            reasons.clear();
             ending
         }
     }
@@ -91,21 +91,22 @@ fn explain_fault<R: Files<File = File> + Env + AllocGlobal + Clone + Drop>(
     if !why.asked {
         return;
     }
+    let text = &mut why.reasons.text;
     let told = match fault {
         FileFault::Pickle(PickleFault::Read) if reads_folder(job) => {
-            tell_unlisted(rt, folder_of(job), why.text).map_err(FileFault::from)
+            tell_unlisted(rt, folder_of(job), text).map_err(FileFault::from)
         }
-        FileFault::Pickle(PickleFault::Read) => tell_unread(rt, pickle_of(job), why.text),
+        FileFault::Pickle(PickleFault::Read) => tell_unread(rt, pickle_of(job), text),
         FileFault::Space(OpenFault::NotOpened) => match file_of(job) {
-            Some(path) => tell_file(rt, job, path, why.text).map_err(FileFault::from),
+            Some(path) => tell_file(rt, job, path, text).map_err(FileFault::from),
             None => Ok(()),
         },
         _ => Ok(()),
     };
     match told {
         Ok(()) => {}
-        Err(fault) if matches!(fault.failure(), Failure::Memory) => leave_untold(why.text),
-        Err(_) => why.text.clear(),
+        Err(fault) if matches!(fault.failure(), Failure::Memory) => why.reasons.lose(),
+        Err(_) => why.reasons.clear(),
     }
 }
 

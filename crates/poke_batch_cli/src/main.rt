@@ -25,6 +25,7 @@ use given::{given_words, stands_for};
 use hints::{Explained, explained_endings, hint, lacks_why};
 use job::do_job;
 use jobs::Ending;
+use jobs::why::Reasons;
 use looks::settle_colors;
 use main_type::tell_main;
 use offset_reasons::tell_offset;
@@ -34,7 +35,6 @@ use poke_batch::status::Status;
 use poke_batch::tell::answer;
 use poke_batch::words::{Asked, Job, WordFault, read_asked, read_words};
 use poke_batch::write::{WriteFault, put};
-use reason_text::no_reasons;
 use std::alloc::{AllocError, Global};
 use std::env;
 use std::io::{IsTerminal, Write};
@@ -57,15 +57,16 @@ const WHY_VARIABLE: &str = "POKE_BATCH_WHY";
 pub type ErrorLine = ArrayVec<u8, 128>;
 
 fn main(rt: HostRuntime) -> ExitCode {
-    let mut reason = no_reasons(rt.alloc());
+    let mut reasons = Reasons::new(rt.alloc());
     let (faults, explainable, ending) = match read_job(&rt) {
         Ok(asked) => (
             faults_in(&asked.job),
             explained_endings(&asked),
-            do_job(&rt, asked, rt.stdout(), rt.stderr(), &mut reason),
+            do_job(&rt, asked, rt.stdout(), rt.stderr(), &mut reasons),
         ),
         Err(fault) => {
-            explain_words(&rt, &fault, &mut reason);
+            let reason = &mut reasons.text;
+            explain_words(&rt, &fault, reason);
             (
                 FaultForm::Text,
                 if reason.is_empty() && maps(&rt) {
@@ -83,22 +84,23 @@ fn main(rt: HostRuntime) -> ExitCode {
         }
     };
     if explainable.has(ending) && rt.stderr().is_terminal() {
-        hint(&mut reason);
+        hint(&mut reasons.text);
     }
     // The line is written by one call, so that those of parallel runs don't mix.
     let mut line = ErrorLine::new();
     let status = ending.tell(faults, &mut line);
-    let status = match put_both(&mut rt.stderr(), &line, &reason) {
+    let status = match put_all(&mut rt.stderr(), &line, &reasons) {
         Ok(()) => status,
         Err(WriteFault) => Status::Outside,
     };
     ExitCode::from(status as u8)
 }
 
-// Writes the line of an ending, and then its reason. A reason that can't be written is an output that failed.
-fn put_both<E: Write>(err: &mut E, line: &[u8], reason: &[u8]) -> Result<(), WriteFault> {
+// Writes the line of an ending, and then its reasons. Reasons that can't be written are an output that failed.
+fn put_all<E: Write>(err: &mut E, line: &[u8], reasons: &Reasons) -> Result<(), WriteFault> {
     put(err, line)?;
-    put(err, reason)
+    put(err, reasons.untold())?;
+    put(err, &reasons.text)
 }
 
 fn read_job(rt: &HostRuntime) -> Result<Asked, WordFault> {

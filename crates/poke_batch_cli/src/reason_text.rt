@@ -1,15 +1,6 @@
 //! The pieces of a reason's text.
-use jobs::why::UNTOLD;
 use poke_batch::file_line::put_name;
-use std::alloc::{AllocError, Global};
-
-/// No reasons yet, with room for the line that replaces them.
-pub fn no_reasons(alloc: Global) -> Vec<u8> {
-    let mut text = Vec::new(alloc);
-    // Without room the line may be left out.
-    let _reserved = text.reserve(UNTOLD.len());
-    text
-}
+use std::alloc::AllocError;
 
 /// Adds texts to a text, one after the other.
 pub fn add(text: &mut Vec<u8>, parts: &[&str]) -> Result<(), AllocError> {

@@ -2,7 +2,7 @@
 
 use crate::shelf::{Notes, Shelf};
 use jobs::run_job;
-use jobs::why::Why;
+use jobs::why::{Reasons, Why};
 use poke_batch::fault_form::FaultForm;
 use poke_batch::words::read_asked;
 use std::alloc::Global;
@@ -255,12 +255,12 @@ fn written_by(alloc: Global, words: &str) -> Result<Written, Fail> {
     let mut asked = read_asked(alloc, arguments)?;
     let mut out = Vec::new(alloc);
     let mut line = Vec::new(alloc);
-    let mut reasons = Vec::new(alloc);
+    let mut reasons = Reasons::new(alloc);
     let mut notes = Notes {
         text: Vec::new(alloc),
     };
     let mut why = Why {
-        text: &mut reasons,
+        reasons: &mut reasons,
         asked: asked.why,
     };
     let shelf = Shelf { alloc };
@@ -276,7 +276,7 @@ fn written_by(alloc: Global, words: &str) -> Result<Written, Fail> {
     Ok(Written {
         out,
         line,
-        reasons,
+        reasons: reasons.text,
         aside: notes.text,
     })
 }

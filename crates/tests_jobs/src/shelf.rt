@@ -1,5 +1,6 @@
 //! Files in memory, from which jobs are done.
 
+ghost use Rattle.std.specs.Prelude.{None};
 ghost use Rattle.jobs.specs.Gives.{anything};
 
 use bit_space::{MemSpace, OpenFault};
@@ -164,6 +165,9 @@ pub struct Notes {
 }
 
 impl Aside for Notes {
+    // The tests say what is told.
+    ghost told = { λ _. None };
+
     fn show(&mut self) {}
 
     fn count(&mut self) {}

@@ -8,22 +8,25 @@ use Rattle.jobs.specs.declared.ending.Ending.TheVariants.{Run}
 use Rattle.jobs.specs.declared.file_run.FileForm.{FileForm}
 use Rattle.jobs.proofs.Holding.{holds_more, if_not_some, no_text}
 use Rattle.poke_batch.specs.RunsUnder.{lacks_part, lacks_type}
+use Rattle.jobs.specs.Asides.{Tells, TellsFile, none_told}
+use Rattle.jobs.specs.Explained.{ExplainsFrom}
+use Rattle.jobs.specs.Mapped.{Mapped}
 use Rattle.jobs.proofs.each.map_each.Goals as goal
 
-pub returns-in-Err : goal.returns-in-Err
-returns-in-Err g c =
+pub returns-in-Err-clause-holds : goal.returns-in-Err-clause-holds
+returns-in-Err-clause-holds g c =
     no_text _ (Ok (Run c.in-Err.outcome)) _ _
     (no_run_due (lacks_type (rw (sym c.deref.ensures.value) c.in-Err.ensures.none)))
     (Keeps-refl _)
 
-pub returns-in-Some : goal.returns-in-Some
-returns-in-Some g c =
+pub returns-in-Some-clause-holds : goal.returns-in-Some-clause-holds
+returns-in-Some-clause-holds g c =
     no_text _ (Ok (Run c.in-Some.outcome)) _ _
     (no_run_due (lacks_part (rw (sym c.deref.ensures.value) c.in-Ok.ensures.asked) c.in-Some.ensures.some))
     (Keeps-refl _)
 
-pub returns : goal.returns
-returns g c =
+pub returns-clause-holds : goal.returns-clause-holds
+returns-clause-holds g c =
     let gives = g.P.Opener.gives c.args.opener.now in
     let mapping = c.args.mapping in
     let pickle = c.args.pickle.now.bytes.items in
@@ -34,10 +37,35 @@ returns g c =
       form = form;
       why = c.args.why.now.asked;
       runs = MapsFrom (record { pickle = pickle; aim = aim_of mapping; terms = mapping.terms.now });
+      explains = ExplainsFrom (record { pickle = pickle; aim = aim_of mapping; terms = mapping.terms.now })
+          c.args.why.now.asked;
     }) c.args.names.now) (g.O.Write.contents c.args.out.now) (g.O.Write.contents c.run_files.new.out)
     (Ok c.run_files.result) in
     holds_more (DueNamed gives (every_for c.args.why.now.asked (of_mapping mapping) pickle) c.args.names.now) _
     (Ok c.run_files.result) _ _
     (λ lines end due. files_due (rw (sym c.deref.ensures.value) c.in-Ok.ensures.asked)
     (if_not_some c.refuse_parts.result c.in_default.not-Some c.refuse_parts.ensures.none) due)
-    (subst Written c.of.ensures c.run_files.ensures)
+    (subst Written c.of.ensures c.run_files.ensures.holds)
+
+pub returns-in-Err-clause-told : goal.returns-in-Err-clause-told
+returns-in-Err-clause-told g c = none_told (Keeps-refl _)
+
+pub returns-in-Some-clause-told : goal.returns-in-Some-clause-told
+returns-in-Some-clause-told g c = none_told (Keeps-refl _)
+
+pub returns-clause-told : goal.returns-clause-told
+returns-clause-told g c =
+    let gives = g.P.Opener.gives c.args.opener.now in
+    let mapping = c.args.mapping in
+    let mapped : Mapped =
+    record { pickle = c.args.pickle.now.bytes.items; aim = aim_of mapping; terms = mapping.terms.now } in
+    let Told : FileForm → Type 0 = λ form. Tells (TellsFile gives (record {
+      start = mapping.start;
+      window = mapping.window;
+      spool = mapping.spool;
+      form = form;
+      why = c.args.why.now.asked;
+      runs = MapsFrom mapped;
+      explains = ExplainsFrom mapped c.args.why.now.asked;
+    })) (g.A.Aside.told c.args.aside.now) (g.A.Aside.told c.run_files.new.aside) in
+    subst Told c.of.ensures c.run_files.ensures.told

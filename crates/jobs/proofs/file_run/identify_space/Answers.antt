@@ -4,6 +4,10 @@ use Rattle.jobs.specs.Every.{every_of}
 use Rattle.jobs.specs.Files.{IdentifiesFrom, identifies_from}
 use Rattle.jobs.proofs.FilesWritten.{run_kept, run_unflushed, text_cut, text_written}
 use Rattle.run_parts.proofs.Sayings.{on_err}
+use Rattle.std.proofs.KnownBytes.{Keeps-refl}
+use Rattle.jobs.specs.Asides.{none_told}
+use Rattle.jobs.specs.Explained.{AreUnfinished}
+use Rattle.jobs.proofs.Told.{lines_tell}
 use Rattle.jobs.proofs.file_run.identify_space.Goals as goal
 
 pub returns-in_err-status-clause-err : goal.returns-in_err-status-clause-err
@@ -34,7 +38,7 @@ returns-in_err-tell_lines-clause-err g c =
     c.deref.result.now [] (Ok c.in_ok-status.status) _ _ (λ e. refl)
     (rw c.deref.ensures.value (identifies_from (λ risen. risen) c.identify_file-outcome.ensures.is))
     c.in_ok-status.ensures.status c.in_ok-status.ensures.ok)
-    c.in_err-tell_lines.ensures)
+    c.in_err-tell_lines.ensures.out)
 
 pub returns-clause-ok : goal.returns-clause-ok
 returns-clause-ok g c =
@@ -48,4 +52,17 @@ returns-clause-ok g c =
     c.deref.result.now [] (Ok c.in_ok-status.status) _ _ (λ e. refl)
     (rw c.deref.ensures.value (identifies_from (λ risen. risen) c.identify_file-outcome.ensures.is))
     c.in_ok-status.ensures.status c.in_ok-status.ensures.ok)
-    c.in_ok-tell_lines.ensures
+    c.in_ok-tell_lines.ensures.out
+
+pub returns-in_err-status-clause-told : goal.returns-in_err-status-clause-told
+returns-in_err-status-clause-told g c = none_told (Keeps-refl _)
+
+pub returns-in_err-tell_lines-clause-told : goal.returns-in_err-tell_lines-clause-told
+returns-in_err-tell_lines-clause-told g c =
+    lines_tell c.args.name.now c.deref-3.result.now (AreUnfinished c.args.identity.formats.now) _ _ c.tell_lines.result
+    (λ some. rw c.deref-3.ensures.value c.unfinished_lines-lines.ensures) c.tell_lines.ensures.told
+
+pub returns-clause-told : goal.returns-clause-told
+returns-clause-told g c =
+    lines_tell c.args.name.now c.deref-3.result.now (AreUnfinished c.args.identity.formats.now) _ _ c.tell_lines.result
+    (λ some. rw c.deref-3.ensures.value c.unfinished_lines-lines.ensures) c.tell_lines.ensures.told

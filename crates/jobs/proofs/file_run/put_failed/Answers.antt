@@ -20,7 +20,7 @@ returns-in_err-finish_file-clause-err g c =
     (text_written {E = Unit {0}} (EndsBy c.args.failure) (every_of c.args.task) c.args.name.now
     (outcome.Failed c.args.failure) [] [] (Ok c.in_ok-status.status) _ _ (λ e. refl)
     (record { ended_is = refl; text_is = refl }) c.in_ok-status.ensures.status c.in_ok-status.ensures.ok)
-    c.in_err-finish_file.ensures)
+    c.in_err-finish_file.ensures.out)
 
 pub returns-clause-ok : goal.returns-clause-ok
 returns-clause-ok g c =
@@ -28,4 +28,4 @@ returns-clause-ok g c =
     (text_written {E = Unit {0}} (EndsBy c.args.failure) (every_of c.args.task) c.args.name.now
     (outcome.Failed c.args.failure) [] [] (Ok c.in_ok-status.status) _ _ (λ e. refl)
     (record { ended_is = refl; text_is = refl }) c.in_ok-status.ensures.status c.in_ok-status.ensures.ok)
-    c.in_ok-finish_file.ensures
+    c.in_ok-finish_file.ensures.out

@@ -8,6 +8,9 @@ use Rattle.jobs.proofs.Sighted.{fails_seen, sight_failures}
 use Rattle.run_parts.specs.declared.outcome.Failure.TheVariants as failure
 use Rattle.run_parts.specs.declared.outcome.Outcome.TheVariants as outcome
 use Rattle.spool.specs.Window.{cut_at, seen}
+use Rattle.std.proofs.KnownBytes.{Keeps-refl}
+use Rattle.jobs.specs.Asides.{TellsRun, none_told}
+use Rattle.jobs.proofs.Told.{opened_tells, tells_more}
 use Rattle.jobs.proofs.file_run.run_opened.Goals as goal
 
 pub returns-in_default-clause-ok : goal.returns-in_default-clause-ok
@@ -106,3 +109,26 @@ returns-clause-err g c =
     (subst (λ count. HasRisen count after.failures)
     (sight_failures task.window start file sight whole same) risen))))
     c.run_space.ensures.err
+
+pub returns-clause-told : goal.returns-clause-told
+returns-clause-told g c =
+    let gives = g.P.Opener.gives c.args.opener.now in
+    let file = g.P.Bytes.Space.view c.args.bytes in
+    let task = c.args.task in
+    let start = c.in-Some.start in
+    let first = c.in-Ok.space in
+    let sight = cut_at first.end (g.P.Bytes.Space.view first.whole) in
+    let same : sight ≡ seen task.window start file = rw c.in-Ok.ensures c.from_start-window.ensures in
+    tells_more (TellsRun c.args.name.now ((every_of task).explains start sight)) _ _ _
+    (λ text tells. opened_tells gives (every_of task) c.args.name.now text file sight start c.requires.opened
+    (sym (rw c.in-Some.is at c.bit_in.ensures)) same tells)
+    c.run_space.ensures.told
+
+pub returns-in_default-clause-told : goal.returns-in_default-clause-told
+returns-in_default-clause-told g c = none_told (Keeps-refl _)
+
+pub returns-in_default-new-clause-told : goal.returns-in_default-new-clause-told
+returns-in_default-new-clause-told g c = none_told (Keeps-refl _)
+
+pub returns-in_default-kept-clause-told : goal.returns-in_default-kept-clause-told
+returns-in_default-kept-clause-told g c = none_told (Keeps-refl _)

@@ -46,3 +46,9 @@ returns-in-Identify-clause-err g c =
     (CutsRun (runs_of work c.args.start file (HasRisen file.failures after.failures)) (every_of c.args.task)
     c.args.name.now (g.O.Write.contents c.args.out.now) (g.O.Write.contents c.identify_space.new.out)) in
     subst Cut (sym c.in-Identify.is) c.identify_space.ensures.err
+
+pub returns-in-Map-clause-told : goal.returns-in-Map-clause-told
+returns-in-Map-clause-told g c = rw c.in-Map.is c.map_space.ensures.told
+
+pub returns-in-Identify-clause-told : goal.returns-in-Identify-clause-told
+returns-in-Identify-clause-told g c = rw c.in-Identify.is c.identify_space.ensures.told

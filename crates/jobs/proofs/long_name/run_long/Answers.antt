@@ -2,6 +2,8 @@ use Rattle.std.proofs.KnownBytes.{Keeps-trans}
 use Rattle.jobs.specs.Every.{every_of}
 use Rattle.jobs.proofs.LongNames.{end_cut, long_unflushed, long_written, rest_cut, start_cut}
 use Rattle.run_parts.proofs.Sayings.{on_err}
+use Rattle.jobs.specs.Asides.{IsUnopened, none_told}
+use Rattle.jobs.proofs.Told.{form_tells, tells_kept, kept_tells, unopened_explains}
 use Rattle.jobs.proofs.long_name.run_long.Goals as goal
 
 pub returns-in_err-put_start-clause-err : goal.returns-in_err-put_start-clause-err
@@ -25,8 +27,8 @@ returns-in_err-put_end-clause-err g c =
       list' = g.L.Read.remaining c.put_rest.new.list;
       more = h.more;
       read = h.read;
-      written = end_cut (every_of c.args.task) c.args.start.now h.more c.deref.result.now _ _ _ _ _
-          (λ e. rw c.deref.ensures.value (c.long_lines-lines.ensures.quiet e)) c.in_ok-put_start.ensures.ok h.appends
+      written = end_cut (every_of c.args.task) c.args.start.now h.more c.lines.result.now _ _ _ _ _
+          (λ e. rw c.lines.ensures (c.long_lines-lines.ensures.quiet e)) c.in_ok-put_start.ensures.ok h.appends
           (rw c.failure.ensures at c.in_err-put_end.ensures.err);
     })
 
@@ -38,9 +40,9 @@ returns-in_err-tell_reasons-clause-err g c =
       list' = g.L.Read.remaining c.put_rest.new.list;
       more = h.more;
       read = h.read;
-      written = long_unflushed (every_of c.args.task) c.args.start.now h.more c.deref.result.now _ _ _ _ _ _
-          (λ e. rw c.deref.ensures.value (c.long_lines-lines.ensures.quiet e)) c.in_ok-put_start.ensures.ok h.appends
-          (rw c.failure.ensures at c.in_ok-put_end.ensures.ok) c.in_err-tell_reasons.ensures;
+      written = long_unflushed (every_of c.args.task) c.args.start.now h.more c.lines.result.now _ _ _ _ _ _
+          (λ e. rw c.lines.ensures (c.long_lines-lines.ensures.quiet e)) c.in_ok-put_start.ensures.ok h.appends
+          (rw c.failure.ensures at c.in_ok-put_end.ensures.ok) c.in_err-tell_reasons.ensures.out;
     })
 
 pub returns-in_err-finish_file-clause-err : goal.returns-in_err-finish_file-clause-err
@@ -51,10 +53,10 @@ returns-in_err-finish_file-clause-err g c =
       list' = g.L.Read.remaining c.put_rest.new.list;
       more = h.more;
       read = h.read;
-      written = long_unflushed (every_of c.args.task) c.args.start.now h.more c.deref.result.now _ _ _ _ _ _
-          (λ e. rw c.deref.ensures.value (c.long_lines-lines.ensures.quiet e)) c.in_ok-put_start.ensures.ok h.appends
+      written = long_unflushed (every_of c.args.task) c.args.start.now h.more c.lines.result.now _ _ _ _ _ _
+          (λ e. rw c.lines.ensures (c.long_lines-lines.ensures.quiet e)) c.in_ok-put_start.ensures.ok h.appends
           (rw c.failure.ensures at c.in_ok-put_end.ensures.ok)
-          (Keeps-trans _ _ _ c.in_ok-tell_reasons.ensures c.in_err-finish_file.ensures);
+          (Keeps-trans _ _ _ c.in_ok-tell_reasons.ensures.out c.in_err-finish_file.ensures.out);
     })
 
 pub returns-clause-ok : goal.returns-clause-ok
@@ -63,8 +65,51 @@ returns-clause-ok g c =
     record {
       more = h.more;
       read = h.read;
-      written = long_written (every_of c.args.task) c.args.start.now h.more c.deref.result.now _ _ _ _ _ _
-          (λ e. rw c.deref.ensures.value (c.long_lines-lines.ensures.quiet e)) c.in_ok-put_start.ensures.ok h.appends
+      written = long_written (every_of c.args.task) c.args.start.now h.more c.lines.result.now _ _ _ _ _ _
+          (λ e. rw c.lines.ensures (c.long_lines-lines.ensures.quiet e)) c.in_ok-put_start.ensures.ok h.appends
           (rw c.failure.ensures at c.in_ok-put_end.ensures.ok)
-          (Keeps-trans _ _ _ c.in_ok-tell_reasons.ensures c.in_ok-finish_file.ensures);
+          (Keeps-trans _ _ _ c.in_ok-tell_reasons.ensures.out c.in_ok-finish_file.ensures.out);
     }
+
+pub returns-in_err-put_start-clause-told : goal.returns-in_err-put_start-clause-told
+returns-in_err-put_start-clause-told g c = none_told c.show.ensures
+
+pub returns-in_err-rest-clause-told : goal.returns-in_err-rest-clause-told
+returns-in_err-rest-clause-told g c = none_told c.show.ensures
+
+pub returns-in_err-put_end-clause-told : goal.returns-in_err-put_end-clause-told
+returns-in_err-put_end-clause-told g c = none_told c.show.ensures
+
+pub returns-in_err-tell_reasons-clause-told : goal.returns-in_err-tell_reasons-clause-told
+returns-in_err-tell_reasons-clause-told g c =
+    kept_tells _ _ _ _ c.show.ensures
+    (form_tells c.args.task.form c.args.start.now c.lines-2.result.now (IsUnopened c.args.task.explains) _ _
+    c.tell_reasons.result
+    (unopened_explains c.args.task.explains c.lines-2.result.now
+    (λ e. rw c.lines-2.ensures (c.long_lines-lines.ensures.quiet e))
+    (rw c.lines-2.ensures c.long_lines-lines.ensures.lines))
+    c.tell_reasons.ensures.told)
+
+pub returns-in_err-finish_file-clause-told : goal.returns-in_err-finish_file-clause-told
+returns-in_err-finish_file-clause-told g c =
+    tells_kept _ _ _ _
+    (kept_tells _ _ _ _ c.show.ensures
+    (form_tells c.args.task.form c.args.start.now c.lines-2.result.now (IsUnopened c.args.task.explains) _ _
+    c.tell_reasons.result
+    (unopened_explains c.args.task.explains c.lines-2.result.now
+    (λ e. rw c.lines-2.ensures (c.long_lines-lines.ensures.quiet e))
+    (rw c.lines-2.ensures c.long_lines-lines.ensures.lines))
+    c.tell_reasons.ensures.told))
+    c.finish_file.ensures.told
+
+pub returns-clause-told : goal.returns-clause-told
+returns-clause-told g c =
+    tells_kept _ _ _ _
+    (kept_tells _ _ _ _ c.show.ensures
+    (form_tells c.args.task.form c.args.start.now c.lines-2.result.now (IsUnopened c.args.task.explains) _ _
+    c.tell_reasons.result
+    (unopened_explains c.args.task.explains c.lines-2.result.now
+    (λ e. rw c.lines-2.ensures (c.long_lines-lines.ensures.quiet e))
+    (rw c.lines-2.ensures c.long_lines-lines.ensures.lines))
+    c.tell_reasons.ensures.told))
+    c.finish_file.ensures.told

@@ -3,6 +3,7 @@ use Rattle.std.proofs.KnownBytes.{Appends-nil, Keeps-refl, Keeps-trans}
 use Rattle.std.proofs.lemmas.Result.{err_from_is_err_and}
 use Rattle.std.specs.Io.KnownBytes.{Keeps}
 use Rattle.std.specs.Io.Buffered.{reader_remaining}
+use Rattle.jobs.specs.Asides.{none_told}
 use Rattle.jobs.specs.Due.{whole}
 use Rattle.jobs.specs.Every.{every_of}
 use Rattle.jobs.specs.Files.{WritesName}
@@ -11,6 +12,7 @@ use Rattle.jobs.specs.Lines.{StopsList, WritesList, first_names, no_memory}
 use Rattle.jobs.specs.Names.{first_listed, none_read, one_read}
 use Rattle.jobs.proofs.EachWritten.{all_hold, first_hold, fresh_reader, kept_written, none_written, one_written, unflushed_hold}
 use Rattle.jobs.proofs.ListRuns.{next_stops}
+use Rattle.jobs.proofs.Told.{tells_join, tells_kept}
 use Rattle.run_parts.specs.declared.outcome.Failure.TheVariants.{Read}
 use Rattle.jobs.proofs.many_files.run_list.Goals.{then-not-contains+in_ok-flush, else-not-contains}
 use Rattle.jobs.proofs.many_files.run_list.Goals as goal
@@ -20,16 +22,17 @@ loop-init g c = record {
   ready = c.store_for-kept.ensures;
   capacity = omega (arith, c.in-Ok-with_capacity.ensures.capacity);
   written = none_written (WritesName (g.P.Opener.gives c.args.opener.now) (every_of c.args.task)) _ _ none_read;
+  told = none_told (Keeps-refl _);
 }
 
-pub returns-in_default : goal.returns-in_default
-returns-in_default g c = whole (files_end no_memory) (Appends-nil _)
+pub returns-in_default-clause-holds : goal.returns-in_default-clause-holds
+returns-in_default-clause-holds g c = whole (files_end no_memory) (Appends-nil _)
 
-pub returns-in_default-with_capacity : goal.returns-in_default-with_capacity
-returns-in_default-with_capacity g c = whole (files_end no_memory) (Appends-nil _)
+pub returns-in_default-with_capacity-clause-holds : goal.returns-in_default-with_capacity-clause-holds
+returns-in_default-with_capacity-clause-holds g c = whole (files_end no_memory) (Appends-nil _)
 
-pub returns-in_err-flush : goal.returns-in_err-flush
-returns-in_err-flush g c =
+pub returns-in_err-flush-clause-holds : goal.returns-in_err-flush-clause-holds
+returns-in_err-flush-clause-holds g c =
     let gives = g.P.Opener.gives c.args.opener.now in
     let every = every_of c.args.task in
     let is = fresh_reader g.L.Read.remaining c.in-Ok.list c.args.list 8192 c.in-Ok.ensures.inner c.in-Ok.ensures.empty
@@ -42,8 +45,8 @@ returns-in_err-flush g c =
     c.loop.greatest _ None (λ names lines read written. first_names {stop = None} tt (first_listed is read) written)
     (kept_written (WritesName gives every) _ _ _ _ c.loop.greatest c.loop.invariant.written c.in_err-flush.ensures))
 
-pub returns-in_err-status : goal.returns-in_err-status
-returns-in_err-status g c =
+pub returns-in_err-status-clause-holds : goal.returns-in_err-status-clause-holds
+returns-in_err-status-clause-holds g c =
     let gives = g.P.Opener.gives c.args.opener.now in
     let every = every_of c.args.task in
     let is = fresh_reader g.L.Read.remaining c.in-Ok.list c.args.list 8192 c.in-Ok.ensures.inner c.in-Ok.ensures.empty
@@ -59,8 +62,8 @@ returns-in_err-status g c =
     (kept_written (WritesName gives every) _ _ _ _ c.loop.greatest c.loop.invariant.written keeps)
     c.in_err-status.ensures.err)
 
-pub returns-in-None : goal.returns-in-None
-returns-in-None g c =
+pub returns-in-None-clause-holds : goal.returns-in-None-clause-holds
+returns-in-None-clause-holds g c =
     let gives = g.P.Opener.gives c.args.opener.now in
     let every = every_of c.args.task in
     let is = fresh_reader g.L.Read.remaining c.in-Ok.list c.args.list 8192 c.in-Ok.ensures.inner c.in-Ok.ensures.empty
@@ -94,6 +97,11 @@ loop-preserved g c =
       | then-not-contains+in_ok-flush w ↦ rw w.out-is w.flush.ensures
       | else-not-contains w ↦ rw w.out-is (Keeps-refl _)
     ] in
+    let shown : Keeps (g.A.Aside.told c.loop.aside) (g.A.Aside.told c.if-not-contains.aside) =
+    elim c.if-not-contains.branch [
+      | then-not-contains+in_ok-flush w ↦ rw w.aside-is w.show.ensures
+      | else-not-contains w ↦ rw w.aside-is (Keeps-refl _)
+    ] in
     let gives = g.P.Opener.gives c.args.opener.now in
     let every = every_of c.args.task in
     let next = rw c.in-Some.is at c.in_ok-status.ensures.some in
@@ -104,10 +112,11 @@ loop-preserved g c =
           _ _ next.name _ _ _ c.loop.greatest c.in-Some.status (λ names read. one_read read next.is)
           (kept_written (WritesName gives every) _ _ _ _ c.loop.greatest c.loop.invariant.written keeps)
           next.written);
+      told = tells_join _ _ _ _ (tells_kept _ _ _ _ c.loop.invariant.told shown) c.run_next.ensures.told;
     }
 
-pub returns : goal.returns
-returns g c =
+pub returns-clause-holds : goal.returns-clause-holds
+returns-clause-holds g c =
     let gives = g.P.Opener.gives c.args.opener.now in
     let every = every_of c.args.task in
     let is = fresh_reader g.L.Read.remaining c.in-Ok.list c.args.list 8192 c.in-Ok.ensures.inner c.in-Ok.ensures.empty
@@ -116,3 +125,27 @@ returns g c =
     (StopsList gives every (λ bytes. bytes ≡ g.L.Read.remaining c.args.list)) _
     c.loop.greatest _ Read
     (λ names lines read written. first_names refl (first_listed is read) written) c.loop.invariant.written
+
+pub returns-in_err-status-clause-told : goal.returns-in_err-status-clause-told
+returns-in_err-status-clause-told g c =
+    let shown : Keeps (g.A.Aside.told c.loop.aside) (g.A.Aside.told c.if-not-contains.aside) =
+    elim c.if-not-contains.branch [
+      | then-not-contains+in_ok-flush w ↦ rw w.aside-is w.show.ensures
+      | else-not-contains w ↦ rw w.aside-is (Keeps-refl _)
+    ] in
+    tells_join _ _ _ _ (tells_kept _ _ _ _ c.loop.invariant.told shown) c.run_next.ensures.told
+
+pub returns-in-None-clause-told : goal.returns-in-None-clause-told
+returns-in-None-clause-told g c =
+    let shown : Keeps (g.A.Aside.told c.loop.aside) (g.A.Aside.told c.if-not-contains.aside) =
+    elim c.if-not-contains.branch [
+      | then-not-contains+in_ok-flush w ↦ rw w.aside-is w.show.ensures
+      | else-not-contains w ↦ rw w.aside-is (Keeps-refl _)
+    ] in
+    tells_join _ _ _ _ (tells_kept _ _ _ _ c.loop.invariant.told shown) c.run_next.ensures.told
+
+pub returns-in_default-clause-told : goal.returns-in_default-clause-told
+returns-in_default-clause-told g c = none_told (Keeps-refl _)
+
+pub returns-in_default-with_capacity-clause-told : goal.returns-in_default-with_capacity-clause-told
+returns-in_default-with_capacity-clause-told g c = none_told (Keeps-refl _)

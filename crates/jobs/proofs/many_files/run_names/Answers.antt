@@ -1,5 +1,6 @@
 use Rattle.std.proofs.Common.{Ok, refl, sym, subst}
-use Rattle.std.proofs.KnownBytes.{Appends-nil}
+use Rattle.std.proofs.KnownBytes.{Appends-nil, Keeps-refl}
+use Rattle.jobs.specs.Asides.{none_told}
 use Rattle.jobs.specs.Due.{whole}
 use Rattle.jobs.specs.Every.{every_of}
 use Rattle.jobs.specs.Files.{no_files}
@@ -11,22 +12,25 @@ use Rattle.jobs.proofs.EachWritten.{listed_otherwise}
 use Rattle.jobs.proofs.Holding.{holds_more}
 use Rattle.jobs.proofs.many_files.run_names.Goals as goal
 
-pub returns-in-Words : goal.returns-in-Words
-returns-in-Words g c =
+pub returns-in-Words-clause-holds : goal.returns-in-Words-clause-holds
+returns-in-Words-clause-holds g c =
     rw (c.in-Words.is, c.ending_of.ensures)
     (subst (λ words. HoldsWords (g.P.Opener.gives c.args.opener.now) (every_of c.args.task) words
     (g.O.Write.contents c.args.out.now) (g.O.Write.contents c.run_words.new.out) c.run_words.result)
-    c.as_slice.ensures.value c.run_words.ensures)
+    c.as_slice.ensures.value c.run_words.ensures.holds)
 
-pub returns-in-Some : goal.returns-in-Some
-returns-in-Some g c =
+pub returns-in-Some-clause-holds : goal.returns-in-Some-clause-holds
+returns-in-Some-clause-holds g c =
     rw (c.in-EndedByZero.is, c.files_ending.ensures)
     (holds_more _ _ (Ok (files_ending c.run_list.result)) _ _
     (listed_otherwise (g.P.Opener.gives c.args.opener.now) (every_of c.args.task) _ _
     (λ bytes is. rw is (rw (sym c.deref.ensures) c.in-Some.ensures)))
-    c.run_list.ensures)
+    c.run_list.ensures.holds)
 
-pub returns-in-None : goal.returns-in-None
-returns-in-None g c =
+pub returns-in-None-clause-holds : goal.returns-in-None-clause-holds
+returns-in-None-clause-holds g c =
     rw (c.in-EndedByZero.is, c.files_ending-in-None.ensures)
     (whole (files_end (first_names refl none_listed no_files)) (Appends-nil _))
+
+pub returns-in-None-clause-told : goal.returns-in-None-clause-told
+returns-in-None-clause-told g c = none_told (Keeps-refl _)

@@ -1,8 +1,10 @@
 use Rattle.std.proofs.KnownBytes.{Keeps-refl}
 use Rattle.std.proofs.lemmas.Result.{err_from_is_err_and}
+use Rattle.jobs.specs.Asides.{TellsLong, TellsName, none_told, tells_long, tells_name}
 use Rattle.jobs.specs.Every.{every_of}
 use Rattle.jobs.specs.Lines.{unread_name}
 use Rattle.jobs.proofs.ListRuns.{long_cut, long_next, long_unread, short_cut, short_written}
+use Rattle.jobs.proofs.Told.{tells_more}
 use Rattle.jobs.proofs.many_files.run_next.Goals as goal
 
 pub returns-in_err-next-clause-err : goal.returns-in_err-next-clause-err
@@ -51,3 +53,37 @@ returns-in-Unread-clause-err g c =
     (g.L.Read.remaining c.run_long.new.list) c.as_slice-bytes.result.now
     (rw c.as_slice-bytes.ensures.value (c.in_ok-next.ensures.long c.in-Long.is))
     (rw c.in-Unread.is at c.in_ok-run_long-in-Long.ensures.ok)
+
+pub returns-in_err-status-in-Whole-clause-told : goal.returns-in_err-status-in-Whole-clause-told
+returns-in_err-status-in-Whole-clause-told g c =
+    tells_more (TellsName (g.P.Opener.gives c.args.opener.now) (every_of c.args.task) c.as_slice-bytes.result.now) _ _ _
+    (λ text tells. tells_name c.as_slice-bytes.result.now tells) c.run_name.ensures.told
+
+pub returns-in_ok-status-in-Whole-clause-told : goal.returns-in_ok-status-in-Whole-clause-told
+returns-in_ok-status-in-Whole-clause-told g c =
+    tells_more (TellsName (g.P.Opener.gives c.args.opener.now) (every_of c.args.task) c.as_slice-bytes.result.now) _ _ _
+    (λ text tells. tells_name c.as_slice-bytes.result.now tells) c.run_name.ensures.told
+
+pub returns-in_err-run_long-in-Long-clause-told : goal.returns-in_err-run_long-in-Long-clause-told
+returns-in_err-run_long-in-Long-clause-told g c =
+    tells_more (TellsLong (every_of c.args.task) c.as_slice-bytes.result.now) _ _ _
+    (λ text tells. tells_long c.as_slice-bytes.result.now
+    (rw c.as_slice-bytes.ensures.value (c.in_ok-next.ensures.long c.in-Long.is).long) tells) c.run_long.ensures.told
+
+pub returns-in-Ended-clause-told : goal.returns-in-Ended-clause-told
+returns-in-Ended-clause-told g c =
+    tells_more (TellsLong (every_of c.args.task) c.as_slice-bytes.result.now) _ _ _
+    (λ text tells. tells_long c.as_slice-bytes.result.now
+    (rw c.as_slice-bytes.ensures.value (c.in_ok-next.ensures.long c.in-Long.is).long) tells) c.run_long.ensures.told
+
+pub returns-in-Unread-clause-told : goal.returns-in-Unread-clause-told
+returns-in-Unread-clause-told g c =
+    tells_more (TellsLong (every_of c.args.task) c.as_slice-bytes.result.now) _ _ _
+    (λ text tells. tells_long c.as_slice-bytes.result.now
+    (rw c.as_slice-bytes.ensures.value (c.in_ok-next.ensures.long c.in-Long.is).long) tells) c.run_long.ensures.told
+
+pub returns-in_err-next-clause-told : goal.returns-in_err-next-clause-told
+returns-in_err-next-clause-told g c = none_told (Keeps-refl _)
+
+pub returns-in-End-clause-told : goal.returns-in-End-clause-told
+returns-in-End-clause-told g c = none_told (Keeps-refl _)

@@ -1,5 +1,7 @@
+use Rattle.jobs.specs.Asides.{TellsName, none_told, tells_name}
 use Rattle.jobs.specs.Every.{every_of}
 use Rattle.jobs.proofs.EachWritten.{unnamed_cut, unnamed_written, word_cut, word_written}
+use Rattle.jobs.proofs.Told.{tells_more}
 use Rattle.jobs.proofs.many_files.run_word.Goals as goal
 
 pub returns-in-Ok-clause-ok : goal.returns-in-Ok-clause-ok
@@ -21,3 +23,11 @@ pub returns-in-Err-clause-err : goal.returns-in-Err-clause-err
 returns-in-Err-clause-err g c =
     unnamed_cut (g.P.Opener.gives c.args.opener.now) (every_of c.args.task) c.args.word.now c.put_failed.result _ _
     c.in-Err.ensures.err (rw c.as_bytes-in-Err.ensures.value at c.put_failed.ensures.err)
+
+pub returns-in-Ok-clause-told : goal.returns-in-Ok-clause-told
+returns-in-Ok-clause-told g c =
+    tells_more (TellsName (g.P.Opener.gives c.args.opener.now) (every_of c.args.task) c.as_bytes.result.now) _ _ _
+    (λ text tells. tells_name c.as_bytes.result.now tells) c.run_name.ensures.told
+
+pub returns-in-Err-clause-told : goal.returns-in-Err-clause-told
+returns-in-Err-clause-told g c = none_told c.put_failed.ensures.told

@@ -1,15 +1,19 @@
 use Rattle.std.proofs.Common.{◌≡◌, ◌∙◌, [], ◌∷◌, ◌++◌, ◌+◌, None, take, drop, take-append-drop, refl, sym, ap, subst, arith}
+use Rattle.std.proofs.KnownBytes.{Keeps-refl}
 use Rattle.std.proofs.lemmas.List.{take_all, take_more}
 use Rattle.std.proofs.lemmas.Result.{err_from_is_err_and}
+use Rattle.jobs.specs.Asides.{none_told}
 use Rattle.jobs.specs.Every.{every_of}
 use Rattle.jobs.specs.Lines.{StopsWords, WritesWords, first_words, word_line}
 use Rattle.jobs.proofs.EachWritten.{all_hold, cut_hold, none_written, one_written}
+use Rattle.jobs.proofs.Told.{tells_join}
 use Rattle.jobs.proofs.many_files.run_words.Goals as goal
 
 pub loop-word-init : goal.loop-word-init
 loop-word-init g c = record {
   ready = c.store_for-kept.ensures;
   written = none_written (word_line (g.P.Opener.gives c.args.opener.now) (every_of c.args.task)) _ _ refl;
+  told = none_told (Keeps-refl _);
 }
 
 pub loop-word-preserved : goal.loop-word-preserved
@@ -28,10 +32,11 @@ loop-word-preserved g c =
           (λ first are. ap (λ words. words ++ c.word-item.result ∷ []) are ∙ one_more)
           c.loop-word.invariant.written
           (rw (sym c.deref.ensures) c.in_ok-status.ensures.ok));
+      told = tells_join _ _ _ _ c.loop-word.invariant.told c.run_word.ensures.told;
     }
 
-pub returns-in_err-status : goal.returns-in_err-status
-returns-in_err-status g c =
+pub returns-in_err-status-clause-holds : goal.returns-in_err-status-clause-holds
+returns-in_err-status-clause-holds g c =
     let gives = g.P.Opener.gives c.args.opener.now in
     let every = every_of c.args.task in
     let index = c.loop-word.word-index in
@@ -50,8 +55,8 @@ returns-in_err-status g c =
     ∙ take-append-drop (index + 1) words) written)
     c.loop-word.invariant.written (rw (sym c.deref.ensures) c.in_err-status.ensures.err))
 
-pub returns : goal.returns
-returns g c =
+pub returns-clause-holds : goal.returns-clause-holds
+returns-clause-holds g c =
     let gives = g.P.Opener.gives c.args.opener.now in
     let every = every_of c.args.task in
     let words = c.args.words.now in
@@ -61,3 +66,6 @@ returns g c =
     (λ first lines are written. subst (λ files. WritesWords gives every files c.loop-word.greatest lines)
     (are ∙ all) written)
     c.loop-word.invariant.written
+
+pub returns-in_err-status-clause-told : goal.returns-in_err-status-clause-told
+returns-in_err-status-clause-told g c = tells_join _ _ _ _ c.loop-word.invariant.told c.run_word.ensures.told

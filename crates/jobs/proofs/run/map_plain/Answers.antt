@@ -4,16 +4,27 @@ use Rattle.jobs.specs.Aims.{of_mapping}
 use Rattle.jobs.specs.Due.{of_pickle, unread}
 use Rattle.jobs.specs.Jobs.{DueFile}
 use Rattle.jobs.proofs.Holding.{holds_more, no_text}
+use Rattle.jobs.proofs.Explained.{fault_explains, word_explains}
 use Rattle.jobs.proofs.run.map_plain.Goals as goal
 
-pub returns-in_err-pickle : goal.returns-in_err-pickle
-returns-in_err-pickle g c =
+pub returns-in_err-pickle-clause-holds : goal.returns-in_err-pickle-clause-holds
+returns-in_err-pickle-clause-holds g c =
     let p = err_from_is_err_and c.from_residual.result c.from_residual.ensures.1 in
     rw (p.1, p.2) (no_text _ _ _ _ (unread c.in_err-pickle.ensures.err) (Keeps-refl _))
 
-pub returns : goal.returns
-returns g c =
+pub returns-clause-holds : goal.returns-clause-holds
+returns-clause-holds g c =
     holds_more
     (DueFile (g.P.Opener.gives c.args.opener.now) c.args.why.now.asked (of_mapping c.args.mapping) c.args.path.now
     c.in_ok-pickle.pickle.bytes.items)
-    _ c.map_file.result _ _ (λ lines end due. of_pickle c.in_ok-pickle.ensures.ok due) c.map_file.ensures
+    _ c.map_file-ended.result _ _ (λ lines end due. of_pickle c.in_ok-pickle.ensures.ok due) c.map_file-ended.ensures
+
+pub returns-clause-says : goal.returns-clause-says
+returns-clause-says g c =
+    word_explains (g.P.Opener.gives c.args.opener.now) c.args.word.now c.in_ok-pickle.pickle c.args.why.now.asked _
+    c.map_file-ended.result c.in_ok-pickle.ensures.ok c.explain_ending.ensures
+
+pub returns-in_err-pickle-clause-says : goal.returns-in_err-pickle-clause-says
+returns-in_err-pickle-clause-says g c =
+    let p = err_from_is_err_and c.from_residual.result c.from_residual.ensures.1 in
+    rw (p.1, p.2) (fault_explains _ _ _ _)

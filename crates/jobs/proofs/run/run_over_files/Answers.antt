@@ -1,4 +1,10 @@
 use Rattle.jobs.proofs.run.run_over_files.Goals as goal
 
-pub returns-in-Request : goal.returns-in-Request
-returns-in-Request g c = rw c.in-Request.is c.run_request.ensures
+pub returns-in-Request-clause-holds : goal.returns-in-Request-clause-holds
+returns-in-Request-clause-holds g c = rw c.in-Request.is c.run_request.ensures.holds
+
+pub returns-in-Request-clause-says : goal.returns-in-Request-clause-says
+returns-in-Request-clause-says g c = rw c.in-Request.is c.run_request.ensures.says
+
+pub returns-in-Request-clause-told : goal.returns-in-Request-clause-told
+returns-in-Request-clause-told g c = rw c.in-Request.is c.run_request.ensures.told

@@ -8,25 +8,29 @@ use Rattle.jobs.specs.Due.{End, Holds, of_pickle, unread}
 use Rattle.jobs.specs.Jobs.{DueIfAny, DueMapping, DueSubject}
 use Rattle.jobs.proofs.Chosen.{settled_request, usage_holds}
 use Rattle.jobs.proofs.Holding.{holds_more, no_text}
+use Rattle.jobs.specs.Asides.{none_told}
+use Rattle.jobs.proofs.Explained.{fault_explains, usage_explains, word_explains}
+use Rattle.jobs.proofs.Requested.{request_tells}
+use Rattle.jobs.proofs.Told.{tells_more}
 use Rattle.jobs.proofs.run.run_request.Goals as goal
 
-pub returns-in_default : goal.returns-in_default
-returns-in_default g c =
+pub returns-in_default-clause-holds : goal.returns-in_default-clause-holds
+returns-in_default-clause-holds g c =
     let none : pickle_of c.args.request.now.subject ≡ None =
     sym c.pickle.ensures ∙ ap (option_map (λ word. word.now)) c.in_default.is in
     subst (λ word. Holds (DueSubject (g.P.Opener.gives c.args.opener.now) c.args.why.now.asked c.args.request.now word)
     (g.O.Write.contents c.args.out.now) (g.O.Write.contents c.run_unnamed.new.out) c.run_unnamed.result)
     (sym none) c.run_unnamed.ensures
 
-pub returns-in_err-pickle : goal.returns-in_err-pickle
-returns-in_err-pickle g c =
+pub returns-in_err-pickle-clause-holds : goal.returns-in_err-pickle-clause-holds
+returns-in_err-pickle-clause-holds g c =
     let some : pickle_of c.args.request.now.subject ≡ Some c.in-Some.word.now =
     sym c.pickle.ensures ∙ ap (option_map (λ word. word.now)) c.in-Some.is in
     let p = err_from_is_err_and c.from_residual.result c.from_residual.ensures.1 in
     rw (p.1, p.2, some) (no_text _ _ _ _ (unread c.in_err-pickle.ensures.err) (Keeps-refl _))
 
-pub returns : goal.returns
-returns g c =
+pub returns-clause-holds : goal.returns-clause-holds
+returns-clause-holds g c =
     let some : pickle_of c.args.request.now.subject ≡ Some c.in-Some.word.now =
     sym c.pickle.ensures ∙ ap (option_map (λ word. word.now)) c.in-Some.is in
     let request = c.args.request.now in
@@ -40,8 +44,8 @@ returns g c =
     (usage_holds Due (of_request request bytes) c.refuse.result _ _ (ap (option_map (of_chosen request)) unsaid)
     c.refuse.ensures (Keeps-refl _)))
 
-pub returns-in-Ok : goal.returns-in-Ok
-returns-in-Ok g c =
+pub returns-in-Ok-clause-holds : goal.returns-in-Ok-clause-holds
+returns-in-Ok-clause-holds g c =
     let some : pickle_of c.args.request.now.subject ≡ Some c.in-Some.word.now =
     sym c.pickle.ensures ∙ ap (option_map (λ word. word.now)) c.in-Some.is in
     let request = c.args.request.now in
@@ -57,4 +61,54 @@ returns-in-Ok g c =
     (λ lines end due. of_pickle c.in_ok-pickle.ensures.ok due)
     (subst (λ requested. Holds (DueIfAny Due requested) (g.O.Write.contents c.args.out.now)
     (g.O.Write.contents c.run_settled.new.out) c.run_settled.result)
-    (settled_request request bytes found c.settle_terms.new.terms said settled) c.run_settled.ensures))
+    (settled_request request bytes found c.settle_terms.new.terms said settled) c.run_settled.ensures.holds))
+
+pub returns-in_default-clause-says : goal.returns-in_default-clause-says
+returns-in_default-clause-says g c =
+    let none : pickle_of c.args.request.now.subject ≡ None =
+    sym c.pickle.ensures ∙ ap (option_map (λ word. word.now)) c.in_default.is in
+    rw none tt
+
+pub returns-in_default-clause-told : goal.returns-in_default-clause-told
+returns-in_default-clause-told g c = none_told (Keeps-refl _)
+
+pub returns-in_err-pickle-clause-says : goal.returns-in_err-pickle-clause-says
+returns-in_err-pickle-clause-says g c =
+    let some : pickle_of c.args.request.now.subject ≡ Some c.in-Some.word.now =
+    sym c.pickle.ensures ∙ ap (option_map (λ word. word.now)) c.in-Some.is in
+    let p = err_from_is_err_and c.from_residual.result c.from_residual.ensures.1 in
+    rw (p.1, p.2, some) (fault_explains _ _ _ _)
+
+pub returns-in_err-pickle-clause-told : goal.returns-in_err-pickle-clause-told
+returns-in_err-pickle-clause-told g c = none_told (Keeps-refl _)
+
+pub returns-clause-says : goal.returns-clause-says
+returns-clause-says g c =
+    let some : pickle_of c.args.request.now.subject ≡ Some c.in-Some.word.now =
+    sym c.pickle.ensures ∙ ap (option_map (λ word. word.now)) c.in-Some.is in
+    rw some (usage_explains _ _ _ c.refuse.result c.refuse.ensures)
+
+pub returns-clause-told : goal.returns-clause-told
+returns-clause-told g c = none_told (Keeps-refl _)
+
+pub returns-in-Ok-clause-says : goal.returns-in-Ok-clause-says
+returns-in-Ok-clause-says g c =
+    let some : pickle_of c.args.request.now.subject ≡ Some c.in-Some.word.now =
+    sym c.pickle.ensures ∙ ap (option_map (λ word. word.now)) c.in-Some.is in
+    rw some (word_explains (g.P.Opener.gives c.args.opener.now) c.in-Some.word.now c.in_ok-pickle.pickle
+    c.args.why.now.asked _ c.run_settled.result c.in_ok-pickle.ensures.ok c.run_settled.ensures.says)
+
+pub returns-in-Ok-clause-told : goal.returns-in-Ok-clause-told
+returns-in-Ok-clause-told g c =
+    let request = c.args.request.now in
+    let bytes = c.in_ok-pickle.pickle.bytes.items in
+    let found = chosen_type c.in-Ok.field-0 in
+    let some : pickle_of c.args.request.now.subject ≡ Some c.in-Some.word.now =
+    sym c.pickle.ensures ∙ ap (option_map (λ word. word.now)) c.in-Some.is in
+    let said : chosen request.subject bytes ≡ Some found = rw (sym c.deref.ensures.value) c.in-Ok.ensures.ok in
+    let settled : c.settle_terms.new.terms ≡ settled_terms request.form found.whole request.terms =
+    c.settle_terms.ensures in
+    tells_more _ _ _ _
+    (λ text tells. request_tells (g.P.Opener.gives c.args.opener.now) c.args.why.now.asked request bytes
+    c.in-Some.word.now text found c.settle_terms.new.terms some c.in_ok-pickle.ensures.ok said settled tells)
+    c.run_settled.ensures.told

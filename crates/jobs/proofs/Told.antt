@@ -1,0 +1,116 @@
+-- What is told of files aside.
+use Rattle.std.proofs.Common.{◌≡◌, ◌≢◌, Bool, true, false, ℕ, List, [], Option, Some, None, Result, Ok, Err, OnOk, refl, subst, ap, ◌∙◌, if◌then◌else◌}
+use Rattle.std.proofs.KnownBytes.{Keeps-refl, Keeps-trans}
+use Rattle.std.specs.Io.KnownBytes.{Keeps}
+use Rattle.bit_space.specs.SpaceView.{SpaceView}
+use Rattle.command_line.specs.Starts.{start_bit}
+use Rattle.jobs.specs.Asides.{IsUnopened, Tells, TellsInForm, TellsLines, TellsName, TellsRun, TellsSome, all_lines, lack_memory, no_lines, none_told, one_told, opened_name, tells_run, tells_untold}
+use Rattle.jobs.specs.Explained.{ExplainsFrom, IsOpeningLine, SaysFrom, explains_from}
+use Rattle.jobs.specs.Files.{Every}
+use Rattle.jobs.specs.Gives.{Gives}
+use Rattle.jobs.specs.Mapped.{Mapped}
+use Rattle.jobs.specs.Reasons.{lines_of, untold}
+use Rattle.jobs.specs.Telling.{GrowsUpTo}
+use Rattle.jobs.specs.declared.file_run.FileForm.{FileForm}
+use Rattle.jobs.specs.declared.file_run.FileForm.TheVariants.{Line, Object}
+use Rattle.jobs.specs.declared.why.Reasons.{Reasons}
+use Rattle.run_parts.specs.declared.outcome.Outcome.{Outcome}
+use Rattle.spool.specs.Window.{seen}
+use Rattle.text_output.proofs.Parts.{Appends-keeps}
+
+-- nothing is told after a text
+upto_keeps : (told mid told' : Option (List ℕ)) (text : List ℕ) → GrowsUpTo told mid text → Keeps mid told' →
+    GrowsUpTo told told' text
+upto_keeps None mid told' text h keeps = tt
+upto_keeps (Some bytes) mid told' text h keeps = record {
+  taken = h.taken;
+  rest = h.rest;
+  appends = Appends-keeps (Some bytes) mid told' h.taken h.appends keeps;
+  whole = h.whole;
+}
+
+-- nothing is told after texts
+pub tells_kept : (A : List ℕ → Type 0) (told mid told' : Option (List ℕ)) → Tells A told mid → Keeps mid told' →
+    Tells A told told'
+tells_kept A told mid told' (none_told same) keeps = none_told (Keeps-trans told mid told' same keeps)
+tells_kept A told mid told' (one_told first right text) keeps =
+    one_told first right (upto_keeps _ mid told' _ text keeps)
+
+-- texts are told after texts
+pub tells_join : (A : List ℕ → Type 0) (told mid told' : Option (List ℕ)) → Tells A told mid → Tells A mid told' →
+    Tells A told told'
+tells_join A told mid told' first (none_told keeps) = tells_kept A told mid told' first keeps
+tells_join A told mid told' first (one_told {mid = last} more right text) =
+    one_told (tells_join A told mid last first more) right text
+
+-- nothing is told before texts
+pub kept_tells : (A : List ℕ → Type 0) (told mid told' : Option (List ℕ)) → Keeps told mid → Tells A mid told' →
+    Tells A told told'
+kept_tells A told mid told' keeps more = tells_join A told mid told' (none_told keeps) more
+
+-- texts that are right otherwise, too
+pub tells_more : (A B : List ℕ → Type 0) (told told' : Option (List ℕ)) → ((text : List ℕ) → A text → B text)
+    → Tells A told told' → Tells B told told'
+tells_more A B told told' more (none_told keeps) = none_told keeps
+tells_more A B told told' more (one_told {mid = mid} {text = text} first right appends) =
+    one_told (tells_more A B told mid more first) (more text right) appends
+
+-- lines that are told, where they explain how the run of a file ended
+some_tell : (name lines : List ℕ) (Explains : List ℕ → Type 0) (told told' : Option (List ℕ))
+    → (lines ≢ [] → Explains lines) → TellsSome name lines told told' → Tells (TellsRun name Explains) told told'
+some_tell name lines Explains told told' explains (no_lines none keeps) = none_told keeps
+some_tell name lines Explains told told' explains (all_lines some appends) =
+    one_told (none_told (Keeps-refl told)) (tells_run (explains some)) appends
+some_tell name lines Explains told told' explains (lack_memory some appends) =
+    one_told (none_told (Keeps-refl told)) tells_untold appends
+
+pub lines_tell : {T E : Type 0} (name lines : List ℕ) (Explains : List ℕ → Type 0) (told told' : Option (List ℕ))
+    (r : Result T E) → (lines ≢ [] → Explains lines) → TellsLines name lines told told' r
+    → Tells (TellsRun name Explains) told told'
+lines_tell name lines Explains told told' (Ok done) explains h = some_tell name lines Explains told told' explains h
+lines_tell name lines Explains told told' (Err fault) explains h = none_told h
+
+pub form_tells : {T E : Type 0} (form : FileForm) (name lines : List ℕ) (Explains : List ℕ → Type 0)
+    (told told' : Option (List ℕ)) (r : Result T E) → (lines ≢ [] → Explains lines)
+    → TellsInForm form name lines told told' r → Tells (TellsRun name Explains) told told'
+form_tells (Line faults) name lines Explains told told' r explains h =
+    lines_tell name lines Explains told told' r explains h
+form_tells Object name lines Explains told told' r explains h = none_told h
+
+-- the lines of reasons that were made, and of those for which memory lacks
+pub text_lines : (reasons : Reasons) (text : List ℕ) → reasons.text.items ≡ text → reasons.lack_memory ≡ false →
+    lines_of reasons ≡ text
+text_lines reasons text same made = ap (λ lack. if lack then untold else reasons.text.items) made ∙ same
+
+pub lacking_lines : (reasons : Reasons) → reasons.lack_memory ≡ true → lines_of reasons ≡ untold
+lacking_lines reasons lacks = ap (λ lack. if lack then untold else reasons.text.items) lacks
+
+-- lines on a file that isn't opened, if reasons are requested
+pub unopened_explains : (why : Bool) (lines : List ℕ) → (why ≡ false → lines ≡ []) → IsOpeningLine lines → lines ≢ []
+    → IsUnopened why lines
+unopened_explains true lines quiet line some = record { asked = refl; line = line }
+unopened_explains false lines quiet line some = absurd (some (quiet refl))
+
+-- lines on a mapping, if reasons are requested and it has a value or a fault
+pub mapped_explains : (mapped : Mapped) (why is : Bool) (start : ℕ) (file : SpaceView) (ended : Outcome)
+    (reasons : Reasons) → (why ≡ false → lines_of reasons ≡ []) → (is ≡ false → lines_of reasons ≡ [])
+    → (why ≡ true → is ≡ true → SaysFrom mapped start file ended reasons) → lines_of reasons ≢ []
+    → ExplainsFrom mapped why start file (lines_of reasons)
+mapped_explains mapped true true start file ended reasons quiet unmapped says some =
+    explains_from refl (says refl refl)
+mapped_explains mapped true false start file ended reasons quiet unmapped says some = absurd (some (unmapped refl))
+mapped_explains mapped false is start file ended reasons quiet unmapped says some = absurd (some (quiet refl))
+
+-- a text on the run of a file that was opened
+pub opened_tells : (gives : Gives) (every : Every) (name text : List ℕ) (file sight : SpaceView) (start : ℕ)
+    → gives.is_file name every.spool file → start_bit every.start file.len ≡ Some start
+    → sight ≡ seen every.window start file → TellsRun name (every.explains start sight) text
+    → TellsName gives every name text
+opened_tells gives every name _ file sight start is from same (tells_run {lines = lines} explains) =
+    tells_run (opened_name start is from (subst (λ view. every.explains start view lines) same explains))
+opened_tells gives every name _ file sight start is from same tells_untold = tells_untold
+
+-- nothing is due of a call's result
+pub nothing_due : {T E : Type 0} (r : Result T E) → OnOk r (Unit {0})
+nothing_due (Ok done) = tt
+nothing_due (Err fault) = tt
