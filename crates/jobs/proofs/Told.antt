@@ -1,5 +1,5 @@
 -- What is told of files aside.
-use Rattle.std.proofs.Common.{◌≡◌, ◌≢◌, Bool, true, false, ℕ, List, [], Option, Some, None, Result, Ok, Err, OnOk, refl, subst, ap, ◌∙◌, if◌then◌else◌}
+use Rattle.std.proofs.Common.{◌≡◌, ◌≢◌, Bool, true, false, ℕ, List, [], Option, Some, Result, Ok, Err, OnOk, refl, subst, ap, ◌∙◌, if◌then◌else◌}
 use Rattle.std.proofs.KnownBytes.{Keeps-refl, Keeps-trans}
 use Rattle.std.specs.Io.KnownBytes.{Keeps}
 use Rattle.bit_space.specs.SpaceView.{SpaceView}
@@ -10,7 +10,6 @@ use Rattle.jobs.specs.Files.{Every}
 use Rattle.jobs.specs.Gives.{Gives}
 use Rattle.jobs.specs.Mapped.{Mapped}
 use Rattle.jobs.specs.Reasons.{lines_of, untold}
-use Rattle.jobs.specs.Telling.{GrowsUpTo}
 use Rattle.jobs.specs.declared.file_run.FileForm.{FileForm}
 use Rattle.jobs.specs.declared.file_run.FileForm.TheVariants.{Line, Object}
 use Rattle.jobs.specs.declared.why.Reasons.{Reasons}
@@ -18,23 +17,12 @@ use Rattle.run_parts.specs.declared.outcome.Outcome.{Outcome}
 use Rattle.spool.specs.Window.{seen}
 use Rattle.text_output.proofs.Parts.{Appends-keeps}
 
--- nothing is told after a text
-upto_keeps : (told mid told' : Option (List ℕ)) (text : List ℕ) → GrowsUpTo told mid text → Keeps mid told' →
-    GrowsUpTo told told' text
-upto_keeps None mid told' text h keeps = tt
-upto_keeps (Some bytes) mid told' text h keeps = record {
-  taken = h.taken;
-  rest = h.rest;
-  appends = Appends-keeps (Some bytes) mid told' h.taken h.appends keeps;
-  whole = h.whole;
-}
-
 -- nothing is told after texts
 pub tells_kept : (A : List ℕ → Type 0) (told mid told' : Option (List ℕ)) → Tells A told mid → Keeps mid told' →
     Tells A told told'
 tells_kept A told mid told' (none_told same) keeps = none_told (Keeps-trans told mid told' same keeps)
 tells_kept A told mid told' (one_told first right text) keeps =
-    one_told first right (upto_keeps _ mid told' _ text keeps)
+    one_told first right (Appends-keeps _ mid told' _ text keeps)
 
 -- texts are told after texts
 pub tells_join : (A : List ℕ → Type 0) (told mid told' : Option (List ℕ)) → Tells A told mid → Tells A mid told' →

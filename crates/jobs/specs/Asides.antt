@@ -1,6 +1,6 @@
 -- What is told of files aside, such as on standard error.
 use Rattle.std.specs.Prelude.{◌≡◌, ◌≢◌, ◌<◌, Bool, true, ℕ, List, [], ◌++◌, Option, Some, Result, Ok, Err, codes, length}
-use Rattle.std.specs.Io.KnownBytes.{Keeps}
+use Rattle.std.specs.Io.KnownBytes.{Appends, Keeps}
 use Rattle.bit_space.specs.SpaceView.{SpaceView}
 use Rattle.command_line.specs.Starts.{start_bit}
 use Rattle.command_line.specs.Subjects.{pickle_of}
@@ -24,7 +24,6 @@ use Rattle.jobs.specs.Mapped.{Mapped}
 use Rattle.jobs.specs.Names.{most_name}
 use Rattle.jobs.specs.Opened.{FailsNamed}
 use Rattle.jobs.specs.Reasons.{lines_of}
-use Rattle.jobs.specs.Telling.{GrowsUpTo}
 use Rattle.jobs.specs.declared.fault.FileFault.{FileFault}
 use Rattle.jobs.specs.declared.file_run.FileForm.{FileForm}
 use Rattle.jobs.specs.declared.file_run.FileForm.TheVariants.{Line, Object}
@@ -41,11 +40,11 @@ aside_text name lines = shown_name name ++ (codes ":\n" ++ lines)
 abbrev pub aside_untold : List ℕ
 aside_untold = codes "memory doesn't suffice for the reasons of a file\n"
 
--- lines are told of a file, if there are any; what can't be written is left out
+-- lines are told of a file, if there are any
 pub data TellsSome (name lines : List ℕ) (told told' : Option (List ℕ)) : Type 0 where
   no_lines : lines ≡ [] → Keeps told told' → TellsSome name lines told told'
-  all_lines : lines ≢ [] → GrowsUpTo told told' (aside_text name lines) → TellsSome name lines told told'
-  lack_memory : lines ≢ [] → GrowsUpTo told told' aside_untold → TellsSome name lines told told'
+  all_lines : lines ≢ [] → Appends told told' (aside_text name lines) → TellsSome name lines told told'
+  lack_memory : lines ≢ [] → Appends told told' aside_untold → TellsSome name lines told told'
 
 -- the same, after what the output has of the file; if the output fails nothing is told
 abbrev pub TellsLines : {T E : Type 0} → (name lines : List ℕ) → (told told' : Option (List ℕ)) → Result T E → Type 0
@@ -75,7 +74,7 @@ TellsOutcome Object mapped start file ended name told told' = Unit {0}
 pub data Tells (IsRight : List ℕ → Type 0) : (told told' : Option (List ℕ)) → Type 0 where
   none_told : {told told' : Option (List ℕ)} → Keeps told told' → Tells IsRight told told'
   one_told : {told mid told' : Option (List ℕ)} {text : List ℕ} → Tells IsRight told mid → IsRight text
-      → GrowsUpTo mid told' text → Tells IsRight told told'
+      → Appends mid told' text → Tells IsRight told told'
 
 -- a text has lines that explain how the run of a file ended, or says that memory lacks for them
 pub data TellsRun (name : List ℕ) (Explains : (lines : List ℕ) → Type 0) : (text : List ℕ) → Type 0 where

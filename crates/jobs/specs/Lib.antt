@@ -2,7 +2,6 @@ pub mod Chosen
 pub mod Aims
 pub mod FaultNames
 pub mod Gives
-pub mod Telling
 pub mod Names
 pub mod Opened
 pub mod Endings

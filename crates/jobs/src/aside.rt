@@ -1,12 +1,11 @@
 //! What is written beside the answer of a job over many files.
 
 ghost use Rattle.std.specs.Prelude.{ℕ, List, Option};
-ghost use Rattle.std.specs.Io.KnownBytes.{Keeps};
-ghost use Rattle.jobs.specs.Telling.{GrowsUpTo};
+ghost use Rattle.std.specs.Io.KnownBytes.{Appends, Keeps};
 
 /// Writes beside the answer of a job over many files, such as to standard error. What can't be written is left out.
 pub trait Aside {
-    /// The bytes that were told, if they are known. They aren't where something else is written between them.
+    /// What was told, if it is known: also what couldn't be written.
     ghost told: { Self → Option (List ℕ) };
 
     /// Shows how many files are done, if that is to be seen.
@@ -23,5 +22,5 @@ pub trait Aside {
 
     /// Writes the reasons of a file, in one call, so that those of parallel runs don't mix.
     fn tell(&mut self, reasons: &[u8])
-        ensures { GrowsUpTo (told self.old) (told self.new) reasons.now };
+        ensures { Appends (told self.old) (told self.new) reasons.now };
 }
