@@ -1,7 +1,7 @@
 -- What the open values take, and when they don't fit.
 use Rattle.std.proofs.Common.{◌≡◌, ℕ, zero, suc, ◌<◌, ◌≤◌, Bool, true, false, List, [], ◌∷◌, Option, refl, sym, ◌∙◌, ap, subst, arith}
 use Rattle.value_store.specs.declared.store.room.Growth.{Growth}
-use Rattle.value_store.specs.declared.store.room.Growth.TheVariants.{Free, Never}
+use Rattle.value_store.specs.declared.store.room.Growth.TheVariants.{Free, Never, Within}
 use Rattle.value_store.specs.declared.store.room.Room.{Room}
 use Rattle.value_store.specs.declared.store.slots.Marks.{Marks}
 use Rattle.pickle_meaning.specs.Room.{PendingSlot, slots}
@@ -11,19 +11,21 @@ use Rattle.value_store.specs.Keeping.{LacksRoom}
 use Rattle.value_store.specs.Levels.{extended}
 use Rattle.value_store.specs.Names.{Names}
 use Rattle.value_store.specs.Slots.{Slots, Held, no_slots, packs_as, packs, HoldsInRoom, levels, stack, IsSound, cut_to, marks_of, root_marks, level_of, IsLevel, innermost, AreLevels, levels_at, Adds}
+use Rattle.value_store.specs.Weights.{GrowsFreely}
 use Rattle.value_store.specs.Takes.{Vector, NodesOf, FamiliesOf, LinksOf, PendingOf, TextsOf, BytesOf, of_vector, levels_take}
 use Rattle.value_store.proofs.Counted.{marks-cut, levels-more, levels_at-more, levels-above, levels_at-above}
 use Rattle.value_store.proofs.Empty.{no_slots-levels, no_slots-sound}
 use Rattle.value_store.proofs.Taken.{taken-slots}
 
-least-packed : (growth : Growth) (least : ℕ) → packs_as growth least ≡ true → least ≡ 0
-least-packed Never least e = cc
-least-packed Free zero e = refl
-least-packed Free (suc least) e = cc
+least-packed : (growth : Growth) (least : ℕ) → GrowsFreely growth → packs_as growth least ≡ true → least ≡ 0
+least-packed Never least free e = cc
+least-packed Free zero free e = refl
+least-packed Free (suc least) free e = cc
+least-packed (Within most) least free e = absurd free
 
 -- where arrays are packed no capacity is requested in advance, so nothing fits in it
 pub packs_no_more : (room : Room) (ls : Levels) → 1 ≤ slots PendingSlot ls → packs room ≡ true → Exceeds room ls
-packs_no_more room ls some e = (PendingSlot, omega (arith, some, least-packed room.growth room.least e))
+packs_no_more room ls some e = λ free. (PendingSlot, omega (arith, some, least-packed room.growth room.least free e))
 
 -- where nothing is packed, frames take more of a vector than its capacity, which is no less than what the store was
 -- made with
@@ -31,7 +33,7 @@ module _ (h : Held) (ls : Levels) (some : 1 ≤ slots PendingSlot ls) where
   exceeds-by : (vector : Vector) (packed : Bool) → packs h.room ≡ packed →
       (packs h.room ≡ false → h.room.least < levels_take false vector ls) → Exceeds h.room ls
   exceeds-by vector true e more = packs_no_more h.room ls some e
-  exceeds-by vector false e more = let r = taken-slots vector ls in (r.0, omega (arith, more e, r.1))
+  exceeds-by vector false e more = λ free. let r = taken-slots vector ls in (r.0, omega (arith, more e, r.1))
 
   pub overfills : (vector : Vector) → h.room.least ≤ of_vector vector h.capacity →
       (packs h.room ≡ false → of_vector vector h.capacity < levels_take false vector ls) → Exceeds h.room ls

@@ -1,5 +1,5 @@
 -- What the calls of a store do to its open values.
-use Rattle.std.proofs.Common.{◌≡◌, ℕ, ◌+◌, ◌-◌, ◌<◌, ◌≤◌, false, List, [], ◌∷◌, Some, None, Result, Ok, Err, OnErr, length, max, refl, sym, ◌∙◌, ap, arith}
+use Rattle.std.proofs.Common.{◌≡◌, ℕ, ◌+◌, ◌-◌, ◌<◌, ◌≤◌, false, List, [], ◌∷◌, Some, None, Result, Ok, Err, OnOk, OnErr, length, max, refl, sym, ◌∙◌, ap, arith}
 use Rattle.std.proofs.lemmas.List.{append-nil}
 use Rattle.value_store.specs.declared.store.room.Growth.TheVariants.{Never}
 use Rattle.value_store.specs.declared.store.room.Room.{Room}
@@ -21,6 +21,11 @@ use Rattle.value_store.proofs.Fits.{levels-replaced, levels_at-replaced, innermo
 pub refused : {T E A : Type 0} (r : Result T E) → A → OnErr r A
 refused (Ok x) a = tt
 refused (Err x) a = a
+
+-- the clause of a call that is not refused
+pub accepted : {T E A : Type 0} (r : Result T E) → A → OnOk r A
+accepted (Ok x) a = a
+accepted (Err x) a = tt
 
 -- numbers
 module _ (h : Held) (shape : Shape) (start c : ℕ) (number : IsNumber shape)

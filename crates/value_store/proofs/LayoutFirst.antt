@@ -12,11 +12,11 @@ use Rattle.value_store.specs.declared.store.slots.Shape.{Shape}
 use Rattle.value_store.specs.declared.store.slots.Shape.TheVariants.{Integer, Offset, Text, Integers, Offsets, Records, Array, Struct, Union}
 use Rattle.pickle_meaning.specs.Values.{Label, IntegerLabel, OffsetLabel, TextLabel, ArrayLabel, StructLabel, UnionLabel, Value, Mapped, Levels, label_of, start_of, end_of, top_of, outer_of, value_at as part_value}
 use Rattle.value_store.specs.Gathering.{with_records, last_value, EndsWithTemplate, IsGathering, TakesRecord}
-use Rattle.value_store.specs.LayoutArrays.{HasGrown, HasRowAt, IsRowAt, IsCopied, DraftsTemplate, HoldsFirst, with_array, EndsWithFamily, IsPackingLike, PlacesTemplate, IsInStruct, TakesFirst, PacksFirst, MovesFirst, MovesAsFirst, CannotDraftArray, CannotPackFirst}
-use Rattle.value_store.specs.Layouts.{label_place, row_of, row_length, template_of, value_size, template_size, IsFixed, IsStructLabel}
+use Rattle.value_store.specs.LayoutArrays.{HasGrown, HasRowAt, IsRowAt, IsCopied, DraftsTemplate, HoldsFirst, with_array, EndsWithFamily, IsPackingLike, PlacesTemplate, IsInStruct, TakesFirst, PacksFirst, MovesFirst, MovesAsFirst, CannotDraftArray}
+use Rattle.value_store.specs.Layouts.{packs_value, label_place, row_of, row_length, template_of, value_size, template_size, IsFixed, IsStructLabel}
 use Rattle.value_store.specs.Lent.{place_value}
 use Rattle.value_store.specs.Levels.{extended}
-use Rattle.value_store.specs.Moves.{PacksRecord, State, IsWithin, with_first_drafted, state_of, moved}
+use Rattle.value_store.specs.Moves.{PacksRecord, CannotMove, State, IsWithin, with_first_drafted, state_of, moved}
 use Rattle.value_store.specs.Takes.{Vector, NodesOf, FamiliesOf, LinksOf, PendingOf, TextsOf, BytesOf, of_vector, value_takes, level_takes}
 use Rattle.value_store.specs.Names.{Names}
 use Rattle.value_store.specs.Slots.{Slots, Held, no_value, packs, opened, trees, stack, value_at, levels, levels_at, innermost, label_in, size_in, family_at, cut_to, marks_of, level_of, IsRead, IsFamily, IsContent, IsComposite, IsTemplatePart, AreLevels, HasSlots, KeepsRoom, Regrown, with_more}
@@ -231,10 +231,11 @@ pub record IsFirstRead (h : Held) (root : ℕ) (own : Node) (size count : ℕ) (
   pub counted : count ≡ length row
 
 -- a frame with one part
-alone : (ls : Levels) (v : Value) (outer : Levels) → ls ≡ (Some v ∷ []) ∷ outer → part_value ls 0 0 ≡ Some v
+pub alone : (ls : Levels) (v : Value) (outer : Levels) → ls ≡ (Some v ∷ []) ∷ outer → part_value ls 0 0 ≡ Some v
 alone ls v outer e = ap (λ ls. part_value ls 0 0) e
 
-part-is : (ls : Levels) (x v : Value) (outer : Levels) → Some x ≡ part_value ls 0 0 → ls ≡ (Some v ∷ []) ∷ outer → x ≡ v
+pub part-is : (ls : Levels) (x v : Value) (outer : Levels) → Some x ≡ part_value ls 0 0 →
+    ls ≡ (Some v ∷ []) ∷ outer → x ≡ v
 part-is ls x v outer e f = let s : Some x ≡ Some v = e ∙ alone ls v outer f in cc
 
 pub first-part : (h : Held) → TakesFirst h → HasRowAt h 0
@@ -294,7 +295,7 @@ module _ (h : Held) (root : ℕ) (q : TakesFirst h)
       omega (arith, end, begin, sized, q.small)
 
 -- a template has no text
-no-texts : (v : Value) (at : ℕ) → IsFixed v → (value_takes false TextsOf (template_of v at) ≡ 0)
+pub no-texts : (v : Value) (at : ℕ) → IsFixed v → (value_takes false TextsOf (template_of v at) ≡ 0)
     × (value_takes false BytesOf (template_of v at) ≡ 0)
 no-texts v at h =
     let own = fixed-texts v h in
@@ -317,7 +318,8 @@ parts-pending names h top outer is some =
     )
 
 -- one for the only part
-one-part : (names : Names) (h : Held) (value : Value) (outer : Levels) → levels names h ≡ (Some value ∷ []) ∷ outer →
+pub one-part : (names : Names) (h : Held) (value : Value) (outer : Levels) →
+    levels names h ≡ (Some value ∷ []) ∷ outer →
     length h.slots.pending ≡ (innermost h.frames).pending + 1
 one-part names h value outer is = parts-pending names h (Some value ∷ []) outer is (omega arith)
 
@@ -530,14 +532,23 @@ drafted-stays h m n l place count d one two PendingOf = omega (arith, d.pending,
 drafted-stays h m n l place count d one two TextsOf = omega (arith, d.texts, one.texts, two.texts)
 drafted-stays h m n l place count d one two BytesOf = omega (arith, d.bytes, one.bytes, two.bytes)
 
+-- a struct has as many bytes as its row
+pub first-stride : (h : Held) (count : ℕ) (row : List ℕ) → IsRowAt h 0 row → count ≡ length row →
+    (names : Names) (value : Value) (outer : Levels) → levels names h ≡ (Some value ∷ []) ∷ outer →
+    count ≡ row_length value
+first-stride h count row rows counted names value outer e =
+    let own = rows names value (alone (levels names h) value outer e) in
+    counted ∙ ap length own ∙ length-row value
+
 -- the template doesn't fit, or the array after it
 pub first-lacks : (h : Held) (root : ℕ) (count : ℕ) (row : List ℕ) → packs h.room ≡ true →
     ((names : Names) → Some (value_at names h.slots root) ≡ part_value (levels names h) 0 0) → IsRowAt h 0 row →
-    count ≡ length row → CannotDraftArray h (place.Node root) count → CannotPackFirst h
-first-lacks h root count row packed part rows counted lacks = λ names value outer e fixed.
+    count ≡ length row → CannotDraftArray h (place.Node root) count →
+    (names : Names) (value : Value) (outer : Levels) → levels names h ≡ (Some value ∷ []) ∷ outer → IsFixed value →
+    CannotMove h (packs_value value)
+first-lacks h root count row packed part rows counted lacks names value outer e fixed =
     let is = part-is (levels names h) (value_at names h.slots root) value outer (part names) e in
-    let own = rows names value (alone (levels names h) value outer e) in
-    let stride : count ≡ row_length value = counted ∙ ap length own ∙ length-row value in
+    let stride = first-stride h count row rows counted names value outer e in
     let l = lacks names (subst IsFixed (sym is) fixed) in
     let vector = l.0 in
     let most =

@@ -1,8 +1,9 @@
 -- The next struct of an array of packed structs of fixed layout.
-use Rattle.std.proofs.Common.{◌≡◌, ℕ, suc, ◌+◌, ◌-◌, ◌*◌, ◌/◌, ◌^◌, ◌<◌, ◌≤◌, true, List, [], ◌∷◌, ◌++◌, Option, Some, length, take, drop, refl, sym, ◌∙◌, ap, subst, arith}
+use Rattle.std.proofs.Common.{◌≡◌, ℕ, suc, ◌+◌, ◌-◌, ◌*◌, ◌/◌, ◌^◌, ◌<◌, ◌≤◌, true, List, [], ◌∷◌, ◌++◌, Option, Some, length, inr, take, drop, refl, sym, ◌∙◌, ap, subst, arith}
 use Rattle.std.specs.Prelude.{slice_get, slice_index, slice_index_or}
-use Rattle.std.proofs.lemmas.List.{append-nil, length-append, length_push, length-take, get_or_append_left}
+use Rattle.std.proofs.lemmas.List.{length-append, length_push, length-take, get_or_append_left}
 use Rattle.std.proofs.lemmas.Option.{slice_get_within, slice_get-get_or, get_or_from_slice_get}
+use Rattle.value_store.specs.declared.store.room.Room.{Room}
 use Rattle.value_store.specs.declared.store.slots.Marks.{Marks}
 use Rattle.value_store.specs.declared.store.slots.Family.{Family}
 use Rattle.value_store.specs.declared.store.slots.Node.{Node}
@@ -12,7 +13,8 @@ use Rattle.value_store.specs.Below.{Extends}
 use Rattle.value_store.specs.Gathering.{with_records, EndsWithTemplate, IsGathering, TakesRecord}
 use Rattle.value_store.specs.LayoutArrays.{joined_rows, packed_array, HasRowAt, IsRowAt, IsPackingLike, IsPackingNext, TakesNext}
 use Rattle.value_store.specs.Layouts.{row_of, row_length, template_of, value_size, template_size, packs_value, FitsRow, IsFixed}
-use Rattle.value_store.specs.Moves.{PacksRecord, CannotMove, State, with_value, with_next_value, state_of, moved}
+use Rattle.value_store.specs.Moves.{PacksRecord, CannotMove, Refuses, State, with_value, with_next_value, state_of, moved}
+use Rattle.value_store.specs.Weights.{weight, TakesWeight, RejectsWeight, IsLight}
 use Rattle.value_store.specs.Names.{Names}
 use Rattle.value_store.specs.Records.{instance}
 use Rattle.value_store.specs.Slots.{levels, packs, Slots, Held, levels_at, cut_to, marks_of, innermost, family_at, first_link, IsSound, AreLevels, HasSlots, Regrown, with_more}
@@ -228,19 +230,44 @@ module _ (names : Names) (h : Held) (template : Value) (size start : ℕ) (rows 
         let parts = Some (packed_array template size start rows) ∷ Some value ∷ [] in
         omega (arith, parts-pending names h parts outer p.is (omega arith))
 
+    -- the move of the struct leaves its bytes
+    pub next-leaves : marks_of h.slots ≡ with_value (value_size value) (marks_of p.slots) →
+        moved true (PacksRecord stride) (record { now = marks_of p.slots; frames = h.frames })
+        ≡ moved (packs h.room) (packs_value value) (state_of h)
+    next-leaves after =
+        let size = value_size value in
+        let template = template_size value in
+        ap (λ n. framed h.frames (record (marks_of p.slots) { bytes = length p.slots.bytes + n }))
+        (sym next-stride)
+        ∙ sym (next-moved (packs h.room) (state_of h) size template (row_length value) k.gathering.packs next-pending
+        ∙ ap (λ n. framed h.frames (with_next_value size (row_length value) n)) after
+        ∙ ap (framed h.frames) (value-given_up size (row_length value) (marks_of p.slots)))
+
     -- the call's move is that of the struct
     pub next-as_move : (l : Held) →
         state_of l ≡ moved true (PacksRecord stride) (record { now = marks_of p.slots; frames = h.frames }) →
         marks_of h.slots ≡ with_value (value_size value) (marks_of p.slots) →
         state_of l ≡ moved (packs h.room) (packs_value value) (state_of h)
-    next-as_move l is after =
-        let size = value_size value in
-        let template = template_size value in
-        is ∙ ap (λ n. framed h.frames (record (marks_of p.slots) { bytes = length p.slots.bytes + n }))
-        (sym next-stride)
-        ∙ sym (next-moved (packs h.room) (state_of h) size template (row_length value) k.gathering.packs next-pending
-        ∙ ap (λ n. framed h.frames (with_next_value size (row_length value) n)) after
-        ∙ ap (framed h.frames) (value-given_up size (row_length value) (marks_of p.slots)))
+    next-as_move l is after = is ∙ next-leaves after
+
+    -- which weigh more than the store takes
+    pub next-heavy : (marks : Marks) (count : ℕ) → marks ≡ marks_of p.slots → count ≡ stride →
+        marks_of h.slots ≡ with_value (value_size value) (marks_of p.slots) →
+        RejectsWeight h.room (weight marks + count) → Refuses h (packs_value value)
+    next-heavy marks count are counted after heavy =
+        let e : weight marks + count ≡ weight (moved (packs h.room) (packs_value value) (state_of h)).now =
+        omega (arith, ap weight are, counted, ap (λ (s : State). weight s.now) (next-leaves after)) in
+        inr (subst (RejectsWeight h.room) e heavy)
+
+    -- or not
+    pub next-light : (marks : Marks) (count : ℕ) → marks ≡ marks_of p.slots → count ≡ stride → (l : Held) →
+        state_of l ≡ moved true (PacksRecord stride) (record { now = marks_of p.slots; frames = h.frames }) →
+        l.room ≡ h.room → TakesWeight h.room (weight marks + count) → IsLight l
+    next-light marks count are counted l is room light =
+        let e : weight marks + count ≡ weight (marks_of l.slots) =
+        omega (arith, ap weight are, counted, ap (λ (s : State). weight s.now) is) in
+        subst (λ (r : Room). TakesWeight r (weight (marks_of l.slots))) (sym room)
+        (subst (TakesWeight h.room) e light)
 
     -- the bytes don't fit
     pub next-lacks : h.capacity.bytes < length p.slots.bytes + stride →

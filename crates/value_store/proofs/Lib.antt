@@ -16,6 +16,7 @@ pub mod Below
 pub mod Frames
 pub mod Numbers
 pub mod Moved
+pub mod Weights
 pub mod Writing
 pub mod PackedRows
 pub mod Packed
@@ -36,6 +37,7 @@ pub mod PackedStructs
 pub mod LayoutTemplates
 pub mod LayoutArrays
 pub mod LayoutFirst
+pub mod LayoutWeights
 pub mod LayoutNext
 pub mod Lookup
 pub mod Integers

@@ -138,12 +138,12 @@ module _ (names : Names) (h : Held) (shape : Shape) (bytes : List ℕ) (start : 
       ) in
       same-marks _ _ w.none rows.families rows.links pending rows.texts rows.bytes
 
-  fresh-marks : HasNoNode h → marks_of h.slots ≡ innermost h.frames
+  pub fresh-marks : HasNoNode h → marks_of h.slots ≡ innermost h.frames
   fresh-marks fresh =
       let none = fresh-empty names h shape bytes start outer w fresh in
       ap marks_of (w.is ∙ ap (λ bs. written shape bs start w.before) none) ∙ before-marks
 
-  stale-marks : (HasNoNode h → ⊥) → marks_of h.slots ≡ with_text (innermost h.frames) (length h.slots.bytes)
+  pub stale-marks : (HasNoNode h → ⊥) → marks_of h.slots ≡ with_text (innermost h.frames) (length h.slots.bytes)
   stale-marks stale =
       let some = stale-some names h shape bytes start outer w stale in
       let is = filling-slots names h shape bytes start outer w some in
@@ -199,7 +199,7 @@ lacks-bytes (Err x) h count move e lacks = (BytesOf, omega (arith, lacks.1, e))
 module _ (h : Held) (shape : Shape) (start width digits : ℕ) (own : List ℕ) (p : IsPacked shape)
     (same : width ≡ element_width shape)
     (is : own ≡ number_bytes (bytes_for (element_width shape)) digits) (t : TakesNumber h shape start) where
-  packs-longer : framed h.frames (with_text (innermost h.frames) (length h.slots.bytes + length own))
+  pub packs-longer : framed h.frames (with_text (innermost h.frames) (length h.slots.bytes + length own))
       ≡ moved (packs h.room) (Packs width) (state_of h)
   packs-longer =
       let count : length own ≡ bytes_for width =

@@ -3,7 +3,7 @@ use Rattle.std.proofs.Common.{◌≡◌, ℕ, zero, suc, ◌<◌, ◌≤◌, tru
 use Rattle.std.specs.Prelude.{nat_le}
 use Rattle.std.proofs.lemmas.Bool.{le-leb, lt-leb}
 use Rattle.value_store.specs.declared.store.room.Growth.{Growth}
-use Rattle.value_store.specs.declared.store.room.Growth.TheVariants.{Free, Never}
+use Rattle.value_store.specs.declared.store.room.Growth.TheVariants.{Free, Never, Within}
 use Rattle.value_store.specs.declared.store.room.Room.{Room}
 use Rattle.value_store.specs.declared.store.slots.Marks.{Marks}
 use Rattle.value_store.specs.Names.{Names}
@@ -23,6 +23,7 @@ packs-fewer Never fewer more le none = refl
 packs-fewer Free zero more le none = absurd cc
 packs-fewer Free (suc fewer) zero le none = absurd (omega arith)
 packs-fewer Free (suc fewer) (suc more) le none = refl
+packs-fewer (Within most) fewer more le none = absurd cc
 
 level-fewer : (room : Room) (slots : ℕ) (k : Marks) (s : Slots) → slots ≤ room.least → IsLevel room k s →
     IsLevel (record room { least = slots }) k s

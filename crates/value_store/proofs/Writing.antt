@@ -303,7 +303,8 @@ closed-slots kind bytes start outer =
 
 pub overfills-closed : (h : Held) (bytes : List ℕ) (start : ℕ) (outer : Levels) →
     Exceeds h.room (text_level bytes start outer) → Exceeds h.room (closed_text bytes start outer)
-overfills-closed h bytes start outer o = (o.0, omega (arith, o.1, closed-slots o.0 bytes start outer))
+overfills-closed h bytes start outer exceeds = λ free.
+    let o = exceeds free in (o.0, omega (arith, o.1, closed-slots o.0 bytes start outer))
 
 -- the clauses of the calls
 on_ok : {T E A B : Type 0} (r : Result T E) → (A → B) → OnOk r A → OnOk r B

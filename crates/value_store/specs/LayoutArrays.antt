@@ -1,5 +1,5 @@
 -- Arrays of packed structs of fixed layout, which a store makes of values that were placed as others are.
-use Rattle.std.specs.Prelude.{◌≡◌, ℕ, ◌+◌, ◌-◌, ◌*◌, ◌^◌, ◌<◌, ◌≤◌, true, false, List, [], ◌∷◌, ◌++◌, Option, Some, length, slice_get}
+use Rattle.std.specs.Prelude.{◌≡◌, ◌⊎◌, ℕ, ◌+◌, ◌-◌, ◌*◌, ◌^◌, ◌<◌, ◌≤◌, true, false, List, [], ◌∷◌, ◌++◌, Option, Some, length, slice_get}
 use Rattle.pickle_meaning.specs.Values.{ArrayLabel, Value, Mapped, Levels, pushed, gathered, label_of, start_of, end_of}
 use Rattle.value_store.specs.declared.store.slots.Marks.{Marks}
 use Rattle.value_store.specs.declared.store.slots.Node.{Node}
@@ -9,11 +9,12 @@ use Rattle.value_store.specs.declared.stored.StoredValue.{StoredValue}
 use Rattle.value_store.specs.Gathering.{last_value, IsGathering}
 use Rattle.value_store.specs.Layouts.{row_of, row_length, template_of, templates_upto, length_upto, value_size, template_size, packs_value, IsFixed, IsStructLabel}
 use Rattle.value_store.specs.Lent.{place_value, IsPlace}
-use Rattle.value_store.specs.Moves.{PacksRecord, Moves, CannotMove, IsWithin, state_of, moved, needed, with_value, with_links, with_first_drafted}
+use Rattle.value_store.specs.Moves.{PacksRecord, Moves, Refuses, IsWithin, state_of, moved, needed, with_value, with_links, with_first_value, with_first_drafted}
 use Rattle.value_store.specs.Names.{Names}
 use Rattle.value_store.specs.Records.{instance}
 use Rattle.value_store.specs.Refs.{value_of}
 use Rattle.value_store.specs.Takes.{Vector, NodesOf, FamiliesOf, LinksOf, PendingOf, TextsOf, BytesOf, of_vector, value_takes, level_takes}
+use Rattle.value_store.specs.Weights.{IsUnbounded, TakesWeight, RejectsWeight, weight}
 use Rattle.value_store.specs.Slots.{Slots, Held, packs, levels, cut_to, marks_of, innermost, AreLevels, Adds, HasSlots, HoldsInRoom, IsComposite, IsTemplatePart, AreTemplateParts}
 use Rattle.pickle_meaning.specs.Values.{members_of, value_at as part_value}
 
@@ -126,10 +127,10 @@ HoldsFirst before after = (names : Names) (value : Value) (outer : Levels) →
     levels names before ≡ (Some value ∷ []) ∷ outer → IsFixed value →
     IsWithin (needed (packs before.room) (packs_value value) (state_of before)) after.capacity
 
--- that move needs more of some vector than its capacity
-abbrev pub CannotPackFirst : Held → Type 0
-CannotPackFirst before = (names : Names) (value : Value) (outer : Levels) →
-    levels names before ≡ (Some value ∷ []) ∷ outer → IsFixed value → CannotMove before (packs_value value)
+-- that move is refused
+abbrev pub RefusesFirst : Held → Type 0
+RefusesFirst before = (names : Names) (value : Value) (outer : Levels) →
+    levels names before ≡ (Some value ∷ []) ∷ outer → IsFixed value → Refuses before (packs_value value)
 
 -- the innermost open value has an array of packed structs and a struct, which may be the next
 pub record TakesNext (h : Held) : Type 0 where
@@ -162,13 +163,13 @@ KeepsRow before after =
     state_of after ≡ moved true (PacksRecord (row_length template))
     (record { now = marks_of next.slots; frames = before.frames })
 
--- the array's bytes and those of the struct are more than the capacity
+-- where its weight isn't bounded: the array's bytes and those of the struct are more than the capacity
 abbrev pub LacksRow : Held → Type 0
 LacksRow before =
     (names : Names) (template : Value) (size start : ℕ) (rows : List (List ℕ)) (value : Value) (outer : Levels)
     (next : IsPackingNext names before template size start rows value outer) → IsFixed value →
     value ≡ instance template (size * length rows) (row_of value) → start + size * (length rows + 1) < 2 ^ 64 →
-    before.capacity.bytes < length next.slots.bytes + row_length template
+    IsUnbounded before.room → before.capacity.bytes < length next.slots.bytes + row_length template
 
 -- where the struct takes all that was stored after the array, the call makes the move of the struct
 abbrev pub MovesAsNext : (before after : Held) → Type 0
@@ -179,14 +180,14 @@ MovesAsNext before after =
     marks_of before.slots ≡ with_value (value_size value) (marks_of next.slots) →
     Moves before after (packs_value value)
 
--- where the struct takes all that was stored after the array, that move needs more of some vector than its capacity
-abbrev pub CannotPackNext : Held → Type 0
-CannotPackNext before =
+-- where the struct takes all that was stored after the array, that move is refused
+abbrev pub RefusesNext : Held → Type 0
+RefusesNext before =
     (names : Names) (template : Value) (size start : ℕ) (rows : List (List ℕ)) (value : Value) (outer : Levels)
     (next : IsPackingNext names before template size start rows value outer) → IsFixed value →
     value ≡ instance template (size * length rows) (row_of value) → start + size * (length rows + 1) < 2 ^ 64 →
     marks_of before.slots ≡ with_value (value_size value) (marks_of next.slots) →
-    CannotMove before (packs_value value)
+    Refuses before (packs_value value)
 
 -- the array is one more member of the value around it
 abbrev pub ClosesPacking : (before after : Held) → Type 0
@@ -244,6 +245,12 @@ abbrev pub CannotDraftArray : Held → Place → (count : ℕ) → Type 0
 CannotDraftArray before place count = (names : Names) → IsFixed (place_value names before.slots place) →
     (vector : Vector) × (of_vector vector before.capacity < of_vector vector
     (with_first_drafted (template_size (place_value names before.slots place)) count (marks_of before.slots)))
+
+-- or that array and the template weigh more than the store takes
+abbrev pub RefusesArray : Held → Place → (count : ℕ) → Type 0
+RefusesArray before place count = CannotDraftArray before place count
+    ⊎ ((names : Names) → IsFixed (place_value names before.slots place) → RejectsWeight before.room
+    (weight (with_first_value (template_size (place_value names before.slots place)) count (marks_of before.slots))))
 
 -- the pending children above a mark don't fit as links of one value
 abbrev pub CannotJoin : Held → (mark : ℕ) → Type 0
@@ -307,6 +314,8 @@ pub record DraftsTemplate (before after : Held) (place : Place) (count : ℕ) : 
   pub texts : length after.slots.texts + 1 ≤ after.capacity.texts
   pub bytes : length after.slots.bytes + count ≤ after.capacity.bytes
   pub within : HoldsInRoom after
+  -- with the array's node, end and bytes, and without the pending child of the template
+  pub light : TakesWeight before.room (weight (marks_of after.slots) + (24 + count))
 
 -- the lengths of the vectors up to the open array of packed structs
 abbrev pub AreArrayMarks : Held → Marks → Type 0

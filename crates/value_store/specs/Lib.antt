@@ -9,6 +9,7 @@ pub mod Records
 pub mod Layouts
 pub mod Columns
 pub mod Slots
+pub mod Weights
 pub mod Promises
 pub mod Below
 pub mod Names

@@ -1,9 +1,10 @@
 -- How the lengths of a store's vectors change, one thing at a time.
-use Rattle.std.specs.Prelude.{◌≡◌, ℕ, ◌+◌, ◌-◌, ◌<◌, ◌≤◌, Bool, true, false, List, [], ◌∷◌, nat_eq, if◌then◌else◌}
+use Rattle.std.specs.Prelude.{◌≡◌, ◌⊎◌, ℕ, ◌+◌, ◌-◌, ◌<◌, ◌≤◌, Bool, true, false, List, [], ◌∷◌, nat_eq, if◌then◌else◌}
 use Rattle.value_store.specs.declared.store.slots.Marks.{Marks}
 use Rattle.value_store.specs.Packed.{bytes_for}
 use Rattle.value_store.specs.Slots.{Held, packs, root_marks, innermost, marks_of, around}
 use Rattle.value_store.specs.Takes.{Vector, of_vector}
+use Rattle.value_store.specs.Weights.{RejectsWeight, weight}
 
 -- how much a value takes where arrays of numbers are packed
 pub record ValueSize : Type 0 where
@@ -239,6 +240,11 @@ Moves before after move = state_of after ≡ moved (packs before.room) move (sta
 abbrev pub CannotMove : Held → Move → Type 0
 CannotMove before move = (vector : Vector)
     × (of_vector vector before.capacity < of_vector vector (needed (packs before.room) move (state_of before)).now)
+
+-- or what it leaves weighs more than the store takes
+abbrev pub Refuses : Held → Move → Type 0
+Refuses before move = CannotMove before move
+    ⊎ RejectsWeight before.room (weight (moved (packs before.room) move (state_of before)).now)
 
 -- what an empty store is
 abbrev pub no_state : State

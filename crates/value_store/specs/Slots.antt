@@ -2,7 +2,7 @@
 use Rattle.std.specs.Prelude.{◌≡◌, ℕ, zero, suc, ◌+◌, ◌-◌, ◌*◌, ◌/◌, ◌^◌, ◌<◌, ◌≤◌, ℤ, pos, Bool, true, false, List, [], ◌∷◌, ◌++◌, Option, Some, None, length, take, drop, map, slice_get, slice_index, slice_index_or, All, FitsSigned}
 use Rattle.std.specs.Int.{cast_signed, w64, FitsUnsigned}
 use Rattle.value_store.specs.declared.store.room.Growth.{Growth}
-use Rattle.value_store.specs.declared.store.room.Growth.TheVariants.{Free, Never}
+use Rattle.value_store.specs.declared.store.room.Growth.TheVariants.{Free, Never, Within}
 use Rattle.value_store.specs.declared.store.room.Room.{Room}
 use Rattle.value_store.specs.declared.store.slots.Node.{Node}
 use Rattle.value_store.specs.declared.store.slots.Family.{Family}
@@ -46,12 +46,17 @@ growing n = record { least = n; growth = Free }
 abbrev pub fixed : ℕ → Room
 fixed n = record { least = n; growth = Never }
 
--- Whether arrays of numbers are packed: where no capacity was requested in advance. Otherwise each value takes slots
--- that are counted.
+-- what is stored weighs at most so many bytes
+abbrev pub weighing : (most : ℕ) → Room
+weighing most = record { least = 0; growth = Within most }
+
+-- Whether arrays of numbers are packed: where no capacity was requested in advance, and where the weight is bounded.
+-- Otherwise each value takes slots that are counted.
 abbrev pub packs_as : Growth → (least : ℕ) → Bool
 packs_as Never least = false
 packs_as Free zero = true
 packs_as Free (suc least) = false
+packs_as (Within most) least = true
 
 abbrev pub packs : Room → Bool
 packs room = packs_as room.growth room.least

@@ -1,11 +1,12 @@
 //! The store of the values of a mapping.
 
-ghost use Rattle.std.specs.Prelude.{◌≡◌, ◌≤◌, ◌-◌, ◌++◌, ◌∷◌, [], Some, None, take, drop, IfOk, IsTrue, ◌↔◌, vec_len, vec_capacity};
+ghost use Rattle.std.specs.Prelude.{◌≡◌, ◌-◌, Some, None, IfOk, IsTrue, ◌↔◌, vec_capacity};
 ghost use Rattle.pickle_meaning.specs.Values.{no_values};
 ghost use Rattle.value_store.specs.Levels.{FitsIn};
 ghost use Rattle.value_store.specs.Names.{Names};
 ghost use Rattle.value_store.specs.declared.store.room.Growth.TheVariants.{Never};
-ghost use Rattle.value_store.specs.Slots.{empty, emptied, growing, fixed, each_of, marks_of, innermost, levels, HoldsInRoom};
+ghost use Rattle.value_store.specs.Weights.{Covers};
+ghost use Rattle.value_store.specs.Slots.{empty, emptied, growing, fixed, weighing, each_of, marks_of, innermost, levels, HoldsInRoom};
 
 mod append;
 mod bytes;
@@ -22,6 +23,7 @@ pub(crate) mod row;
 mod scope;
 pub mod slots;
 mod text;
+mod weight;
 
 use arrayvec::ArrayVec;
 use bit_space::Memory;
@@ -29,6 +31,7 @@ use room::{Growth, Room};
 use slots::{Family, Link, Marks, Node};
 use std::alloc::Global;
 use std::marker::Model;
+use weight::{FAMILY, LINK, NODE};
 
 /// The most values that may be open inside one another.
 pub(crate) const MOST_OPEN: usize = 64;
@@ -118,6 +121,31 @@ impl Store {
                 growth: Growth::Never,
             },
         )
+    }
+
+    /// An empty store for values that weigh at most `most` bytes: 24 for each value that isn't packed, 16 for each array,
+    /// struct or union, 8 for each part of one, for each part of an open value and for the end of each text or row, and
+    /// the bytes of texts and of packed numbers. A value that would weigh more is refused with `Memory`. The store has
+    /// capacity for all that it takes, so it asks for no more.
+    pub fn with_weight(alloc: Global, most: u64) -> Result<Store, Memory>
+        ensures empty { IfOk result (λ s. s ≡ empty (weighing most) s.capacity) }
+        ensures covers { IfOk result (λ s. Covers most s.capacity) }
+        ensures levels { IfOk result (λ s. (names : Names) → levels names s ≡ no_values) }
+    {
+        let links = (most / LINK) as usize;
+        Ok(Store {
+            nodes: Vec::with_capacity(alloc, (most / NODE) as usize)?,
+            families: Vec::with_capacity(alloc, (most / FAMILY) as usize)?,
+            links: Vec::with_capacity(alloc, links)?,
+            pending: Vec::with_capacity(alloc, links)?,
+            texts: Vec::with_capacity(alloc, links)?,
+            bytes: Vec::with_capacity(alloc, most as usize)?,
+            frames: ArrayVec::new(),
+            room: Room {
+                least: 0,
+                growth: Growth::Within(most),
+            },
+        })
     }
 
     // An empty store that has reserved all its capacity.

@@ -16,7 +16,7 @@ pub(super) fn append<T: Copy>(to: &mut Vec<T>, items: &[T], room: Room)
     ensures capacity { vec_capacity to.old ≤ vec_capacity to.new }
     ensures fixed { room.growth ≡ Never → vec_capacity to.new ≡ vec_capacity to.old }
 {
-    if items.len() > FEW && matches!(room.growth, Growth::Free) {
+    if items.len() > FEW && !matches!(room.growth, Growth::Never) {
         append_many(to, items);
         return;
     }

@@ -4,13 +4,15 @@ ghost use Rattle.value_store.specs.Below.{Extends, KeepsBelow};
 ghost use Rattle.value_store.specs.Gathering.{with_records, EndsWithTemplate, IsDraft};
 ghost use Rattle.value_store.specs.LayoutArrays.{ClosesPacking};
 ghost use Rattle.value_store.specs.PackedStructs.{DraftsMore, BeginsStructs, CannotBegin, TakesStruct, PacksStruct, CannotPackStruct, ClosesStructs};
-ghost use Rattle.value_store.specs.Moves.{Moves, CannotMove, Places, OpensRecords, PacksRecord, ClosesRecords};
+ghost use Rattle.value_store.specs.Moves.{Moves, CannotMove, Refuses, Places, OpensRecords, PacksRecord, ClosesRecords};
 ghost use Rattle.value_store.specs.Keeping.{IsPushed, CannotPush};
+ghost use Rattle.value_store.specs.Weights.{IsLight};
 ghost use Rattle.value_store.specs.Slots.{level_count, packs, innermost, number_value, IsNumber, HasSlots, HoldsInRoom, KeepsRoom, Regrown};
 
 use crate::store::Store;
 use crate::store::append::append;
 use crate::store::slots::{Link, Node, Shape};
+use crate::store::weight::{FAMILY, LINK, NODE};
 use bit_space::Memory;
 
 impl Store {
@@ -26,11 +28,13 @@ impl Store {
         ensures depth { level_count self.new ≡ level_count self.old }
         ensures full { OnErr result (CannotPush self.old (Some (number_value shape begin at))) }
         ensures moves { OnOk result (Moves self.old self.new Places) }
-        ensures lacks { OnErr result (CannotMove self.old Places) }
+        ensures light { OnOk result (IsLight self.new) }
+        ensures lacks { OnErr result (Refuses self.old Places) }
         ensures extends { OnOk result (Extends self.old self.new) }
     {
         // Nothing is read at run time. This only opens the store for the proof, as it is when the call begins.
         let _ = &self.nodes;
+        self.admit(NODE + LINK)?;
         self.place_number(shape, begin, u64::from(at))
     }
 
@@ -94,11 +98,13 @@ impl Store {
         ensures depth { level_count self.new ≡ level_count self.old }
         ensures full { OnErr result (CannotBegin self.old start) }
         ensures moves { OnOk result (Moves self.old self.new OpensRecords) }
-        ensures lacks { OnErr result (CannotMove self.old OpensRecords) }
+        ensures light { OnOk result (IsLight self.new) }
+        ensures lacks { OnErr result (Refuses self.old OpensRecords) }
         ensures below { OnOk result (KeepsBelow self.old self.new) }
     {
         // Nothing is read at run time. This only opens the store for the proof, as it is when the call begins.
         let _ = &self.nodes;
+        self.admit(2 * NODE + FAMILY + 2 * LINK)?;
         self.reserve_records()?;
         self.place_family(Shape::Struct { of }, start, u64::from(size))?;
         self.place_records(size, stride, start);
@@ -116,9 +122,11 @@ impl Store {
         ensures depth { level_count self.new ≡ level_count self.old }
         ensures full { OnErr result (CannotPackStruct self.old) }
         ensures moves { OnOk result (Moves self.old self.new (PacksRecord (length more.now))) }
-        ensures lacks { OnErr result (CannotMove self.old (PacksRecord (length more.now))) }
+        ensures light { OnOk result (IsLight self.new) }
+        ensures lacks { OnErr result (Refuses self.old (PacksRecord (length more.now))) }
         ensures below { OnOk result (KeepsBelow self.old self.new) }
     {
+        self.admit(more.len() as u64)?;
         self.room.reserve(&mut self.bytes, more.len())?;
         append(&mut self.bytes, more, self.room);
         let last = self.texts.len() - 1;

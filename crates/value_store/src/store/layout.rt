@@ -4,12 +4,13 @@ ghost use Rattle.arrayvec.specs.ArrayVec.{array_vec_len};
 ghost use Rattle.pickle_types.specs.Table.{IsWidth};
 ghost use Rattle.value_store.specs.Below.{KeepsBelow};
 ghost use Rattle.value_store.specs.Gathering.{TakesRecord};
-ghost use Rattle.value_store.specs.LayoutArrays.{AreArrayMarks, CannotDraft, CannotDraftArray, CannotHoldArray, CannotJoin, CannotPackFirst, CannotPackNext, DraftsTemplate, HasGrown, HasRow, HasRowAt, HoldsFirst, IsAbove, IsCopied, IsNodeCopied, IsRowAt, KeepsRow, LacksRow, MovesAsFirst, MovesAsNext, MovesFirst, PlacesTemplate, TakesFirst, PacksFirst, TakesNext, PacksNext};
+ghost use Rattle.value_store.specs.LayoutArrays.{AreArrayMarks, CannotDraft, CannotHoldArray, CannotJoin, DraftsTemplate, HasGrown, HasRow, HasRowAt, HoldsFirst, IsAbove, IsCopied, IsNodeCopied, IsRowAt, KeepsRow, LacksRow, MovesAsFirst, MovesAsNext, MovesFirst, PlacesTemplate, TakesFirst, PacksFirst, TakesNext, PacksNext, RefusesArray, RefusesFirst, RefusesNext};
 ghost use Rattle.value_store.specs.Layouts.{digits_row, row_of};
 ghost use Rattle.value_store.specs.Moves.{Moves, PacksRecord};
 ghost use Rattle.value_store.specs.Names.{Names};
 ghost use Rattle.value_store.specs.Packed.{bytes_for, number_bytes, packed, numbers_in};
 ghost use Rattle.value_store.specs.Refs.{value_of};
+ghost use Rattle.value_store.specs.Weights.{IsLight};
 ghost use Rattle.value_store.specs.Slots.{level_count, value_at, cut_to, with_family, with_more, AreLevels, HasSlots, HoldsInRoom, IsComposite, KeepsRoom, Regrown};
 
 use crate::ranges::{low_digits, modulo};
@@ -18,6 +19,7 @@ use crate::store::append::append;
 use crate::store::place::{move_above, reserve_above, reserve_moved};
 use crate::store::row::bytes_for;
 use crate::store::slots::{Family, Link, Marks, Node, Place, Shape};
+use crate::store::weight::NODE;
 use crate::stored::StoredValue;
 use arrayvec::ArrayVec;
 use bit_space::Memory;
@@ -189,16 +191,18 @@ impl Store {
     // a struct of `count` bytes. There is capacity for as many pending children as the template has nodes, which is the
     // most that any such template needs while it is placed.
     fn draft_template(&mut self, place: Place, count: usize) -> Result<(), Memory>
-        requires { IsCopied self.old.slots place 0 }
+        requires copied { IsCopied self.old.slots place 0 }
+        requires few { count ≤ 512 }
         ensures ok { OnOk result (DraftsTemplate self.old self.new place count) }
         ensures err { OnErr result (HasGrown self.old self.new) }
         ensures room { KeepsRoom self.old self.new }
-        ensures lacks { OnErr result (CannotDraftArray self.old place count) }
+        ensures lacks { OnErr result (RefusesArray self.old place count) }
     {
         let before = self.nodes.len() + 1;
         let _end = self.place_template(place, 0)?;
         let nodes = self.nodes.len();
         self.reserve_array(nodes - before, count)?;
+        self.admit(NODE + count as u64)?;
         Ok(())
     }
 
@@ -271,7 +275,8 @@ impl Store {
         ensures lengths { OnOk result (MovesFirst self.old self.new) }
         ensures moves { OnOk result (MovesAsFirst self.old self.new) }
         ensures holds { OnOk result (HoldsFirst self.old self.new) }
-        ensures lacks { OnErr result (CannotPackFirst self.old) }
+        ensures light { OnOk result (IsLight self.new) }
+        ensures lacks { OnErr result (RefusesFirst self.old) }
         ensures below { OnOk result (KeepsBelow self.old self.new) }
     {
         // Nothing is read at run time. This only opens the store for the proof, as it is when the call begins.
@@ -335,14 +340,17 @@ impl Store {
         ensures lengths { OnOk result (KeepsRow self.old self.new) }
         ensures full { OnErr result (LacksRow self.old) }
         ensures moves { OnOk result (MovesAsNext self.old self.new) }
-        ensures lacks { OnErr result (CannotPackNext self.old) }
+        ensures light { OnOk result (IsLight self.new) }
+        ensures lacks { OnErr result (RefusesNext self.old) }
         ensures below { OnOk result (KeepsBelow self.old self.new) }
     {
         let mut row = Row::new();
         self.append_part(1, &mut row);
         let marks = self.array_marks();
         let given_back = self.bytes.len() - marks.bytes;
-        self.reserve_struct(row.len().saturating_sub(given_back))?;
+        let count = row.len();
+        self.admit_above(marks, count as u64)?;
+        self.reserve_struct(count.saturating_sub(given_back))?;
         self.cut_back(marks);
         self.extend_records(row.as_slice());
         Ok(())

@@ -1,6 +1,6 @@
 //! Places values in the innermost open value.
 
-ghost use Rattle.std.specs.Prelude.{◌≡◌, ◌+◌, ◌-◌, ◌^◌, ◌<◌, ◌≤◌, ◌++◌, ◌∷◌, [], Some, None, take, drop, max, OnOk, OnErr, vec_len, vec_capacity};
+ghost use Rattle.std.specs.Prelude.{◌≡◌, ◌+◌, ◌-◌, ◌^◌, ◌<◌, ◌≤◌, ◌++◌, Some, None, take, drop, max, OnOk, OnErr, vec_len, vec_capacity};
 ghost use Rattle.value_store.specs.declared.store.room.Growth.TheVariants.{Never};
 ghost use Rattle.pickle_types.specs.Table.{IsWidth};
 ghost use Rattle.pickle_meaning.specs.Means.{integer_value, offset_value};
@@ -10,7 +10,8 @@ ghost use Rattle.value_store.specs.Closed.{struct_label, union_label};
 ghost use Rattle.value_store.specs.Columns.{AddsNumber};
 ghost use Rattle.value_store.specs.declared.store.slots.Shape.TheVariants.{Integer, Offset};
 ghost use Rattle.value_store.specs.Keeping.{IsPushed, CannotPush, IsPlaced, IsClosed, CannotClose};
-ghost use Rattle.value_store.specs.Moves.{Moves, CannotMove, Places, Leaves, Closes, state_of, joined};
+ghost use Rattle.value_store.specs.Moves.{Moves, CannotMove, Refuses, Places, Leaves, Closes, state_of, joined};
+ghost use Rattle.value_store.specs.Weights.{IsLight};
 ghost use Rattle.value_store.specs.Slots.{level_count, IsNumber, number_value, number_in, IsContentNumber, IsComposite, composite_label, with_leaf, with_family, innermost, HasSlots, HoldsInRoom, KeepsRoom, Regrown};
 
 use crate::ranges::with_sign;
@@ -18,6 +19,7 @@ use crate::store::Store;
 use crate::store::append::append;
 use crate::store::room::Room;
 use crate::store::slots::{Family, Link, Node, Shape};
+use crate::store::weight::{FAMILY, LINK, NODE};
 use bit_space::Memory;
 use pickle_types::integer::IntegerType;
 
@@ -184,9 +186,11 @@ impl Store {
         ensures full { OnErr result (CannotPush self.old (Some (integer_value number digits start))) }
         ensures adds { OnOk result (AddsNumber self.old self.new (Integer number.width number.signed) start) }
         ensures moves { OnOk result (Moves self.old self.new Places) }
-        ensures lacks { OnErr result (CannotMove self.old Places) }
+        ensures light { OnOk result (IsLight self.new) }
+        ensures lacks { OnErr result (Refuses self.old Places) }
         ensures extends { OnOk result (Extends self.old self.new) }
     {
+        self.admit(NODE + LINK)?;
         self.place_number(
             Shape::Integer {
                 width: number.width,
@@ -216,9 +220,11 @@ impl Store {
         ensures full { OnErr result (CannotPush self.old (Some (offset_value number unit digits start))) }
         ensures adds { OnOk result (AddsNumber self.old self.new (Offset number.width number.signed unit) start) }
         ensures moves { OnOk result (Moves self.old self.new Places) }
-        ensures lacks { OnErr result (CannotMove self.old Places) }
+        ensures light { OnOk result (IsLight self.new) }
+        ensures lacks { OnErr result (Refuses self.old Places) }
         ensures extends { OnOk result (Extends self.old self.new) }
     {
+        self.admit(NODE + LINK)?;
         self.place_number(
             Shape::Offset {
                 width: number.width,
@@ -239,9 +245,11 @@ impl Store {
         ensures depth { level_count self.new ≡ level_count self.old }
         ensures full { OnErr result (CannotPush self.old None) }
         ensures moves { OnOk result (Moves self.old self.new Leaves) }
-        ensures lacks { OnErr result (CannotMove self.old Leaves) }
+        ensures light { OnOk result (IsLight self.new) }
+        ensures lacks { OnErr result (Refuses self.old Leaves) }
         ensures extends { OnOk result (Extends self.old self.new) }
     {
+        self.admit(LINK)?;
         self.room.reserve(&mut self.pending, 1)?;
         self.pending.push_reserved(Link::absent());
         Ok(())
@@ -259,9 +267,11 @@ impl Store {
         ensures depth { OnOk result (level_count self.new ≡ max 1 (level_count self.old - 1)) }
         ensures full { OnErr result (CannotClose self.old (λ names. composite_label names shape) start (start + size)) }
         ensures moves { OnOk result (Moves self.old self.new Closes) }
-        ensures lacks { OnErr result (CannotMove self.old Closes) }
+        ensures light { OnOk result (IsLight self.new) }
+        ensures lacks { OnErr result (Refuses self.old Closes) }
         ensures below { OnOk result (KeepsBelow self.old self.new) }
     {
+        self.admit(NODE + FAMILY + LINK)?;
         self.place_family(shape, start, size)?;
         self.lift_level();
         Ok(())
@@ -277,7 +287,8 @@ impl Store {
         ensures depth { OnOk result (level_count self.new ≡ max 1 (level_count self.old - 1)) }
         ensures full { OnErr result (CannotClose self.old (λ names. ArrayLabel) start end) }
         ensures moves { OnOk result (Moves self.old self.new Closes) }
-        ensures lacks { OnErr result (CannotMove self.old Closes) }
+        ensures light { OnOk result (IsLight self.new) }
+        ensures lacks { OnErr result (Refuses self.old Closes) }
         ensures below { OnOk result (KeepsBelow self.old self.new) }
     {
         self.close(Shape::Array, start, end - start)
@@ -294,7 +305,8 @@ impl Store {
         ensures depth { OnOk result (level_count self.new ≡ max 1 (level_count self.old - 1)) }
         ensures full { OnErr result (CannotClose self.old (λ names. struct_label names of) start end) }
         ensures moves { OnOk result (Moves self.old self.new Closes) }
-        ensures lacks { OnErr result (CannotMove self.old Closes) }
+        ensures light { OnOk result (IsLight self.new) }
+        ensures lacks { OnErr result (Refuses self.old Closes) }
         ensures below { OnOk result (KeepsBelow self.old self.new) }
     {
         self.close(Shape::Struct { of }, start, end - start)
@@ -311,7 +323,8 @@ impl Store {
         ensures depth { OnOk result (level_count self.new ≡ max 1 (level_count self.old - 1)) }
         ensures full { OnErr result (CannotClose self.old (λ names. union_label names of taken) start end) }
         ensures moves { OnOk result (Moves self.old self.new Closes) }
-        ensures lacks { OnErr result (CannotMove self.old Closes) }
+        ensures light { OnOk result (IsLight self.new) }
+        ensures lacks { OnErr result (Refuses self.old Closes) }
         ensures below { OnOk result (KeepsBelow self.old self.new) }
     {
         self.close(Shape::Union { taken, of }, start, end - start)

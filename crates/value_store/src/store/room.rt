@@ -12,6 +12,8 @@ pub(crate) enum Growth {
     Free,
     /// It never grows.
     Never,
+    /// It grows as a free one does, while what is stored weighs at most so many bytes.
+    Within(u64),
 }
 
 /// The capacity that a store was made with: so many slots of each kind at least, and exactly so many where the store
@@ -23,14 +25,15 @@ pub(crate) struct Room {
 }
 
 impl Room {
-    /// Whether arrays of numbers are packed. They are where no capacity was requested in advance. Otherwise each
-    /// element has a slot of its own, so that a mapping takes the slots that its bound counts.
+    /// Whether arrays of numbers are packed. They are where no capacity was requested in advance, and where the weight
+    /// is bounded. Otherwise each element has a slot of its own, so that a mapping takes the slots that its bound counts.
     pub(crate) fn packs(self) -> bool
         ensures { result ≡ packs self }
     {
         match self.growth {
             Growth::Free => self.least == 0,
             Growth::Never => false,
+            Growth::Within(_) => true,
         }
     }
 
@@ -61,7 +64,7 @@ impl Room {
         ensures fixed { self.growth ≡ Never → vec_capacity to.new ≡ vec_capacity to.old }
     {
         match self.growth {
-            Growth::Free => Ok(to.reserve(more)?),
+            Growth::Free | Growth::Within(_) => Ok(to.reserve(more)?),
             Growth::Never => Err(Memory),
         }
     }

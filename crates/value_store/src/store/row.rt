@@ -1,13 +1,15 @@
 //! Arrays of packed numbers.
-ghost use Rattle.std.specs.Prelude.{◌≡◌, ◌<◌, ◌-◌, ◌^◌, max, take, IsTrue, ◌↔◌, OnOk, OnErr};
+ghost use Rattle.std.specs.Prelude.{◌≡◌, ◌<◌, ◌-◌, ◌^◌, max, IsTrue, ◌↔◌, OnOk, OnErr};
 ghost use Rattle.value_store.specs.Below.{KeepsBelow};
 ghost use Rattle.value_store.specs.Filling.{Packs, CannotPack, SettlesRow, ClosesRow, CannotCloseRow};
-ghost use Rattle.value_store.specs.Moves.{Moves, CannotMove, Packs as PacksNumber, ClosesRow as ClosesPacked, state_of, settled_row};
-ghost use Rattle.value_store.specs.Packed.{bytes_for, number_bytes};
+ghost use Rattle.value_store.specs.Moves.{Moves, Refuses, Packs as PacksNumber, ClosesRow as ClosesPacked, state_of, settled_row};
+ghost use Rattle.value_store.specs.Packed.{bytes_for};
+ghost use Rattle.value_store.specs.Weights.{IsLight};
 ghost use Rattle.value_store.specs.Slots.{level_count, packs, element_width, HasNoNode, IsPacked, IsRowOf, TakesNumber, HoldsInRoom, KeepsRoom, Regrown};
 
 use crate::store::Store;
 use crate::store::slots::Shape;
+use crate::store::weight::{FAMILY, LINK, NODE};
 use bit_space::Memory;
 
 /// The number of bytes that a number of `width` bits takes.
@@ -48,17 +50,21 @@ impl Store {
         ensures depth { level_count self.new ≡ level_count self.old }
         ensures full { OnErr result (CannotPack self.old shape digits start) }
         ensures moves { OnOk result (Moves self.old self.new (PacksNumber width)) }
-        ensures lacks { OnErr result (CannotMove self.old (PacksNumber width)) }
+        ensures light { OnOk result (IsLight self.new) }
+        ensures lacks { OnErr result (Refuses self.old (PacksNumber width)) }
         ensures below { OnOk result (KeepsBelow self.old self.new) }
     {
         if !first && width <= 8 {
+            self.admit(bytes_for(width) as u64)?;
             return self.append_byte(shape, digits as u8);
         }
         let bytes = digits.to_le_bytes();
         let own = &bytes[..bytes_for(width)];
         if first {
+            self.admit(NODE + 2 * LINK + own.len() as u64)?;
             self.place_bytes(shape, start, own)
         } else {
+            self.admit(own.len() as u64)?;
             self.append_bytes(shape, own)
         }
     }
@@ -73,13 +79,15 @@ impl Store {
         ensures depth { level_count self.new ≡ level_count self.old }
         ensures full { OnErr result (CannotCloseRow self.old shape start) }
         ensures settles { OnOk result (state_of self.new ≡ settled_row (packs self.old.room) (state_of self.old)) }
-        ensures lacks { OnErr result (CannotMove self.old (ClosesPacked)) }
+        ensures light { OnOk result (IsLight self.new) }
+        ensures lacks { OnErr result (Refuses self.old (ClosesPacked)) }
         ensures below { OnOk result (KeepsBelow self.old self.new) }
     {
         if self.has_no_node() {
+            self.admit(NODE + FAMILY + LINK)?;
             self.place_family(Shape::Array, start, 0)
         } else {
-            Ok(())
+            self.admit(0)
         }
     }
 
@@ -94,7 +102,8 @@ impl Store {
         ensures depth { OnOk result (level_count self.new ≡ max 1 (level_count self.old - 1)) }
         ensures full { OnErr result (CannotCloseRow self.old shape start) }
         ensures moves { OnOk result (Moves self.old self.new (ClosesPacked)) }
-        ensures lacks { OnErr result (CannotMove self.old (ClosesPacked)) }
+        ensures light { OnOk result (IsLight self.new) }
+        ensures lacks { OnErr result (Refuses self.old (ClosesPacked)) }
         ensures below { OnOk result (KeepsBelow self.old self.new) }
     {
         self.settle_row(shape, start)?;

@@ -5,12 +5,14 @@ ghost use Rattle.pickle_meaning.specs.Values.{opened};
 ghost use Rattle.value_store.specs.Below.{KeepsBelow};
 ghost use Rattle.value_store.specs.Names.{Names};
 ghost use Rattle.value_store.specs.Filling.{Writes, ShowsByte, CannotWrite, Settles, ClosesText, CannotCloseText};
-ghost use Rattle.value_store.specs.Moves.{Moves, CannotMove, Opens, Ends, Writes as WritesByte, state_of, settled};
-ghost use Rattle.value_store.specs.Slots.{levels, level_count, with_more, HasNoNode, IsWriting, IsText, TakesByte, HoldsInRoom, KeepsRoom, Regrown};
+ghost use Rattle.value_store.specs.Moves.{Moves, Refuses, Opens, Ends, Writes as WritesByte, state_of, settled};
+ghost use Rattle.value_store.specs.Weights.{IsLight};
+ghost use Rattle.value_store.specs.Slots.{levels, level_count, HasNoNode, IsWriting, IsText, TakesByte, HoldsInRoom, KeepsRoom, Regrown};
 ghost use Rattle.value_store.specs.declared.store.slots.Shape.TheVariants as shape;
 
 use crate::store::Store;
 use crate::store::slots::Shape;
+use crate::store::weight::{LINK, NODE};
 use bit_space::Memory;
 
 impl Store {
@@ -41,12 +43,15 @@ impl Store {
         ensures depth { level_count self.new ≡ level_count self.old }
         ensures full { OnErr result (CannotWrite self.old byte start) }
         ensures moves { OnOk result (Moves self.old self.new WritesByte) }
-        ensures lacks { OnErr result (CannotMove self.old WritesByte) }
+        ensures light { OnOk result (IsLight self.new) }
+        ensures lacks { OnErr result (Refuses self.old WritesByte) }
         ensures below { OnOk result (KeepsBelow self.old self.new) }
     {
         if first {
+            self.admit(NODE + 2 * LINK + 1)?;
             self.place_bytes(Shape::Text, start, &[byte])
         } else {
+            self.admit(1)?;
             self.append_byte(Shape::Text, byte)
         }
     }
@@ -60,13 +65,15 @@ impl Store {
         ensures depth { level_count self.new ≡ level_count self.old }
         ensures full { OnErr result (CannotCloseText self.old start) }
         ensures settles { OnOk result (state_of self.new ≡ settled (state_of self.old)) }
-        ensures lacks { OnErr result (CannotMove self.old Ends) }
+        ensures light { OnOk result (IsLight self.new) }
+        ensures lacks { OnErr result (Refuses self.old Ends) }
         ensures below { OnOk result (KeepsBelow self.old self.new) }
     {
         if self.has_no_node() {
+            self.admit(NODE + 2 * LINK)?;
             self.place_bytes(Shape::Text, start, &[])
         } else {
-            Ok(())
+            self.admit(0)
         }
     }
 
@@ -80,7 +87,8 @@ impl Store {
         ensures depth { OnOk result (level_count self.new ≡ max 1 (level_count self.old - 1)) }
         ensures full { OnErr result (CannotCloseText self.old start) }
         ensures moves { OnOk result (Moves self.old self.new Ends) }
-        ensures lacks { OnErr result (CannotMove self.old Ends) }
+        ensures light { OnOk result (IsLight self.new) }
+        ensures lacks { OnErr result (Refuses self.old Ends) }
         ensures below { OnOk result (KeepsBelow self.old self.new) }
     {
         self.settle_text(start)?;

@@ -4,6 +4,8 @@ use Rattle.value_store.specs.Slots.{Held, AreLevels, Regrown, innermost, with_fa
 use Rattle.value_store.proofs.Gathering.{begins, closed-template}
 use Rattle.value_store.proofs.PackedStructs.{begins-structs, cannot-begin}
 use Rattle.value_store.proofs.Held.{refused}
+use Rattle.value_store.specs.Moves.{OpensRecords}
+use Rattle.value_store.proofs.Weights.{refuses-more}
 use Rattle.value_store.proofs.Moved.{records-moves, template-lacks}
 use Rattle.value_store.proofs.Below.{records-opened}
 use Rattle.value_store.proofs.store.Store.open_records.Goals as goal
@@ -51,8 +53,9 @@ returns-in_err-place_family-clause-full c = refused _ (cannot-begin c.args.self.
 
 pub returns-in_err-place_family-clause-lacks : goal.returns-in_err-place_family-clause-lacks
 returns-in_err-place_family-clause-lacks c =
-    template-lacks _ c.args.self.now c.reserve_records.new.self c.reserve_records.ensures.same
-    c.reserve_records.ensures.room c.in_err-place_family.ensures.lacks
+    refuses-more _ c.args.self.now OpensRecords
+    (template-lacks _ c.args.self.now c.reserve_records.new.self c.reserve_records.ensures.same
+    c.reserve_records.ensures.room c.in_err-place_family.ensures.lacks)
 
 pub returns-clause-below : goal.returns-clause-below
 returns-clause-below c =

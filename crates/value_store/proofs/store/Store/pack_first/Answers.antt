@@ -1,8 +1,9 @@
-use Rattle.std.proofs.Common.{length, ap, sym, subst, arith, []}
+use Rattle.std.proofs.Common.{length, ap, sym, subst, ◌∙◌, arith, []}
 use Rattle.value_store.specs.declared.store.slots.Place.TheVariants as place
 use Rattle.value_store.specs.Gathering.{TakesRecord}
 use Rattle.value_store.specs.Slots.{Held, AreLevels, HasSlots, with_more}
-use Rattle.value_store.proofs.LayoutFirst.{IsFirstRead, placed-template, placed-some, placed-mark, first-record, first-packs, first-moves, first-as_move, first-holds, first-lacks, drafted-stays, back-levels}
+use Rattle.value_store.proofs.LayoutFirst.{IsFirstRead, placed-template, placed-some, placed-mark, first-record, first-packs, first-moves, first-as_move, first-holds, drafted-stays, back-levels}
+use Rattle.value_store.proofs.LayoutWeights.{first-refuses, first-light}
 use Rattle.value_store.proofs.Below.{first-below}
 use Rattle.value_store.proofs.store.Store.pack_first.Goals as goal
 
@@ -156,7 +157,7 @@ returns-clause-holds c =
 
 pub returns-in-Err-clause-lacks : goal.returns-in-Err-clause-lacks
 returns-in-Err-clause-lacks c =
-    first-lacks c.args.self.now c.in-Some.root c.len.result c.append_part.new.row.items c.requires.packs
+    first-refuses c.args.self.now c.in-Some.root c.len.result c.append_part.new.row.items c.requires.packs
     c.in-Some.ensures.part c.append_part.ensures c.len.ensures.value c.in-Err.ensures.lacks
 
 pub returns-clause-below : goal.returns-clause-below
@@ -166,3 +167,27 @@ returns-clause-below c =
     first-below c.args.self.now c.draft_template.new.self c.place_records.new.self c.extend_records.new.self all
     t.adds.rest (ap (λ (x : Held). x.frames) t.same) c.family_size-size.result c.len-2.result []
     c.node_at-own.result.start c.place_records.ensures.slots c.as_slice.result.now c.extend_records.ensures.slots
+
+pub returns-clause-light : goal.returns-clause-light
+returns-clause-light c =
+    let h = c.args.self.now in
+    let all = subst (λ (h : Held). AreLevels h.room h.frames h.slots) c.self.view_is c.self.invariant.levels in
+    let read : IsFirstRead h c.in-Some.root c.node_at-own.result c.family_size-size.result c.len-2.result
+    c.append_part.new.row.items = record {
+      takes = c.requires;
+      part = c.in-Some.ensures.part;
+      read = c.node_at-own.ensures.read;
+      sized = c.family_size-size.ensures;
+      rows = c.append_part.ensures;
+      counted = c.len-2.ensures.value;
+    } in
+    let drafts = c.in-Ok.ensures.ok in
+    let moves =
+    first-moves h c.draft_template.new.self c.in-Some.root c.node_at-own.result c.family_size-size.result c.len-2.result
+    drafts.end c.append_part.new.row.items all read drafts.placed c.place_records.new.self
+    c.place_records.ensures.slots c.extend_records.new.self (length c.as_slice.result.now)
+    (ap length c.as_slice.ensures.value) c.extend_records.ensures.moves in
+    first-light h c.in-Some.root c.len.result c.append_part.new.row.items c.requires.packs c.in-Some.ensures.part
+    c.append_part.ensures c.len.ensures.value c.draft_template.new.self c.extend_records.new.self drafts.end
+    drafts.placed (c.extend_records.ensures.room.room ∙ c.place_records.ensures.room.room
+    ∙ c.draft_template.ensures.room.room) moves c.requires drafts.light

@@ -4,6 +4,7 @@ use Rattle.value_store.specs.Moves.{Leaves}
 use Rattle.value_store.specs.Takes.{PendingOf}
 use Rattle.value_store.specs.contracts.store.Store.{the_view}
 use Rattle.value_store.proofs.Held.{absent-frames, absent-levels, absent-full}
+use Rattle.value_store.proofs.Weights.{refuses-more}
 use Rattle.value_store.proofs.Moved.{absent-moves, unmoved}
 use Rattle.value_store.proofs.Below.{absent-kept}
 use Rattle.value_store.proofs.store.Store.push_absent.Goals as goal
@@ -44,7 +45,8 @@ returns-clause-ok c =
 
 pub returns-in_err-reserve-clause-lacks : goal.returns-in_err-reserve-clause-lacks
 returns-in_err-reserve-clause-lacks c = rw (← c.self.view_is)
-    (unmoved (the_view c.self.inside) _ Leaves PendingOf (omega (arith, c.in_err-reserve.ensures.full)))
+    (refuses-more _ (the_view c.self.inside) Leaves
+    (unmoved (the_view c.self.inside) _ Leaves PendingOf (omega (arith, c.in_err-reserve.ensures.full))))
 
 pub returns-clause-moves : goal.returns-clause-moves
 returns-clause-moves c =
