@@ -1,5 +1,5 @@
 -- The elements of an array, where they aren't packed.
-use Rattle.std.proofs.Common.{◌≡◌, ℕ, Bool, true, false, Option, None, Result, Ok, refl, sym, ap, ◌∙◌, arith}
+use Rattle.std.proofs.Common.{◌≡◌, ℕ, Bool, true, false, Option, None, Result, Ok, inl, inr, refl, sym, ap, ◌∙◌, arith}
 use Rattle.pickle_types.specs.Types.{PokeType}
 use Rattle.pickle_types.specs.declared.node.Field.{Field}
 use Rattle.pickle_types.specs.declared.node.Part.{Part}
@@ -21,8 +21,10 @@ use Rattle.mapping_plans.specs.Avoids.{IsScalar}
 use Rattle.mapping_plans.specs.Rows.{Row, Apart, Numbers, Records, Values, scalar_width, row_of, stride_of}
 use Rattle.value_store.specs.Layouts.{packs_value}
 use Rattle.value_store.specs.Slots.{packs}
-use Rattle.pickle_map.specs.Follows.{World, HasRoom, after_move, during_move, MovesTo, TakesMore, LacksRoom, Walk, arrived, stepped, kept, read, Done, NeedsStep, NeedsRead, NeedsRoom, Follows}
+use Rattle.pickle_map.specs.Follows.{World, HasRoom, after_move, during_move, MovesTo, TakesMore, RefusesMove, LacksRoom, Walk, arrived, stepped, kept, read, Done, NeedsStep, NeedsRead, NeedsRoom, Follows}
 use Rattle.pickle_map.specs.Stops.{stop_finish}
+use Rattle.value_store.specs.Weights.{weight}
+use Rattle.pickle_map.proofs.Weighed.{apart_light}
 use Rattle.pickle_map.proofs.Walks.{follow_done, follow_made, follow_stop, follow_then_ok}
 
 -- ---- a plan as that of an element
@@ -203,7 +205,11 @@ module _ (world : World) (none : packs world.room ≡ false) (row : Row) where
   room_as_row state (Ended a) h = absurd h
   room_as_row state (Tick p) h = absurd h
   room_as_row state (Made count move levels p) h =
-      record { takes = takes_packed row move h.takes; least = h.least; before = rw (same_during move state) h.before }
+      record { takes = takes_packed row move h.takes; least = h.least; before = refused h.before }
+    where
+      refused : RefusesMove world move state → RefusesMove world (packed row move) state
+      refused (inl over) = inl (rw (same_during move state) over)
+      refused (inr heavy) = inr (rw (same_after move state) heavy)
   room_as_row state (Read place bits order rest) h = absurd h
 
   walk_as_row : {A : Type 0} {rest : Plan A} {k' j' : ℕ} {last : State} {p : Plan A} {k j : ℕ} {state : State} →
@@ -211,7 +217,10 @@ module _ (world : World) (none : packs world.room ≡ false) (row : Row) where
   walk_as_row arrived = arrived
   walk_as_row (stepped w) = stepped (walk_as_row w)
   walk_as_row (kept {move} {state} has w) =
-      kept (rw (same_during move state) has) (rw (same_after move state) (walk_as_row w))
+      kept record {
+        room = rw (same_during move state) has.room;
+        light = rw (same_after move state) (λ adds. has.light (takes_back row move adds.0, adds.1));
+      } (rw (same_after move state) (walk_as_row w))
   walk_as_row (read n m w) = read n m (walk_as_row w)
 
   done_as_row : {A : Type 0} {limit : ℕ} {p : Plan A} {k j k' j' : ℕ} {state state' : State} {a : A} →
@@ -271,7 +280,13 @@ module _ {world : World} where
   -- packing changes nothing
   stays_apart : packs world.room ≡ false → (v : Value) {state : State} → HasRoom world state →
       MovesTo world (packs_value v) state state
-  stays_apart none v has = record { is = rw none refl; has = rw none has }
+  stays_apart none v {state} has = record {
+    is = rw none refl;
+    has = record {
+      room = rw none has;
+      light = rw none (λ adds. apart_light world.room (weight state.now) none);
+    };
+  }
 
   pub element_done : (row : Row) → (packs world.room ≡ true → row ≡ Apart) → (levels : Levels) →
       {limit : ℕ} {p : Plan (Result Value FaultAt)} {k j k' j' : ℕ} {state state' : State} {v : Value} →
@@ -304,13 +319,20 @@ module _ {world : World} (row : Row) (apart : packs world.room ≡ true → row 
   array_moves {state} h =
       record {
         is = h.is ∙ sym (closes_alike world row apart state);
-        has = rw (close_needs world row apart state) h.has;
+        has = record {
+          room = rw (close_needs world row apart state) h.has.room;
+          light = rw (closes_alike world row apart state) (λ adds. h.has.light (tt, adds.1));
+        };
       }
 
   pub array_lacks : {state : State} {levels : Levels} → LacksRoom world state Closes levels →
       LacksRoom world state (array_move row) levels
   array_lacks {state} h =
-      record { takes = takes_array row; least = h.least; before = rw (close_needs world row apart state) h.before }
+      record { takes = takes_array row; least = h.least; before = refused h.before }
+    where
+      refused : RefusesMove world Closes state → RefusesMove world (array_move row) state
+      refused (inl over) = inl (rw (close_needs world row apart state) over)
+      refused (inr heavy) = inr (rw (closes_alike world row apart state) heavy)
 
 -- ---- elements that are no numbers
 

@@ -7,6 +7,7 @@ use Rattle.pickle_meaning.specs.declared.faults.MapFaultKind.TheVariants as faul
 use Rattle.pickle_meaning.specs.Values.{Value, end_of, Levels, no_values}
 use Rattle.pickle_meaning.specs.Clauses.{FaultAt}
 use Rattle.pickle_meaning.specs.Room.{Slot, NodeSlot, ByteSlot, value_slots, slots}
+use Rattle.value_store.specs.Weights.{IsUnbounded}
 use Rattle.value_store.specs.Moves.{Move, State}
 use Rattle.mapping_plans.specs.Plan.{Plan, Ended, Tick, Made, Read, result_of, steps_of, made_of, AtMost, ticked, noted, given, MadeWithin, made_tick, made_more, made_read, Counts, counted, count_tick, count_made, count_read, Always, after_made}
 use Rattle.pickle_map.specs.Follows.{World, Walk, arrived, stepped, kept, read, Finish, Done, NoSteps, NoRoom, NeedsStep, NeedsRoom, Follows}
@@ -188,15 +189,16 @@ module _ {world : World} {limit : ℕ} (m : ℕ) (ty : PokeType) (order : Order)
 
   -- a request for capacity fails only where there is less than the type's bound
   pub followed_room : Follows world limit (plan m ty order levels s) k j state k' j' state' NoRoom →
-      (kind : Slot) × (world.room.least < slots kind levels + room ty m)
-  followed_room h = wanted h.rest h.ends (λ kind. walk_keeps h.walk (room_enough m ty order levels s kind))
+      IsUnbounded world.room → (kind : Slot) × (world.room.least < slots kind levels + room ty m)
+  followed_room h free = wanted h.rest h.ends (λ kind. walk_keeps h.walk (room_enough m ty order levels s kind))
     where
       wanted : (q : Plan (Result Value FaultAt)) → NeedsRoom world h.at q →
           ((kind : Slot) → Always (λ kept. slots kind kept ≤ slots kind levels + room ty m) (λ r. Unit {0}) q) →
           (kind : Slot) × (world.room.least < slots kind levels + room ty m)
       wanted (Ended a) h l = absurd h
       wanted (Tick p) h l = absurd h
-      wanted (Made count move levels' p) h l = (h.least.0, less h.least.0 (l h.least.0) h.least.1)
+      wanted (Made count move levels' p) h l =
+          let over = h.least free in (over.0, less over.0 (l over.0) over.1)
         where
           less : (kind : Slot) →
               Always (λ kept. slots kind kept ≤ slots kind levels + room ty m) (λ r. Unit {0})

@@ -11,12 +11,13 @@ use Rattle.value_store.specs.Moves.{Opens, Moves, State, state_of}
 use Rattle.value_store.specs.Slots.{Held, HoldsInRoom, KeepsRoom, levels, level_count, around as outside, cut_to, innermost, marks_of}
 use Rattle.value_store.proofs.Below.{extends-same, extends-back}
 use Rattle.pickle_map.proofs.Walks.{framed_ok, framed_stop}
-use Rattle.pickle_map.proofs.Worlds.{same_room, room_then, in_store, moves_to}
+use Rattle.pickle_map.proofs.Worlds.{same_room, room_then, in_store, moves_by}
 
 begins : {known : Option (List ℕ)} (first : Held) {begun done last : Held} → KeepsRoom begun done →
     KeepsRoom done last → Moves first begun Opens → HoldsInRoom begun →
     MovesTo (world_between known first last) Opens (state_of first) (state_of begun)
-begins first call leaving opens holds = moves_to (same_room first) (room_then call leaving) holds opens tt
+begins first call leaving opens holds =
+    moves_by (same_room first) (room_then call leaving) holds opens tt (λ adds. absurd adds.0)
 
 -- the frame has the marks of the store before
 marked : (first begun : Held) → Moves first begun Opens → innermost begun.frames ≡ marks_of first.slots
@@ -80,5 +81,5 @@ module _ (nodes : List Node) {A : Type 0} {first begun done : Held} (opening : K
           record { value = h.value; kept = ap (levels nodes) same ∙ h.kept; ends = h.ends; follows = around _ closed }
       left_keeps (Err stop) drops h =
           around _ (framed_stop (levels nodes first) p (begins first call leaving opens holds)
-          (moves_to (room_then opening call) (same_room last) drops.within drops.moves tt) stop
+          (moves_by (room_then opening call) (same_room last) drops.within drops.moves tt (λ adds. absurd adds.0)) stop
           (in_store opening call leaving h))

@@ -1,5 +1,6 @@
 pub mod Walks
 pub mod Worlds
+pub mod Weighed
 pub mod Alike
 pub mod Added
 pub mod Records

@@ -11,9 +11,9 @@ use Rattle.pickle_meaning.specs.Values.{Value, Levels, start_of, end_of, pushed,
 use Rattle.value_store.specs.declared.store.room.Room.{Room}
 use Rattle.value_store.specs.declared.store.slots.Marks.{Marks}
 use Rattle.value_store.specs.Below.{Extends, KeepsBelow}
-use Rattle.value_store.specs.LayoutArrays.{CannotPackFirst, CannotPackNext, HoldsFirst, IsPackingLike, IsPackingNext, MovesAsFirst, MovesAsNext, TakesFirst, TakesNext, PacksFirst, PacksNext, instances_from}
+use Rattle.value_store.specs.LayoutArrays.{RefusesFirst, RefusesNext, HoldsFirst, IsPackingLike, IsPackingNext, MovesAsFirst, MovesAsNext, TakesFirst, TakesNext, PacksFirst, PacksNext, instances_from}
 use Rattle.value_store.specs.Layouts.{row_of, row_length, template_of, value_size, packs_value}
-use Rattle.value_store.specs.Moves.{State, Moves, CannotMove, IsWithin, moved, needed, state_of, with_value}
+use Rattle.value_store.specs.Moves.{State, Moves, Refuses, IsWithin, moved, needed, state_of, with_value}
 use Rattle.value_store.specs.Records.{instance}
 use Rattle.value_store.specs.Slots.{Slots, Held, HoldsInRoom, KeepsRoom, Regrown, innermost, level_count, levels, marks_of, packs}
 use Rattle.value_store.specs.Takes.{NodesOf, FamiliesOf, LinksOf, PendingOf, TextsOf, BytesOf}
@@ -35,7 +35,8 @@ use Rattle.pickle_map.specs.LaidArrays.{AddsValue, HasValues, IsLaidArray, no_va
 use Rattle.pickle_map.proofs.Keeping.{below_keeps, extended_keeps, keeps_then}
 use Rattle.pickle_map.proofs.RecordFrames.{regrown_by}
 use Rattle.pickle_map.proofs.Walks.{follow_done, follow_made, follow_no_room, follow_then_ok}
-use Rattle.pickle_map.proofs.Worlds.{in_later, lacks_these}
+use Rattle.value_store.specs.Weights.{weight, TakesWeight, IsLight}
+use Rattle.pickle_map.proofs.Worlds.{light_in, room_then, in_later, lacks_these}
 
 -- ---- what an element takes of a store
 
@@ -144,7 +145,7 @@ module _ (nodes : List Node) (mid : Held) (m : ℕ) (ty : PokeType) (stride : �
       }
 
   module _ (is : levels nodes mid ≡ (Some v ∷ []) ∷ outer) where
-    pub first_cannot : CannotPackFirst mid → CannotMove mid (packs_value v)
+    pub first_cannot : RefusesFirst mid → Refuses mid (packs_value v)
     first_cannot cannot = cannot nodes v outer is own.is.fixed
 
     pub first_makes : (after : Held) → MovesAsFirst mid after → Moves mid after (packs_value v)
@@ -251,8 +252,8 @@ module _ (nodes : List Node) (before mid : Held) (m : ℕ) (ty : PokeType) (stri
     short = next_short short;
   }
 
-  pub next_cannot : IsAdded stride (state_of before) v (state_of mid) → end_of v < 2 ^ 64 → CannotPackNext mid →
-      CannotMove mid (packs_value v)
+  pub next_cannot : IsAdded stride (state_of before) v (state_of mid) → end_of v < 2 ^ 64 → RefusesNext mid →
+      Refuses mid (packs_value v)
   next_cannot added short cannot = cannot nodes (template_of a.first 0) a.size start a.rows v outer next_packing
       more.is.fixed next_is (next_short short) (added_marks before mid stride v added)
 
@@ -373,7 +374,7 @@ module _ {known : Option (List ℕ)} {first mid last : Held} (call : KeepsRoom f
   value_packed moves = follow_then_ok p (packs_last inner) (in_later call packing h)
       (follow_made {limit' = limit} moves refl refl (omega arith) follow_done)
 
-  pub value_refused : packs first.room ≡ true → CannotMove mid (packs_value v) →
+  pub value_refused : packs first.room ≡ true → Refuses mid (packs_value v) →
       Follows (world_between known first last) limit (then_ok p (packs_last inner)) k j (state_of first) k' j'
       (state_of last) NoRoom
   value_refused some cannot = follow_then_ok p (packs_last inner) (in_later call packing h)
@@ -383,14 +384,20 @@ module _ {known : Option (List ℕ)} {first mid last : Held} (call : KeepsRoom f
 -- the first one, which its call has capacity for
 module _ {first mid last : Held} (call : KeepsRoom first mid) (packing : KeepsRoom mid last) (v : Value)
     (moves : Moves mid last (packs_value v))
-    (holds : IsWithin (needed (packs mid.room) (packs_value v) (state_of mid)) last.capacity) where
-  pub first_moves : {known : Option (List ℕ)} →
-      MovesTo (world_between known first last) (packs_value v) (state_of mid) (state_of last)
-  first_moves = record {
-    is = moves ∙ ap (λ (r : Room). moved (packs r) (packs_value v) (state_of mid)) call.room;
-    has = subst (λ (r : Room). IsWithin (needed (packs r) (packs_value v) (state_of mid)) last.capacity) call.room
-        holds;
-  }
+    (holds : IsWithin (needed (packs mid.room) (packs_value v) (state_of mid)) last.capacity) (light : IsLight last)
+  where
+    pub first_moves : {known : Option (List ℕ)} →
+        MovesTo (world_between known first last) (packs_value v) (state_of mid) (state_of last)
+    first_moves = record {
+      is = moves ∙ ap (λ (r : Room). moved (packs r) (packs_value v) (state_of mid)) call.room;
+      has = record {
+        room = subst (λ (r : Room). IsWithin (needed (packs r) (packs_value v) (state_of mid)) last.capacity) call.room
+            holds;
+        light = λ adds. subst (λ (s : State). TakesWeight first.room (weight s.now))
+            (moves ∙ ap (λ (r : Room). moved (packs r) (packs_value v) (state_of mid)) call.room)
+            (light_in (room_then call packing) light);
+      };
+    }
 
 -- the next value gives up its own bytes before those of its struct come
 abbrev given_up : Held → Value → State
@@ -402,7 +409,7 @@ given_up mid v = record {
 module _ {first mid last : Held} (call : KeepsRoom first mid) (packing : KeepsRoom mid last)
     (some : packs first.room ≡ true) (v : Value)
     (other : length mid.slots.pending ≡ (innermost mid.frames).pending + 1 → ⊥) (moves : Moves mid last (packs_value v))
-    (before : HoldsInRoom mid) (after : HoldsInRoom last) where
+    (before : HoldsInRoom mid) (after : HoldsInRoom last) (light : IsLight last) where
   next_needs : needed (packs first.room) (packs_value v) (state_of mid) ≡ given_up mid v
   next_needs = rw (some, ne_eqb (length mid.slots.pending) ((innermost mid.frames).pending + 1) other) refl
 
@@ -426,7 +433,11 @@ module _ {first mid last : Held} (call : KeepsRoom first mid) (packing : KeepsRo
       MovesTo (world_between known first last) (packs_value v) (state_of mid) (state_of last)
   next_moves = record {
     is = next_is_moved;
-    has = subst (λ (s : State). IsWithin s last.capacity) (sym next_needs) next_within;
+    has = record {
+      room = subst (λ (s : State). IsWithin s last.capacity) (sym next_needs) next_within;
+      light = λ adds. subst (λ (s : State). TakesWeight first.room (weight s.now)) next_is_moved
+          (light_in (room_then call packing) light);
+    };
   }
 
 -- ---- what the call leaves

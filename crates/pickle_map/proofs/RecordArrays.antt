@@ -1,5 +1,5 @@
 -- An array of packed structs that is closed.
-use Rattle.std.proofs.Common.{◌≡◌, ℕ, ◌+◌, ◌*◌, ◌<◌, ◌≤◌, true, List, [], ◌∷◌, Option, Some, length, refl, sym, ap, subst, ◌∙◌, arith}
+use Rattle.std.proofs.Common.{◌≡◌, ℕ, ◌+◌, ◌*◌, ◌<◌, ◌≤◌, true, List, [], ◌∷◌, Option, Some, length, inl, inr, refl, sym, ap, subst, ◌∙◌, arith}
 use Rattle.std.proofs.lemmas.Bool.{eq-eqb, ne_eqb}
 use Rattle.std.proofs.Math.Nat.{mul-suc}
 use Rattle.pickle_types.specs.declared.node.Node.{Node}
@@ -10,14 +10,15 @@ use Rattle.value_store.specs.declared.store.slots.Shape.{Shape}
 use Rattle.value_store.specs.Closed.{closed}
 use Rattle.value_store.specs.Exceeding.{Exceeds}
 use Rattle.value_store.specs.Keeping.{IsClosed}
-use Rattle.value_store.specs.Moves.{Closes, ClosesRecords, ClosesRow, Moves, CannotMove, State, moved, state_of}
+use Rattle.value_store.specs.Moves.{Closes, ClosesRecords, ClosesRow, Moves, Refuses, State, moved, state_of}
 use Rattle.value_store.specs.PackedStructs.{ClosesStructs, IsPackingStructs, struct_bits, structs_of}
 use Rattle.value_store.specs.Slots.{Held, HasNoNode, HoldsInRoom, KeepsRoom, innermost, levels, packs}
 use Rattle.value_store.specs.Takes.{of_vector}
 use Rattle.pickle_map.specs.Follows.{MovesTo, LacksRoom}
 use Rattle.pickle_map.specs.Framed.{world_between}
 use Rattle.pickle_map.specs.Records.{IsOpened, HasStructs, no_structs, some_structs}
-use Rattle.pickle_map.proofs.Worlds.{comes_by, lacks_these, same_room}
+use Rattle.value_store.specs.Weights.{weight, RejectsWeight, IsLight}
+use Rattle.pickle_map.proofs.Worlds.{light_in, room_then, comes_by, lacks_these, same_room}
 
 -- ---- its structs
 
@@ -71,19 +72,28 @@ module _ {first h : Held} (k : KeepsRoom first h) (packing : packs first.room �
   packing_too : packs h.room ≡ true
   packing_too = ap packs k.room ∙ packing
 
-  pub none_moves : {known : Option (List ℕ)} {n : Held} → IsOpened h → HoldsInRoom n → Moves h n Closes →
+  pub none_moves : {known : Option (List ℕ)} {n : Held} → KeepsRoom h n → IsOpened h → HoldsInRoom n → IsLight n →
+      Moves h n Closes →
       MovesTo (world_between known first n) ClosesRow (state_of h) (state_of n)
-  none_moves {n} opened holds moves = comes_by first {move = ClosesRow} (same_room n) holds
+  none_moves {n} keeps opened holds light moves = comes_by first {move = ClosesRow} (same_room n) holds
       (moves ∙ none_moved h opened ∙ ap (λ b. moved b ClosesRow (state_of h)) (sym packing)) tt
+      (λ adds. light_in (room_then k keeps) light)
 
   pub some_moves : {known : Option (List ℕ)} {n : Held} → (HasNoNode h → ⊥) → HoldsInRoom n → Moves h n ClosesRecords →
       MovesTo (world_between known first n) ClosesRow (state_of h) (state_of n)
   some_moves {n} other holds moves = comes_by first {move = ClosesRow} (same_room n) holds
       (moves ∙ some_moved h other ∙ ap (λ b. moved b ClosesRow (state_of h)) (sym packing)) tt
+      (λ adds.
+      let same = ap (λ (s : State). weight s.now) moves in let more = adds.1 in absurd (omega (arith, same, more)))
 
   pub none_lacks : {known : Option (List ℕ)} (n : Held) {these : Levels} → IsOpened h → Exceeds h.room these →
-      CannotMove h Closes → LacksRoom (world_between known first n) (state_of h) ClosesRow these
-  none_lacks n opened least cannot =
-      let same = none_moved h opened ∙ ap (λ b. moved b ClosesRow (state_of h)) (sym packing_too) in
-      lacks_these k tt least
-      (cannot.0, subst (λ (s : State). of_vector cannot.0 h.capacity < of_vector cannot.0 s.now) same cannot.1)
+      Refuses h Closes → LacksRoom (world_between known first n) (state_of h) ClosesRow these
+  none_lacks n opened least refuses = lacks_these k tt least (refused refuses)
+    where
+      same : moved true Closes (state_of h) ≡ moved (packs h.room) ClosesRow (state_of h)
+      same = none_moved h opened ∙ ap (λ b. moved b ClosesRow (state_of h)) (sym packing_too)
+
+      refused : Refuses h Closes → Refuses h ClosesRow
+      refused (inl cannot) =
+          inl (cannot.0, subst (λ (s : State). of_vector cannot.0 h.capacity < of_vector cannot.0 s.now) same cannot.1)
+      refused (inr heavy) = inr (subst (λ (s : State). RejectsWeight h.room (weight s.now)) same heavy)

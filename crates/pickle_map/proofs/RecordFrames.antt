@@ -1,5 +1,5 @@
 -- A packed struct, whose numbers had a frame of their own.
-use Rattle.std.proofs.Common.{◌≡◌, ℕ, ◌+◌, ◌<◌, true, List, ◌∷◌, Option, Some, Result, Ok, length, refl, sym, ap, subst, ◌∙◌}
+use Rattle.std.proofs.Common.{◌≡◌, ℕ, ◌+◌, ◌<◌, true, List, ◌∷◌, Option, Some, Result, Ok, length, inl, inr, refl, sym, ap, subst, ◌∙◌}
 use Rattle.pickle_types.specs.declared.node.Field.{Field}
 use Rattle.pickle_types.specs.declared.node.Node.{Node}
 use Rattle.pickle_types.specs.Table.{type_of, open_fields}
@@ -19,14 +19,15 @@ use Rattle.value_store.proofs.Taken.{pushed-some}
 use Rattle.mapping_plans.specs.Plan.{Plan, then_ok, framed}
 use Rattle.pickle_map.specs.declared.mapper.stop.Stop.{Stop}
 use Rattle.pickle_map.specs.Columns.{PlacesMore, AddsColumns, after_columns, shapes_of}
-use Rattle.pickle_map.specs.Follows.{World, MovesTo, Done, NoRoom, Follows}
+use Rattle.pickle_map.specs.Follows.{World, RefusesMove, MovesTo, Done, NoRoom, Follows}
 use Rattle.pickle_map.specs.Framed.{world_between}
 use Rattle.pickle_map.specs.Records.{HasStructs, no_structs, some_structs, IsAmong, PassesRoom, in_frame, packed_state, struct_packs}
 use Rattle.pickle_map.specs.Stops.{stop_finish}
 use Rattle.pickle_map.proofs.Columns.{cut_numbers}
 use Rattle.pickle_map.proofs.RecordRows.{less_passes}
 use Rattle.pickle_map.proofs.Walks.{ends_made, ends_no_room, follow_stop, framed_ok, framed_no_room, framed_stop}
-use Rattle.pickle_map.proofs.Worlds.{comes_by, has_room, in_store, moves_to, room_then, same_room}
+use Rattle.value_store.specs.Weights.{weight, RejectsWeight, IsLight}
+use Rattle.pickle_map.proofs.Worlds.{light_in, comes_by, has_room, in_store, moves_by, room_then, same_room}
 
 -- ---- a store with other capacities
 
@@ -112,8 +113,8 @@ module _ (nodes : List Node) {first begun done dropped : Held} (opening : KeepsR
       k' j' (state_of dropped) (stop_finish stop)
   frame_stops p f drops within stop h =
       framed_stop (levels nodes first) (then_ok p f)
-      (moves_to (same_room first) (room_then call dropping) holds opens tt)
-      (moves_to (room_then opening call) (same_room dropped) within drops tt) stop
+      (moves_by (same_room first) (room_then call dropping) holds opens tt (λ adds. absurd adds.0))
+      (moves_by (room_then opening call) (same_room dropped) within drops tt (λ adds. absurd adds.0)) stop
       (follow_stop p f stop (in_store opening call dropping h))
 
   -- the struct is packed after that, or doesn't fit
@@ -126,7 +127,8 @@ module _ (nodes : List Node) {first begun done dropped : Held} (opening : KeepsR
     world = world_between known first last
 
     opened_frame : MovesTo world Opens (state_of first) (state_of begun)
-    opened_frame = moves_to (same_room first) (room_then call (room_then dropping leaving)) holds opens tt
+    opened_frame =
+        moves_by (same_room first) (room_then call (room_then dropping leaving)) holds opens tt (λ adds. absurd adds.0)
 
     filled_frame : Follows world limit p k j (state_of begun) k1 j1 (state_of done) (Done (Ok (inside, end)))
     filled_frame = in_store opening call (room_then dropping leaving) h
@@ -135,15 +137,17 @@ module _ (nodes : List Node) {first begun done dropped : Held} (opening : KeepsR
         ≡ packed_state count stride (state_of first)
     packs_as = rw packing (ap (moved true (PacksStruct stride)) filled)
 
-    pub frame_packs : HoldsInRoom last → state_of last ≡ packed_state count stride (state_of first) → {k2 j2 : ℕ} →
+    pub frame_packs : HoldsInRoom last → IsLight last →
+        state_of last ≡ packed_state count stride (state_of first) → {k2 j2 : ℕ} →
         k2 ≡ k1 → j2 ≡ j1 + 1 →
         Follows world limit (framed (levels nodes first) (then_ok p (struct_packs stride name names s))) k j
         (state_of first) k2 j2 (state_of last) (Done (Ok (struct_value name names s end inside)))
-    frame_packs within is ek ej =
+    frame_packs within light is ek ej =
         framed_ok (levels nodes first) (then_ok p (struct_packs stride name names s)) opened_frame
         (ends_made p (struct_packs stride name names s) (inside, end) (PacksStruct stride) (outer_of inside)
         (struct_value name names s end inside) refl filled_frame {limit1 = limit}
-        (comes_by first {move = PacksStruct stride} (same_room last) within (is ∙ sym packs_as) tt)
+        (comes_by first {move = PacksStruct stride} (same_room last) within (is ∙ sym packs_as) tt
+        (λ adds. light_in (room_then opening (room_then call (room_then dropping leaving))) light))
         refl ek ej)
 
     pub frame_lacks : {state' : State} → PassesRoom dropped (packed_state count stride (state_of first)) →
@@ -160,11 +164,17 @@ module _ (nodes : List Node) {first begun done dropped : Held} (opening : KeepsR
         (record {
           takes = tt;
           least = packs_no_more first.room (pushed (outer_of inside) v) (pushed-some (outer_of inside) v) packing;
-          before = (
-            passes.0,
-            subst (λ (x : State). of_vector passes.0 first.capacity < of_vector passes.0 x.now) (sym packs_as) passes.1,
-          );
+          before = refused passes;
         }))
+      where
+        refused : PassesRoom first (packed_state count stride (state_of first)) →
+            RefusesMove world (PacksStruct stride) (state_of done)
+        refused (inl over) = inl (
+          over.0,
+          subst (λ (x : State). of_vector over.0 first.capacity < of_vector over.0 x.now) (sym packs_as) over.1,
+        )
+        refused (inr heavy) =
+            inr (subst (λ (x : State). RejectsWeight first.room (weight x.now)) (sym packs_as) heavy)
 
 -- the struct of the numbers
 pub struct_is : (nodes : List Node) (at : ℕ) (fs : List Field) (start end : ℕ) (digits : List ℕ)

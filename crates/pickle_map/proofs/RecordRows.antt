@@ -1,5 +1,5 @@
 -- An array of packed structs, as it is made and as it grows.
-use Rattle.std.proofs.Common.{◌≡◌, ℕ, ◌+◌, ◌-◌, ◌*◌, ◌<◌, ◌≤◌, ◌^◌, Bool, true, false, List, [], ◌∷◌, ◌++◌, Result, Ok, Err, OnOk, OnErr, length, take, get_or, refl, sym, ap, subst, ◌∙◌, arith}
+use Rattle.std.proofs.Common.{◌≡◌, ℕ, ◌+◌, ◌-◌, ◌*◌, ◌<◌, ◌≤◌, ◌^◌, Bool, true, false, List, [], ◌∷◌, ◌++◌, Result, Ok, Err, OnOk, OnErr, length, take, get_or, inl, inr, refl, sym, ap, subst, ◌∙◌, arith}
 use Rattle.std.specs.Prelude.{nat_eq, if◌then◌else◌}
 use Rattle.std.proofs.lemmas.Bool.{eq-eqb}
 use Rattle.std.proofs.lemmas.List.{take_more, map_push, length_push}
@@ -12,7 +12,7 @@ use Rattle.value_store.specs.declared.store.slots.Marks.{Marks}
 use Rattle.value_store.specs.declared.store.slots.Node.{Node as SlotNode}
 use Rattle.value_store.specs.declared.store.slots.Shape.{Shape}
 use Rattle.value_store.specs.declared.store.slots.Shape.TheVariants.{Records}
-use Rattle.value_store.specs.Moves.{State, Moves, CannotMove, IsWithin, Opens, OpensRecords, PacksRecord, state_of, moved, with_template, with_structs}
+use Rattle.value_store.specs.Moves.{Move, State, Moves, Refuses, IsWithin, Opens, OpensRecords, PacksRecord, state_of, moved, with_template, with_structs}
 use Rattle.value_store.specs.PackedStructs.{struct_bits, struct_bytes, struct_row, AreDigits, BeginsStructs, DraftsMore, IsDrafting, IsPackingStructs, PacksStruct}
 use Rattle.value_store.specs.Slots.{Held, HasNoNode, HoldsInRoom, KeepsRoom, innermost, levels, marks_of, number_bits, packs}
 use Rattle.value_store.specs.Takes.{Vector, NodesOf, FamiliesOf, LinksOf, PendingOf, TextsOf, BytesOf, of_vector}
@@ -21,6 +21,10 @@ use Rattle.value_store.proofs.Gathering.{draft-none}
 use Rattle.value_store.proofs.PackedStructs.{bits-push}
 use Rattle.mapping_plans.specs.Rows.{scalar_shape}
 use Rattle.bit_space.specs.declared.memory.Memory.{Memory}
+use Rattle.value_store.specs.declared.store.room.Room.{Room}
+use Rattle.value_store.specs.Weights.{weight, RejectsWeight}
+use Rattle.pickle_map.proofs.Weighed.{rejects_more}
+use Rattle.pickle_map.proofs.Worlds.{IsDirect, direct_needs}
 use Rattle.pickle_map.specs.Columns.{with_columns, after_columns, shapes_of}
 use Rattle.pickle_map.specs.Records.{IsOpened, HasStructs, no_structs, some_structs, IsAmong, ComesTo, OpensArray, AddsRow, Drafts, in_frame, array_state, packed_state, PassesRoom}
 
@@ -170,39 +174,60 @@ module _ (h : Held) (count : ℕ) where
   -- the numbers of the template don't fit, although those of the struct did
   pub draft_passes : IsOpened h → IsWithin (in_frame count (state_of h)) h.capacity →
       PassesRoom h (after_columns count (state_of h)) → PassesRoom h (array_state count (state_of h))
-  draft_passes opened within over = subst (PassesRoom h) (sym (fresh_state opened)) (pass over.0 over.1)
+  draft_passes opened within over = subst (PassesRoom h) (sym (fresh_state opened)) (passes over)
     where
       pass : (vector : Vector) →
           of_vector vector h.capacity < of_vector vector (with_columns count (marks_of h.slots)) →
           PassesRoom h (record { now = with_structs count 0 (marks_of h.slots); frames = h.frames })
-      pass NodesOf over = (NodesOf, omega (arith, over))
-      pass FamiliesOf over = (FamiliesOf, omega (arith, over))
-      pass LinksOf over = (LinksOf, omega (arith, over))
+      pass NodesOf over = inl (NodesOf, omega (arith, over))
+      pass FamiliesOf over = inl (FamiliesOf, omega (arith, over))
+      pass LinksOf over = inl (LinksOf, omega (arith, over))
       pass PendingOf over = let most = within PendingOf in absurd (omega (arith, over, most))
-      pass TextsOf over = (TextsOf, omega (arith, over))
-      pass BytesOf over = (BytesOf, omega (arith, over))
+      pass TextsOf over = inl (TextsOf, omega (arith, over))
+      pass BytesOf over = inl (BytesOf, omega (arith, over))
+
+      passes : PassesRoom h (after_columns count (state_of h)) →
+          PassesRoom h (record { now = with_structs count 0 (marks_of h.slots); frames = h.frames })
+      passes (inl over) = pass over.0 over.1
+      passes (inr heavy) = inr (rejects_more h.room.growth _ _ (omega arith) heavy)
 
 pub less_passes : (h n : Held) (s : State) → KeepsRoom h n → PassesRoom n s → PassesRoom h s
-less_passes h n s k over = pass over.0 over.1
+less_passes h n s k passes = passed passes
   where
     pass : (vector : Vector) → of_vector vector n.capacity < of_vector vector s.now → PassesRoom h s
-    pass NodesOf over = (NodesOf, omega (arith, over, k.nodes))
-    pass FamiliesOf over = (FamiliesOf, omega (arith, over, k.families))
-    pass LinksOf over = (LinksOf, omega (arith, over, k.links))
-    pass PendingOf over = (PendingOf, omega (arith, over, k.pending))
-    pass TextsOf over = (TextsOf, omega (arith, over, k.texts))
-    pass BytesOf over = (BytesOf, omega (arith, over, k.bytes))
+    pass NodesOf over = inl (NodesOf, omega (arith, over, k.nodes))
+    pass FamiliesOf over = inl (FamiliesOf, omega (arith, over, k.families))
+    pass LinksOf over = inl (LinksOf, omega (arith, over, k.links))
+    pass PendingOf over = inl (PendingOf, omega (arith, over, k.pending))
+    pass TextsOf over = inl (TextsOf, omega (arith, over, k.texts))
+    pass BytesOf over = inl (BytesOf, omega (arith, over, k.bytes))
+
+    passed : PassesRoom n s → PassesRoom h s
+    passed (inl over) = pass over.0 over.1
+    passed (inr heavy) = inr (subst (λ (room : Room). RejectsWeight room (weight s.now)) k.room heavy)
+
+-- a move that is refused passes the room by what it leaves
+refused_passes : (h : Held) (move : Move) → IsDirect move → Refuses h move →
+    PassesRoom h (moved (packs h.room) move (state_of h))
+refused_passes h move direct (inl cannot) = inl (
+  cannot.0,
+  subst
+      (λ (s : State). of_vector cannot.0 h.capacity < of_vector cannot.0 s.now)
+      (direct_needs (packs h.room) move (state_of h) direct) cannot.1,
+)
+refused_passes h move direct (inr heavy) = inr heavy
 
 -- nor does the array
 pub open_passes : (h drafted : Held) (count : ℕ) → IsOpened h → KeepsRoom h drafted →
-    state_of drafted ≡ after_columns count (state_of h) → CannotMove drafted OpensRecords →
+    state_of drafted ≡ after_columns count (state_of h) → Refuses drafted OpensRecords →
     PassesRoom h (array_state count (state_of h))
 open_passes h drafted count opened k d cannot =
     let moves : moved (packs drafted.room) OpensRecords (state_of drafted) ≡ array_state count (state_of h) =
     ap (moved (packs drafted.room) OpensRecords) d
     ∙ rw opened (ap (λ (m : Marks). record { now = m; frames = h.frames }) (template_is (marks_of h.slots) count))
     ∙ sym (fresh_state h count opened) in
-    less_passes h drafted (array_state count (state_of h)) k (subst (PassesRoom drafted) moves cannot)
+    less_passes h drafted (array_state count (state_of h)) k
+    (subst (PassesRoom drafted) moves (refused_passes drafted OpensRecords tt cannot))
 
 -- one more struct
 struct_is : (b : Bool) (count stride : ℕ) (k own : Marks) →
@@ -225,32 +250,39 @@ packed_is b count stride h n last e moves =
     (innermost h.frames) (marks_of h.slots))
 
 pub pack_passes : (count stride : ℕ) (h n : Held) → KeepsRoom h n → state_of n ≡ array_state count (state_of h) →
-    CannotMove n (PacksRecord stride) → PassesRoom h (packed_state count stride (state_of h))
+    Refuses n (PacksRecord stride) → PassesRoom h (packed_state count stride (state_of h))
 pack_passes count stride h n k e cannot =
     let moves : moved (packs n.room) (PacksRecord stride) (state_of n) ≡ packed_state count stride (state_of h) =
     ap (moved (packs n.room) (PacksRecord stride)) e
     ∙ ap (λ (m : Marks). record { now = m; frames = h.frames })
     (struct_is (nat_eq (length h.slots.nodes) (innermost h.frames).nodes) count stride (innermost h.frames)
     (marks_of h.slots)) in
-    less_passes h n (packed_state count stride (state_of h)) k (subst (PassesRoom n) moves cannot)
+    less_passes h n (packed_state count stride (state_of h)) k
+    (subst (PassesRoom n) moves (refused_passes n (PacksRecord stride) tt cannot))
 
 -- what doesn't fit doesn't with more bytes either
 bytes_pass : (h : Held) (n : Marks) (frames : List Marks) (stride : ℕ) (vector : Vector) →
     of_vector vector h.capacity < of_vector vector n →
     PassesRoom h (record { now = record n { bytes = n.bytes + stride }; frames = frames })
-bytes_pass h n frames stride NodesOf over = (NodesOf, over)
-bytes_pass h n frames stride FamiliesOf over = (FamiliesOf, over)
-bytes_pass h n frames stride LinksOf over = (LinksOf, over)
-bytes_pass h n frames stride PendingOf over = (PendingOf, over)
-bytes_pass h n frames stride TextsOf over = (TextsOf, over)
-bytes_pass h n frames stride BytesOf over = (BytesOf, omega (arith, over))
+bytes_pass h n frames stride NodesOf over = inl (NodesOf, over)
+bytes_pass h n frames stride FamiliesOf over = inl (FamiliesOf, over)
+bytes_pass h n frames stride LinksOf over = inl (LinksOf, over)
+bytes_pass h n frames stride PendingOf over = inl (PendingOf, over)
+bytes_pass h n frames stride TextsOf over = inl (TextsOf, over)
+bytes_pass h n frames stride BytesOf over = inl (BytesOf, omega (arith, over))
+
+passes_more : (h : Held) (n : Marks) (frames : List Marks) (stride : ℕ) →
+    PassesRoom h (record { now = n; frames = frames }) →
+    PassesRoom h (record { now = record n { bytes = n.bytes + stride }; frames = frames })
+passes_more h n frames stride (inl over) = bytes_pass h n frames stride over.0 over.1
+passes_more h n frames stride (inr heavy) = inr (rejects_more h.room.growth _ _ (omega arith) heavy)
 
 pub array_passes : (count stride : ℕ) (h : Held) → PassesRoom h (array_state count (state_of h)) →
     PassesRoom h (packed_state count stride (state_of h))
 array_passes count stride h over =
     subst (PassesRoom h) (ap (λ (m : Marks). record { now = m; frames = h.frames }) (struct_is
     (nat_eq (length h.slots.nodes) (innermost h.frames).nodes) count stride (innermost h.frames) (marks_of h.slots)))
-    (bytes_pass h (array_state count (state_of h)).now h.frames stride over.0 over.1)
+    (passes_more h (array_state count (state_of h)).now h.frames stride over)
 
 pub comes_to : (h n : Held) (state : State) (r : Result (Unit {0}) Memory) → OnOk r (state_of n ≡ state) →
     OnOk r (HoldsInRoom n) → OnErr r (PassesRoom h state) → ComesTo h n state r

@@ -26,7 +26,10 @@ use Rattle.mapping_plans.specs.Plan.{Plan}
 use Rattle.mapping_plans.specs.Kept.{KeepsBy}
 use Rattle.pickle_meaning.specs.Values.{Value, no_values}
 use Rattle.pickle_map.proofs.FaultKinds.{followed_kind}
-use Rattle.pickle_map.proofs.Repeated.{room_when_done, room_when_limited, no_room_before}
+use Rattle.value_store.specs.Weights.{IsUnbounded, TakesWeight}
+use Rattle.pickle_map.specs.Weighed.{WeighsBy}
+use Rattle.pickle_map.proofs.Weighed.{none_light}
+use Rattle.pickle_map.proofs.Repeated.{room_when_done, room_when_limited, light_when_done, light_when_limited, no_room_before}
 use Rattle.pickle_map.proofs.Followed.{followed_limit, followed_room, followed_result, followed_too_long, followed_part}
 
 answered : (bits : List ℕ) (ty : PokeType) (order : Order) (s limit : ℕ) (kind : MapFaultKind) (at k j : ℕ) →
@@ -94,12 +97,12 @@ module _ {world : World} {limit : ℕ} (m : ℕ) (ty : PokeType) (order : Order)
   -- a request for capacity fails only where there is less than the type's bound
   pub fault_of_memory : (stop : Stop) →
       Follows world limit (plan m ty order no_values s) k j state k' j' state' (stop_finish stop) →
-      (fault_of stop s).kind ≡ fault.Memory → world.room.least < room ty m
+      (fault_of stop s).kind ≡ fault.Memory → IsUnbounded world.room → world.room.least < room ty m
   fault_of_memory (Fault kind place) h e = absurd (no_run kind (followed_kind m ty order no_values s h) (rw e tt))
   fault_of_memory Limit h e = cc
   fault_of_memory Device h e = cc
   fault_of_memory Memory h e =
-      let f = followed_room m ty order no_values s h in
+      λ free. let f = followed_room m ty order no_values s h free in
       let less : world.room.least < 0 + 0 + room ty m = f.1 in omega (arith, less)
 
   pub fault_of_device : (stop : Stop) →
@@ -156,6 +159,20 @@ module _ {world : World} {limit : ℕ} (bits : List ℕ) (m : ℕ) (ty : PokeTyp
       KeepsBy (HasRoom world) (packs world.room) bits (plan m ty order no_values s) (limit - k) no_state
   done_kept h = room_when_done bits limit known h
 
+  pub done_light : {r : Result Value FaultAt} →
+      Follows world limit (plan m ty order no_values s) k j no_state k' j' state' (Done r) →
+      WeighsBy (TakesWeight world.room) (packs world.room) bits (plan m ty order no_values s) (limit - k) no_state
+  done_light h = light_when_done bits limit known h
+
+  pub fault_of_light : (stop : Stop) →
+      Follows world limit (plan m ty order no_values s) k j no_state k' j' state' (stop_finish stop) →
+      UnlessBreaks (fault_of stop s).kind
+      (WeighsBy (TakesWeight world.room) (packs world.room) bits (plan m ty order no_values s) (limit - k) no_state)
+  fault_of_light (Fault kind place) h = unless kind (done_light h)
+  fault_of_light Limit h = light_when_limited bits limit known h
+  fault_of_light Device h = tt
+  fault_of_light Memory h = tt
+
   pub fault_of_kept : (stop : Stop) →
       Follows world limit (plan m ty order no_values s) k j no_state k' j' state' (stop_finish stop) →
       UnlessBreaks (fault_of stop s).kind
@@ -169,12 +186,13 @@ module _ {world : World} {limit : ℕ} (bits : List ℕ) (m : ℕ) (ty : PokeTyp
       Follows world limit (plan m ty order no_values s) k j no_state k' j' state' (stop_finish stop) →
       (fault_of stop s).kind ≡ fault.Memory →
       KeepsBy (λ now. IsWithin now world.before) (packs world.room) bits (plan m ty order no_values s)
-      (limit - k) no_state → ⊥
+      (limit - k) no_state →
+      WeighsBy (TakesWeight world.room) (packs world.room) bits (plan m ty order no_values s) (limit - k) no_state → ⊥
   fault_of_wanted within (Fault kind place) h e =
       absurd (no_run kind (followed_kind m ty order no_values s h) (rw e tt))
   fault_of_wanted within Limit h e = cc
   fault_of_wanted within Device h e = cc
-  fault_of_wanted within Memory h e = no_room_before bits limit known within h
+  fault_of_wanted within Memory h e = no_room_before bits limit known within (none_light world.room) h
 
 -- an empty store has no values
 pub none_kept : (nodes : List Node) (store : Held) → store ≡ emptied store → levels nodes store ≡ no_values

@@ -1,16 +1,17 @@
 -- Worlds of nested calls: the capacity of vectors never gets less.
-use Rattle.std.proofs.Common.{◌≡◌, ℕ, ◌<◌, ◌≤◌, Bool, Option, List, option_map, refl, sym, ap, subst, ◌∙◌, arith}
+use Rattle.std.proofs.Common.{◌≡◌, ℕ, ◌<◌, ◌≤◌, Bool, Option, List, option_map, inl, inr, refl, sym, ap, subst, ◌∙◌, arith}
 use Rattle.bit_space.specs.Bits.{bits_of}
 use Rattle.bit_space.specs.SpaceView.{SpaceView}
 use Rattle.value_store.specs.declared.store.room.Room.{Room}
 use Rattle.value_store.specs.declared.store.slots.Marks.{Marks}
 use Rattle.pickle_meaning.specs.Values.{Levels}
 use Rattle.value_store.specs.Exceeding.{Exceeds}
-use Rattle.value_store.specs.Moves.{Move, Opens, Drops, Clears, Places, Leaves, Closes, Writes, Ends, Packs, ClosesRow, OpensRecords, PacksRecord, ClosesRecords, PacksStruct, PacksValue, State, Moves, CannotMove, IsWithin, moved, needed, state_of}
-use Rattle.value_store.specs.Slots.{Held, packs, HoldsInRoom, KeepsRoom}
+use Rattle.value_store.specs.Moves.{Move, Opens, Drops, Clears, Places, Leaves, Closes, Writes, Ends, Packs, ClosesRow, OpensRecords, PacksRecord, ClosesRecords, PacksStruct, PacksValue, State, Moves, Refuses, IsWithin, moved, needed, state_of}
+use Rattle.value_store.specs.Slots.{Held, packs, marks_of, HoldsInRoom, KeepsRoom}
+use Rattle.value_store.specs.Weights.{TakesWeight, RejectsWeight, IsLight, weight}
 use Rattle.value_store.specs.Takes.{Vector, NodesOf, FamiliesOf, LinksOf, PendingOf, TextsOf, BytesOf, of_vector}
 use Rattle.mapping_plans.specs.Plan.{Plan, Ended, Tick, Made, Read}
-use Rattle.pickle_map.specs.Follows.{World, HasRoom, MovesTo, TakesMore, LacksRoom, Walk, arrived, stepped, kept, read, Finish, Done, NoSteps, Broken, NoRoom, Partly, NeedsRoom, EndsAs, Follows}
+use Rattle.pickle_map.specs.Follows.{World, HasRoom, MovesTo, TakesMore, AddsWeight, RefusesMove, LacksRoom, Walk, arrived, stepped, kept, read, Finish, Done, NoSteps, Broken, NoRoom, Partly, NeedsRoom, EndsAs, Follows}
 use Rattle.pickle_map.specs.Framed.{world_between, world_of}
 
 -- ---- capacities
@@ -57,7 +58,7 @@ within_more state capacity capacity' more h vector =
     let low = h vector in let up = more vector in omega (arith, low, up)
 
 -- a length of a vector that passes a capacity
-abbrev Passes : State → (capacity : Marks) → Type 0
+abbrev pub Passes : State → (capacity : Marks) → Type 0
 Passes state capacity = (vector : Vector) × (of_vector vector capacity < of_vector vector state.now)
 
 passes_less : (state : State) (capacity capacity' : Marks) → Reaches capacity' capacity → Passes state capacity →
@@ -84,8 +85,15 @@ module _ (known : Option (List ℕ)) (room : Room) (before before' filled filled
   walk_wider arrived = arrived
   walk_wider (stepped w) = stepped (walk_wider w)
   walk_wider (kept {move} {state} has w) =
-      kept (within_more (needed (packs room) move state) filled filled' more has) (walk_wider w)
+      kept record {
+        room = within_more (needed (packs room) move state) filled filled' more has.room;
+        light = has.light;
+      } (walk_wider w)
   walk_wider (read n m w) = read n m (walk_wider w)
+
+  refuses_less : (move : Move) (state : State) → RefusesMove inner move state → RefusesMove around move state
+  refuses_less move state (inl over) = inl (passes_less (needed (packs room) move state) before before' less over)
+  refuses_less move state (inr heavy) = inr heavy
 
   lacks_wider : {A : Type 0} (state : State) (p : Plan A) → NeedsRoom inner state p → NeedsRoom around state p
   lacks_wider state (Ended a) h = absurd h
@@ -93,7 +101,7 @@ module _ (known : Option (List ℕ)) (room : Room) (before before' filled filled
   lacks_wider state (Made count move these p) h = record {
     takes = h.takes;
     least = h.least;
-    before = passes_less (needed (packs room) move state) before before' less h.before;
+    before = refuses_less move state h.before;
   }
   lacks_wider state (Read place width order rest) h = absurd h
 
@@ -166,7 +174,7 @@ abbrev pub IsDirect : Move → Type 0
 IsDirect (PacksValue size template stride) = ⊥
 IsDirect move = Unit {0}
 
-direct_needs : (packing : Bool) (move : Move) (state : State) → IsDirect move →
+pub direct_needs : (packing : Bool) (move : Move) (state : State) → IsDirect move →
     needed packing move state ≡ moved packing move state
 direct_needs packing Opens state h = refl
 direct_needs packing Drops state h = refl
@@ -184,35 +192,64 @@ direct_needs packing ClosesRecords state h = refl
 direct_needs packing (PacksStruct stride) state h = refl
 direct_needs packing (PacksValue size template stride) state h = absurd h
 
+-- the store takes what it stores after a move that adds to it
+abbrev pub IsLightAfter : (room : Room) → Move → (before after : State) → Type 0
+IsLightAfter room move before after = AddsWeight move before after → TakesWeight room (weight after.now)
+
 -- a call brought a store to what comes of it by such a move
 pub comes_by : {known : Option (List ℕ)} (first : Held) {after last : Held} {move : Move} {state : State} →
     KeepsRoom after last → HoldsInRoom after → state_of after ≡ moved (packs first.room) move state → IsDirect move →
+    IsLightAfter first.room move state (state_of after) →
     MovesTo (world_between known first last) move state (state_of after)
-comes_by {known} first {last} {move} {state} later holds is direct = record {
+comes_by {known} first {after} {last} {move} {state} later holds is direct light = record {
   is = is;
-  has = subst (HasRoom (world_between known first last))
-      (is ∙ sym (direct_needs (packs first.room) move state direct)) (has_room holds later);
+  has = record {
+    room = subst (HasRoom (world_between known first last))
+        (is ∙ sym (direct_needs (packs first.room) move state direct)) (has_room holds later);
+    light = subst (IsLightAfter first.room move state) is light;
+  };
 }
 
+-- a store takes what it holds, as one that was made alike
+pub light_in : {first after : Held} → KeepsRoom first after → IsLight after →
+    TakesWeight first.room (weight (marks_of after.slots))
+light_in {after} keeps light =
+    subst (λ (room : Room). TakesWeight room (weight (marks_of after.slots))) keeps.room light
+
 -- a call of the store made such a move
-pub moves_to : {known : Option (List ℕ)} {first before after last : Held} {move : Move} → KeepsRoom first before →
+pub moves_by : {known : Option (List ℕ)} {first before after last : Held} {move : Move} → KeepsRoom first before →
     KeepsRoom after last → HoldsInRoom after → Moves before after move → IsDirect move →
+    IsLightAfter first.room move (state_of before) (state_of after) →
     MovesTo (world_between known first last) move (state_of before) (state_of after)
-moves_to {known} {first} {before} {after} {last} {move} earlier later holds moves direct =
+moves_by {known} {first} {before} {after} {last} {move} earlier later holds moves direct light =
     comes_by first {last = last} {move = move} {state = state_of before} later holds
-    (moves ∙ ap (λ (r : Room). moved (packs r) move (state_of before)) earlier.room) direct
+    (moves ∙ ap (λ (r : Room). moved (packs r) move (state_of before)) earlier.room) direct light
+
+-- one that takes more
+pub moves_to : {known : Option (List ℕ)} {first before after last : Held} {move : Move} → KeepsRoom first before →
+    KeepsRoom before after → KeepsRoom after last → HoldsInRoom after → IsLight after → Moves before after move →
+    IsDirect move → MovesTo (world_between known first last) move (state_of before) (state_of after)
+moves_to {move} earlier call later holds light moves direct =
+    moves_by {move = move} earlier later holds moves direct (λ adds. light_in (room_then earlier call) light)
 
 -- a move didn't fit
 pub lacks_these : {known : Option (List ℕ)} {first before : Held} {filled : Marks} {move : Move} {these : Levels} →
-    KeepsRoom first before → TakesMore move → Exceeds before.room these → CannotMove before move →
+    KeepsRoom first before → TakesMore move → Exceeds before.room these → Refuses before move →
     LacksRoom (record { known = known; room = first.room; before = first.capacity; filled = filled })
     (state_of before) move these
-lacks_these {first} {before} {move} {these} k takes least cannot =
-    let over : Passes (needed (packs first.room) move (state_of before)) before.capacity =
-    subst (λ (r : Room). Passes (needed (packs r) move (state_of before)) before.capacity) k.room cannot in
-    record {
-      takes = takes;
-      least = subst (λ (r : Room). Exceeds r these) k.room least;
-      before = passes_less (needed (packs first.room) move (state_of before)) before.capacity first.capacity
-          (reaches first before k) over;
-    }
+lacks_these {known} {first} {before} {filled} {move} {these} k takes least refuses = record {
+  takes = takes;
+  least = subst (λ (r : Room). Exceeds r these) k.room least;
+  before = refused refuses;
+}
+  where
+    refused : Refuses before move →
+        RefusesMove (record { known = known; room = first.room; before = first.capacity; filled = filled }) move
+        (state_of before)
+    refused (inl cannot) =
+        let over : Passes (needed (packs first.room) move (state_of before)) before.capacity =
+        subst (λ (r : Room). Passes (needed (packs r) move (state_of before)) before.capacity) k.room cannot in
+        inl (passes_less (needed (packs first.room) move (state_of before)) before.capacity first.capacity
+        (reaches first before k) over)
+    refused (inr heavy) =
+        inr (subst (λ (r : Room). RejectsWeight r (weight (moved (packs r) move (state_of before)).now)) k.room heavy)

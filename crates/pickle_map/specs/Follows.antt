@@ -1,5 +1,5 @@
 -- What it means that a call follows a plan.
-use Rattle.std.specs.Prelude.{◌≡◌, ℕ, ◌+◌, ◌<◌, List, Option}
+use Rattle.std.specs.Prelude.{◌≡◌, ◌⊎◌, ℕ, ◌+◌, ◌<◌, List, Option}
 use Rattle.bit_space.specs.declared.order.Order.{Order}
 use Rattle.bit_space.specs.Reading.{MayRead}
 use Rattle.value_store.specs.declared.store.room.Room.{Room}
@@ -9,6 +9,7 @@ use Rattle.value_store.specs.Exceeding.{Exceeds}
 use Rattle.value_store.specs.Moves.{Move, Opens, Drops, Clears, Places, Leaves, Closes, Writes, Ends, Packs, ClosesRow, OpensRecords, PacksRecord, ClosesRecords, PacksStruct, PacksValue, State, IsWithin, moved, needed}
 use Rattle.value_store.specs.Slots.{packs}
 use Rattle.value_store.specs.Takes.{Vector, of_vector}
+use Rattle.value_store.specs.Weights.{TakesWeight, RejectsWeight, weight}
 use Rattle.mapping_plans.specs.Plan.{Plan, Ended, Tick, Made, Read}
 
 -- the bits of the file, where they are known, the slots that the store was made with, and its capacity before a call
@@ -31,11 +32,6 @@ after_move world move state = moved (packs world.room) move state
 abbrev pub during_move : World → Move → State → State
 during_move world move state = needed (packs world.room) move state
 
--- the move was made, and what is stored on its way has capacity
-pub record MovesTo (world : World) (move : Move) (state state' : State) : Type 0 where
-  pub is : state' ≡ after_move world move state
-  pub has : HasRoom world (during_move world move state)
-
 -- a move that takes something of a vector, and so may not fit
 abbrev pub TakesMore : Move → Type 0
 TakesMore Opens = ⊥
@@ -54,12 +50,32 @@ TakesMore ClosesRecords = ⊥
 TakesMore (PacksStruct stride) = Unit {0}
 TakesMore (PacksValue size template stride) = Unit {0}
 
--- A move to such frames didn't fit: neither in the slots that the store was made with, nor in the capacity of its
--- vectors.
+-- a move that takes more leaves more weight
+abbrev pub AddsWeight : Move → (before after : State) → Type 0
+AddsWeight move before after = TakesMore move × (weight before.now < weight after.now)
+
+-- what is stored on the way has capacity in the end, and the store takes the weight that the move leaves, if it is more
+pub record HoldsMove (world : World) (move : Move) (state : State) : Type 0 where
+  pub room : HasRoom world (during_move world move state)
+  pub light : AddsWeight move state (after_move world move state) →
+      TakesWeight world.room (weight (after_move world move state).now)
+
+-- the move was made
+pub record MovesTo (world : World) (move : Move) (state state' : State) : Type 0 where
+  pub is : state' ≡ after_move world move state
+  pub has : HoldsMove world move state
+
+-- a vector has no capacity for what is stored on the way, or what the move leaves weighs more than the store takes
+abbrev pub RefusesMove : World → Move → State → Type 0
+RefusesMove world move state =
+    ((vector : Vector) × (of_vector vector world.before < of_vector vector (during_move world move state).now))
+    ⊎ RejectsWeight world.room (weight (after_move world move state).now)
+
+-- A move to such frames didn't fit: neither in the slots that the store was made with, nor in what it has or takes.
 pub record LacksRoom (world : World) (state : State) (move : Move) (levels : Levels) : Type 0 where
   pub takes : TakesMore move
   pub least : Exceeds world.room levels
-  pub before : (vector : Vector) × (of_vector vector world.before < of_vector vector (during_move world move state).now)
+  pub before : RefusesMove world move state
 
 -- a walk along a plan, after k steps with j values made in a store of that state, to its rest, after k' steps with j'
 -- values made in a store of the state `last`; all that was stored fitted
@@ -69,7 +85,7 @@ pub data Walk (world : World) {A : Type 0} (rest : Plan A) (k' j' : ℕ) (last :
   stepped : {p : Plan A} {k j : ℕ} {state : State} → Walk world rest k' j' last p (k + 1) j state →
       Walk world rest k' j' last (Tick p) k j state
   kept : {count : ℕ} {move : Move} {levels : Levels} {p : Plan A} {k j : ℕ} {state : State} →
-      HasRoom world (during_move world move state) →
+      HoldsMove world move state →
       Walk world rest k' j' last p k (j + count) (after_move world move state) →
       Walk world rest k' j' last (Made count move levels p) k j state
   read : {place width : ℕ} {order : Order} {ps : ℕ → Plan A} {k j : ℕ} {state : State} (n : ℕ) →

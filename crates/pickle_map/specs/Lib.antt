@@ -14,6 +14,7 @@ pub mod Findings
 pub mod Settles
 pub mod Settled
 pub mod Mappable
+pub mod Weighed
 pub mod Mapped
 pub mod Repeated
 pub use Rattle.pickle_meaning.specs.FaultNames

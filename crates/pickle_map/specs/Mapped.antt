@@ -30,6 +30,8 @@ use Rattle.value_store.specs.declared.store.slots.Marks.{Marks}
 use Rattle.value_store.specs.Promises.{least_capacity, promised, promising}
 use Rattle.value_store.specs.Slots.{Held, packs, emptied, HoldsInRoom, KeepsRoom, levels}
 use Rattle.value_store.specs.Moves.{State, IsWithin, no_state, state_of}
+use Rattle.value_store.specs.Weights.{IsUnbounded, TakesWeight}
+use Rattle.pickle_map.specs.Weighed.{WeighsBy}
 use Rattle.pickle_meaning.specs.Values.{Value, no_values, pushed}
 
 -- a store that holds one value, with the names of a table, and a fact about that value
@@ -83,6 +85,12 @@ HasRoomFor room capacity type order start space meter bytes =
     KeepsBy (λ state. IsWithin state capacity) (packs room) (bits_of bytes)
     (plan (8 * space.len) type order no_values start) (meter.limit - meter.steps) no_state
 
+-- on these bytes, within the steps that are left: the store takes what the values of a type weigh
+abbrev pub IsLightFor : Room → PokeType → Order → (start : ℕ) → SpaceView → Meter → (bytes : List ℕ) → Type 0
+IsLightFor room type order start space meter bytes =
+    WeighsBy (TakesWeight room) (packs room) (bits_of bytes)
+    (plan (8 * space.len) type order no_values start) (meter.limit - meter.steps) no_state
+
 -- a fact about a mapping that neither a device nor an allocation failure broke off
 abbrev pub UnlessBreaks : MapFaultKind → Type 0 → Type 0
 UnlessBreaks faults.Device P = Unit {0}
@@ -102,15 +110,23 @@ KeptInRoom type order start space meter store store' result =
     UnlessBroken result
     (HasRoomFor (prepared type space store).room store'.capacity type order start space meter bytes)
 
+-- Where they are known, and the mapping wasn't broken off: the store took what the values weigh.
+abbrev pub KeptLight : PokeType → Order → (start : ℕ) → SpaceView → Meter → (store : Held) →
+    Result (Unit {0}) MapFault → Type 0
+KeptLight type order start space meter store result =
+    (bytes : List ℕ) → space.bytes ≡ Some bytes →
+    UnlessBroken result (IsLightFor (prepared type space store).room type order start space meter bytes)
+
 -- Where they are known, and `Memory` was returned: before, the store lacked the capacity for all that the mapping
--- stores.
+-- stores, or it doesn't take what that weighs.
 abbrev pub WantedMore : PokeType → Order → (start : ℕ) → SpaceView → Meter → (store : Held) →
     Result (Unit {0}) MapFault → Type 0
 WantedMore type order start space meter store result =
     (bytes : List ℕ) → space.bytes ≡ Some bytes →
     IfErr result
     (λ f. f.kind ≡ faults.Memory →
-    HasRoomFor (prepared type space store).room store.capacity type order start space meter bytes → ⊥)
+    HasRoomFor (prepared type space store).room store.capacity type order start space meter bytes →
+    IsLightFor (prepared type space store).room type order start space meter bytes → ⊥)
 
 -- faults that end a run, which no type means
 abbrev pub EndsRun : MapFaultKind → Type 0
@@ -165,10 +181,13 @@ ReachesLimit type space meter meter' result =
     IfErr result (λ f. f.kind ≡ faults.Limit →
     (meter'.steps ≡ meter.limit) × (meter.limit < meter.steps + cost type (8 * space.len)))
 
--- `Memory` is returned only where some vector of the store had less capacity before than the type's bound
+-- `Memory` is returned only where some vector of the store had less capacity before than the type's bound, or the
+-- store's weight is bounded
 abbrev pub LacksBound : PokeType → SpaceView → (store : Held) → Result (Unit {0}) MapFault → Type 0
 LacksBound type space store result =
-    IfErr result (λ f. f.kind ≡ faults.Memory → least_capacity store.capacity < room_of type (8 * space.len))
+    IfErr result
+    (λ f. f.kind ≡ faults.Memory → IsUnbounded store.room →
+    least_capacity store.capacity < room_of type (8 * space.len))
 
 -- what a mapping of a type from the bit `start` on does, into an empty store
 pub record IsMapped (nodes : List Node) (type : PokeType) (order : Order) (start : ℕ) (space space' : SpaceView)
@@ -188,9 +207,10 @@ pub record IsMapped (nodes : List Node) (type : PokeType) (order : Order) (start
   pub device : IfErr result (λ f. f.kind ≡ faults.Device → HasRisen space.failures space'.failures)
   -- Whatever the space gives: it runs along its type's plan on the numbers that were read, to this value or fault.
   pub counts : RunsPlan type order start space meter meter' nodes store store' result
-  -- In the end there is capacity for all that was to be stored. `Memory` is returned only where there was too little
-  -- before.
+  -- In the end there is capacity for all that was to be stored, and the store takes what it weighs. `Memory` is
+  -- returned only where there was too little before, or where it weighs too much.
   pub kept : KeptInRoom type order start space meter store store' result
+  pub weighed : KeptLight type order start space meter store result
   pub asked : WantedMore type order start space meter store result
   -- A fault that ends a run has the mapping's start as its place.
   pub place : IfErr result (λ f. EndsRun f.kind → f.at ≡ start)

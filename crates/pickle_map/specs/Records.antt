@@ -1,5 +1,5 @@
 -- Arrays of structs of numbers that a store packs, while they are mapped.
-use Rattle.std.specs.Prelude.{◌≡◌, ◌≢◌, ℕ, ◌+◌, ◌*◌, ◌<◌, ◌≤◌, ◌^◌, length, List, [], ◌∷◌, ◌++◌, true, false, nat_eq, if◌then◌else◌, Result, Ok, Err}
+use Rattle.std.specs.Prelude.{◌≡◌, ◌⊎◌, ◌≢◌, ℕ, ◌+◌, ◌*◌, ◌<◌, ◌≤◌, ◌^◌, length, List, [], ◌∷◌, ◌++◌, true, false, nat_eq, if◌then◌else◌, Result, Ok, Err}
 use Rattle.bit_space.specs.declared.memory.Memory.{Memory as OutOfMemory}
 use Rattle.bit_space.specs.declared.meter.Meter.{Meter}
 use Rattle.bit_space.specs.declared.order.Order.{Order}
@@ -14,6 +14,7 @@ use Rattle.value_store.specs.declared.store.slots.Shape.{Shape}
 use Rattle.value_store.specs.Moves.{PacksStruct, State, packed_struct, state_of, with_structs}
 use Rattle.value_store.specs.Names.{title_at}
 use Rattle.value_store.specs.PackedStructs.{AreDigits, IsDrafting, IsPackingStructs, struct_bits, struct_bytes, struct_of, struct_row, structs_of}
+use Rattle.value_store.specs.Weights.{RejectsWeight, weight}
 use Rattle.value_store.specs.Slots.{Held, HoldsInRoom, Regrown, innermost, levels, marks_of}
 use Rattle.value_store.specs.Takes.{Vector, of_vector}
 use Rattle.mapping_plans.specs.Mapping.{from_inside, closes, fields_plan}
@@ -95,11 +96,12 @@ array_state count s = record {
 abbrev pub packed_state : (count stride : ℕ) → State → State
 packed_state count stride s = packed_struct true stride (in_frame count s)
 
--- the state of a store is more than its capacity before
+-- the state of a store is more than its capacity before, or weighs more than it takes
 abbrev pub PassesRoom : Held → State → Type 0
-PassesRoom before state = (vector : Vector) × (of_vector vector before.capacity < of_vector vector state.now)
+PassesRoom before state = ((vector : Vector) × (of_vector vector before.capacity < of_vector vector state.now))
+    ⊎ RejectsWeight before.room (weight state.now)
 
--- a call brought the store to a state, or that is more than its capacity before
+-- a call brought the store to a state, or that passes its room
 abbrev pub ComesTo : (before after : Held) → State → Result (Unit {0}) OutOfMemory → Type 0
 ComesTo before after state (Ok u) = (state_of after ≡ state) × HoldsInRoom after
 ComesTo before after state (Err e) = PassesRoom before state

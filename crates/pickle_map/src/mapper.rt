@@ -4,7 +4,7 @@ ghost use Rattle.std.specs.Prelude.{◌≡◌, ◌+◌, ◌*◌, ◌≤◌, IfEr
 ghost use Rattle.bit_space.specs.SpaceView.{HasRisen};
 ghost use Rattle.pickle_types.specs.Bounds.{cost, room};
 ghost use Rattle.pickle_types.specs.TypeTable.{nodes_of, type_named, IsInTable};
-ghost use Rattle.pickle_map.specs.Mapped.{MeansValue, MeansFault, FitsType, CountsParts, ReachesLimit, LacksBound, RunsNamed, KeptInRoom, WantedMore, EndsRun, HoldsAtMost, MapsNamed, fault_of};
+ghost use Rattle.pickle_map.specs.Mapped.{MeansValue, MeansFault, FitsType, CountsParts, ReachesLimit, LacksBound, RunsNamed, KeptInRoom, KeptLight, WantedMore, EndsRun, HoldsAtMost, MapsNamed, fault_of};
 ghost use Rattle.pickle_map.specs.Findings.{AreFound};
 ghost use Rattle.value_store.specs.declared.store.room.Growth.TheVariants.{Never};
 ghost use Rattle.value_store.specs.Promises.{promised, promising};
@@ -76,10 +76,11 @@ pub fn map<S: Space>(
     // fault, in the steps and with the values made of that run.
     ensures counts { RunsNamed table.now id order start (S.view space.old) meter.old meter.new
         store.old store.new result }
-    // In the end there is capacity for all that was to be stored. `Memory` is returned only where there was too little
-    // before.
+    // In the end there is capacity for all that was to be stored, and the store takes what it weighs. `Memory` is
+    // returned only where there was too little before, or where it weighs too much.
     ensures kept { KeptInRoom (type_named table.now id) order start (S.view space.old) meter.old
         store.old store.new result }
+    ensures weighed { KeptLight (type_named table.now id) order start (S.view space.old) meter.old store.old result }
     ensures asked { WantedMore (type_named table.now id) order start (S.view space.old) meter.old store.old result }
     // A fault that ends a run has the mapping's start as its place.
     ensures place { IfErr result (λ f. EndsRun f.kind → f.at ≡ start) }

@@ -114,7 +114,7 @@ walks known (Made count move levels p) a k _ (along_made {j = j} h) k0 j0 state 
       needed = larger now w.needed;
       walk = λ filled covers.
           subst (λ j'. Walk (world known filled) (Ended a) (k0 + k) j' w.last (Made count move levels p) k0 j0 state) ej
-          (kept (first_covered now w.needed filled covers)
+          (kept record { room = first_covered now w.needed filled covers; light = λ adds. tt }
           (w.walk filled (other_covered now w.needed filled covers)));
     }
 walks known (Read place width order rest) a k j (along_read n may h) k0 j0 state =

@@ -44,8 +44,9 @@ pub fn faults_of_map_are_yielded()
 {}
 
 /// Where `map` returns `Memory`, whatever the space gives, some vector of the store had less capacity before than
-/// `capacity_bound` of the type. Into a cleared store each of whose vectors has that capacity, no mapping of the type
-/// over a file of so many bits returns `Memory`.
+/// `capacity_bound` of the type, or these bounds weigh more than the store takes. Into a cleared store each of whose
+/// vectors has that capacity, and that takes that weight, no mapping of the type over a file of so many bits returns
+/// `Memory`.
 pub fn memory_lacks_capacity()
     ensures law { MemoryLacksCapacity }
 {}

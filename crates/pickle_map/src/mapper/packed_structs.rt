@@ -1,6 +1,6 @@
 //! Arrays of structs of numbers that the store packs.
 
-ghost use Rattle.std.specs.Prelude.{◌≡◌, ◌+◌, ◌*◌, ◌<◌, ◌≤◌, ◌^◌, ◌∷◌, [], true, length, All, IfOk, OnOk};
+ghost use Rattle.std.specs.Prelude.{◌≡◌, ◌+◌, ◌*◌, ◌<◌, ◌≤◌, ◌^◌, ◌∷◌, [], length, All, IfOk, OnOk};
 ghost use Rattle.mapping_plans.specs.Avoids.{IsScalar, AreColumns};
 ghost use Rattle.mapping_plans.specs.Rows.{scalar_shape};
 ghost use Rattle.pickle_map.specs.AtWork.{Frame, LevelStays, LeavesLevel, Closes, IsRecord, IsAmong, TakesRow, OpensArray, AddsRow, StoreFrame, PacksOne, PacksAll, columns_of};
@@ -14,6 +14,7 @@ ghost use Rattle.pickle_meaning.specs.Values.{outer_of};
 ghost use Rattle.pickle_types.specs.Table.{IsTable, type_of, open_fields};
 ghost use Rattle.value_store.specs.Moves.{IsWithin, state_of};
 ghost use Rattle.value_store.specs.PackedStructs.{struct_bits, struct_bytes};
+ghost use Rattle.value_store.specs.Weights.{IsLight};
 ghost use Rattle.value_store.specs.Slots.{levels, level_count, packs, IsNumber, HoldsInRoom, KeepsRoom};
 
 use crate::mapper::number::width_at;
@@ -282,6 +283,7 @@ impl<W: Watch> Mapper<'_, W> {
         ensures frame { StoreFrame self.old self.new }
         ensures adds { OnOk result (AddsRow self.old self.new at fields.now start row.now) }
         ensures state { PacksTo self.old.store.now self.new.store.now (length fields.now) (length row.now) result }
+        ensures light { OnOk result (IsLight self.new.store.now) }
     {
         self.begin_array(at, fields, start, end, row.len())?;
         self.store.pack_record(row)

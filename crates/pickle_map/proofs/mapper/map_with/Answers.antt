@@ -11,7 +11,7 @@ use Rattle.pickle_meaning.specs.Values.{no_values}
 use Rattle.pickle_map.proofs.Followed.{walk_rises, followed_steps, followed_made, followed_fits, followed_size, followed_result}
 use Rattle.pickle_map.proofs.Keeping.{kept_within}
 use Rattle.pickle_map.proofs.Lent.{given_back}
-use Rattle.pickle_map.proofs.Stopped.{fault_of_there, fault_of_limit, fault_of_memory, fault_of_device, fault_of_counts, fault_of_means, done_kept, fault_of_kept, fault_of_wanted, none_kept, none_stored, from_none}
+use Rattle.pickle_map.proofs.Stopped.{fault_of_there, fault_of_limit, fault_of_memory, fault_of_device, fault_of_counts, fault_of_means, done_kept, done_light, fault_of_kept, fault_of_light, fault_of_wanted, none_kept, none_stored, from_none}
 use Rattle.pickle_map.proofs.mapper.map_with.Goals as goal
 
 pub returns-in-Ok-clause-is : goal.returns-in-Ok-clause-is
@@ -65,6 +65,8 @@ returns-in-Ok-clause-is g c =
       counts = record { value = m.value; keeps = keeps; holds = h };
       kept =
           λ bytes known. done_kept (bits_of bytes) bits ty c.args.order c.args.start (ap (option_map bits_of) known) h;
+      weighed =
+          λ bytes known. done_light (bits_of bytes) bits ty c.args.order c.args.start (ap (option_map bits_of) known) h;
       asked = λ bytes known. tt;
       place = tt;
       emptied = tt;
@@ -117,7 +119,7 @@ returns-in-Err-clause-is g c =
       made = ((walk_rises h.walk).1, followed_made bits ty order no_values start h);
       limit = rw c.fault_of.ensures (fault_of_limit bits ty order start c.in-Err.stop h);
       memory = rw c.fault_of.ensures
-          (λ e. lacks_capacity (room ty bits) store (fault_of_memory bits ty order start c.in-Err.stop h e));
+          (λ e free. lacks_capacity (room ty bits) store (fault_of_memory bits ty order start c.in-Err.stop h e free));
       device = rw c.fault_of.ensures
           (λ e. left.device (fault_of_device bits ty order start c.in-Err.stop h e));
       counts = rw (c.fault_of.ensures, c.clear.ensures.empty) (fault_of_counts bits ty order start
@@ -125,6 +127,8 @@ returns-in-Err-clause-is g c =
           (promising more store) (promising before (emptied last)) c.in-Err.stop (record { last = _; follows = h }));
       kept = λ bytes known. rw (c.fault_of.ensures, c.clear.ensures.empty)
           (fault_of_kept (bits_of bytes) bits ty order start (ap (option_map bits_of) known) c.in-Err.stop h);
+      weighed = λ bytes known. rw c.fault_of.ensures
+          (fault_of_light (bits_of bytes) bits ty order start (ap (option_map bits_of) known) c.in-Err.stop h);
       asked = λ bytes known. rw c.fault_of.ensures (fault_of_wanted (bits_of bytes) bits ty order start
           (ap (option_map bits_of) known) (omega (arith, within, limit)) c.in-Err.stop h);
       place = rw c.fault_of.ensures (fault_of_there bits ty order start c.in-Err.stop h);

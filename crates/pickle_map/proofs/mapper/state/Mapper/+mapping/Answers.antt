@@ -34,7 +34,7 @@ use Rattle.value_store.specs.Exceeding.{Exceeds}
 use Rattle.pickle_map.proofs.Left.{left_open, left_keeps, left_adds}
 use Rattle.mapping_plans.specs.Rows.{row_of}
 use Rattle.pickle_map.proofs.Elements.{element_done, element_stopped, array_moves, array_lacks}
-use Rattle.pickle_map.proofs.Worlds.{has_room, same_room, room_then, in_world, in_later, moves_to, lacks_these}
+use Rattle.pickle_map.proofs.Worlds.{has_room, same_room, room_then, in_world, in_later, moves_by, moves_to, lacks_these}
 use Rattle.pickle_map.proofs.Mapping.{few_enough, inside_no_tick, inside_ticks, plan_past, number_is, text_is, struct_is, array_is, union_is, struct_no_room, struct_made, array_no_room, array_made, union_no_room, union_made, fields_end, fields_no_tick, condition_stops, absent_no_room, absent_goes, start_stops, field_stops, field_goes, elements_end, elements_beyond, elements_no_tick, elements_no_bits, elements_goes, elements_over, elements_stop, alternatives_end, alternatives_no_tick, alternatives_fit, alternatives_miss, alternatives_stop}
 use Rattle.value_store.proofs.PackedRows.{row-opened}
 use Rattle.pickle_map.proofs.Shapes.{opened_as, below_as, sound_as, names_as, fields_within, parts_within, fields_bounded, parts_bounded, field_bounded, part_bounded, of_one, name_of_one, struct_opened, union_opened, fields_named}
@@ -390,8 +390,9 @@ struct_body-returns-clause-is g t c =
     let closed = rw named at (c.in_ok-close_struct.ensures.ok c.args.self.now.nodes.now) in
     let h = rw c.in_ok-end.ensures.level.outer at closed in
     let room = c.in_ok-close_struct.ensures.room in
-    let moves = moves_to c.in_ok-end.ensures.frame.left.room (same_room c.close_struct.new.self)
-    c.in_ok-close_struct.ensures.within c.in_ok-close_struct.ensures.moves tt in
+    let moves =
+    moves_to c.in_ok-end.ensures.frame.left.room c.close_struct.ensures.room (same_room c.close_struct.new.self)
+    c.in_ok-close_struct.ensures.within c.in_ok-close_struct.ensures.light c.in_ok-close_struct.ensures.moves tt in
     record {
       value = _;
       kept = h;
@@ -454,8 +455,9 @@ elements_body-returns-clause-is g t c =
     let closed = c.in_ok-close_array.ensures.ok c.args.self.now.nodes.now in
     let h = rw c.in_ok-end.ensures.level.outer at closed in
     let room = c.in_ok-close_array.ensures.room in
-    let moves = moves_to c.in_ok-end.ensures.frame.left.room (same_room c.close_array.new.self)
-    c.in_ok-close_array.ensures.within c.in_ok-close_array.ensures.moves tt in
+    let moves =
+    moves_to c.in_ok-end.ensures.frame.left.room c.close_array.ensures.room (same_room c.close_array.new.self)
+    c.in_ok-close_array.ensures.within c.in_ok-close_array.ensures.light c.in_ok-close_array.ensures.moves tt in
     let apart = c.requires.apart in
     record {
       value = _;
@@ -505,8 +507,9 @@ union_body-returns-clause-is g t c =
     let closed =
     rw (inside, c.requires.names, ← h.ends) at (c.in_ok-close_union.ensures.ok c.args.self.now.nodes.now) in
     let room = c.in_ok-close_union.ensures.room in
-    let moves = moves_to c.in_ok-index.ensures.frame.left.room (same_room c.close_union.new.self)
-    c.in_ok-close_union.ensures.within c.in_ok-close_union.ensures.moves tt in
+    let moves =
+    moves_to c.in_ok-index.ensures.frame.left.room c.close_union.ensures.room (same_room c.close_union.new.self)
+    c.in_ok-close_union.ensures.within c.in_ok-close_union.ensures.light c.in_ok-close_union.ensures.moves tt in
     record {
       value = _;
       kept = closed;
@@ -648,8 +651,8 @@ map_fields-loop-field-preserved g t c =
           let there_is = rw (w.if-branch.false, c.from-origin.ensures) at there.is in
           let keeps = (w.in_ok-push_absent.ensures.ok c.args.self.now.nodes.now) in
           let room = w.in_ok-push_absent.ensures.room in
-          let moves = moves_to i.frame.room (same_room w.push_absent.new.self) w.in_ok-push_absent.ensures.within
-          w.in_ok-push_absent.ensures.moves tt in
+          let moves = moves_to i.frame.room w.push_absent.ensures.room (same_room w.push_absent.new.self)
+          w.in_ok-push_absent.ensures.within w.in_ok-push_absent.ensures.light w.in_ok-push_absent.ensures.moves tt in
           rw (w.space-is, w.self-is, w.last_end-is, w.top-is) (record {
             lent = search rules;
             frame = search rules;
@@ -905,8 +908,8 @@ map_alternatives-loop-index-preserved g t c =
     let h = in_world (g.S.Space.view c.args.space.now) (g.S.Space.view c.loop-index.space) i.frame.bytes i.frame.room
     c.in-Err.ensures.frame.left.room h in
     let h = in_later (room_then i.frame.room c.in-Err.ensures.frame.left.room) c.clear_level.ensures.room h in
-    let clears = moves_to (room_then i.frame.room c.in-Err.ensures.frame.left.room) (same_room c.clear_level.new.self)
-    c.clear_level.ensures.within c.clear_level.ensures.moves tt in
+    let clears = moves_by (room_then i.frame.room c.in-Err.ensures.frame.left.room) (same_room c.clear_level.new.self)
+    c.clear_level.ensures.within c.clear_level.ensures.moves tt (λ adds. absurd adds.0) in
     let cleared = c.clear_level.ensures.levels c.args.self.now.nodes.now in
     let stays = rw i.lent.nodes at c.in-Err.ensures.level in
     record {
@@ -1057,7 +1060,7 @@ map_value-returns-in_ok-pack_first-clause-is g t c =
           m.is.value fits m.is.kept among.2 e.ok;
       ends = m.is.ends;
       runs = value_packed m.frame.left.room e.room _ (levels nodes before) m.is.follows
-          (first_moves m.frame.left.room e.room m.is.value makes holds);
+          (first_moves m.frame.left.room e.room m.is.value makes holds e.light);
     }
 
 pub map_value-returns-in_ok-pack_first-clause-level : goal.map_value-returns-in_ok-pack_first-clause-level
@@ -1115,7 +1118,8 @@ map_value-returns-in_ok-pack_next-clause-is g t c =
           among.array) m.level.frames m.frame.left.room.room m.level.extends small e.ok;
       ends = m.is.ends;
       runs = value_packed m.frame.left.room e.room _ (levels nodes before) m.is.follows
-          (next_moves m.frame.left.room e.room k.packs m.is.value more makes m.level.within e.within);
+          (next_moves m.frame.left.room e.room k.packs m.is.value more makes m.level.within e.within
+          e.light);
     }
 
 pub map_value-returns-in_ok-pack_next-clause-level : goal.map_value-returns-in_ok-pack_next-clause-level
@@ -1383,7 +1387,7 @@ values_body-returns-clause-is g t c =
           let e = w.in_ok-close_array.ensures in
           let none = none_there nodes h ty r.stride r.row widths c.args.start.bit outer c.in_ok-end.end m.is.values
           m.is.has w.if-end-start.true in
-          let moves = none_moves m.frame.left.room r.packs none.opened e.within e.moves in
+          let moves = none_moves m.frame.left.room r.packs e.room none.opened e.within e.light e.moves in
           rw w.self-is (record {
             value = array_value c.args.start.bit c.in_ok-end.end (m.is.values ∷ outer);
             kept = none_closed nodes h c.args.start.bit outer c.in_ok-end.end m.is.values w.close_array.new.self

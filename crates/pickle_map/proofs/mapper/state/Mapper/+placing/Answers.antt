@@ -53,8 +53,10 @@ integral_body-returns-clause-is g t c =
       ends = refl;
       follows = closes_made _ _ _
           (in_later c.in_ok-place_fields.ensures.frame.left.room room (c.in_ok-place_fields.ensures.is known))
-          (moves_to c.in_ok-place_fields.ensures.frame.left.room (same_room c.close_struct.new.self)
-          c.in_ok-close_struct.ensures.within c.in_ok-close_struct.ensures.moves tt) n.steps n.made;
+          (moves_to c.in_ok-place_fields.ensures.frame.left.room c.close_struct.ensures.room
+          (same_room c.close_struct.new.self)
+          c.in_ok-close_struct.ensures.within c.in_ok-close_struct.ensures.light c.in_ok-close_struct.ensures.moves tt)
+          n.steps n.made;
     }
 
 pub integral_body-returns-clause-level : goal.integral_body-returns-clause-level

@@ -1,5 +1,6 @@
-use Rattle.std.proofs.Common.{rules, ◌-◌, ◌≤◌, sym, ap, ◌∙◌, arith}
+use Rattle.std.proofs.Common.{rules, ◌-◌, ◌≤◌, length, sym, ap, ◌∙◌, arith}
 use Rattle.std.proofs.lemmas.Bool.{false≢true}
+use Rattle.std.proofs.lemmas.Result.{err_from_is_err_and}
 use Rattle.pickle_types.specs.Table.{type_of}
 use Rattle.pickle_meaning.specs.Values.{outer_of}
 use Rattle.value_store.specs.PackedStructs.{struct_bits}
@@ -9,7 +10,7 @@ use Rattle.pickle_map.proofs.Keeping.{below_keeps, keeps_then, regrown_keeps}
 use Rattle.value_store.proofs.Held.{regrown-levels}
 use Rattle.pickle_map.specs.Columns.{shapes_of}
 use Rattle.pickle_map.specs.Framed.{LevelStays}
-use Rattle.pickle_map.proofs.RecordRows.{ok_maps, err_maps, either_way, bits_few, has_none, has_some, draft_opened, array_opens, opened_stays, opened_state, open_passes, comes_to}
+use Rattle.pickle_map.proofs.RecordRows.{ok_maps, err_maps, either_way, bits_few, has_none, has_some, draft_opened, array_opens, opened_stays, opened_state, draft_passes, open_passes, comes_to}
 use Rattle.pickle_map.proofs.Worlds.{room_then}
 use Rattle.pickle_map.proofs.mapper.state.Mapper.begin_array.Goals as goal
 
@@ -76,3 +77,13 @@ returns-clause-state g c =
     c.open_records.ensures.moves) c.open_records.ensures.within
     (err_maps c.open_records.result (open_passes c.args.self.now.store.now c.draft_columns.new.store _ f.opened
     c.in_ok-draft_columns.ensures.room c.in_ok-draft_columns.ensures.state.0) c.open_records.ensures.lacks)
+
+pub returns-in_err-draft_columns-clause-state : goal.returns-in_err-draft_columns-clause-state
+returns-in_err-draft_columns-clause-state g c =
+    let a = c.requires.among in
+    let none : HasNoNode c.args.self.now.store.now = c.has_no_node.ensures.0 c.if-not-has_no_node.false in
+    let f = has_none c.args.self.now.nodes.now c.args.self.now.store.now c.args.at _ c.args.start a.first a.outer a.rows
+    a.has a.begins none in
+    let p = err_from_is_err_and c.from_residual.result c.from_residual.ensures.1 in
+    rw p.1 (draft_passes c.args.self.now.store.now (length c.args.fields.now) f.opened c.requires.within
+    c.in_err-draft_columns.ensures.state)

@@ -113,7 +113,8 @@ loop-meter-preserved g c =
     omega (arith, i.so_far.3) in
     let levels = row_more c.args.shape i.so_far.0 c.in-Ok.digits c.args.start.bit c.loop-meter.place outer i.so_far.3 in
     let moves = rw width at k.moves in
-    let moves = moves_to (same_room c.loop-meter.store) (same_room c.push_packed.new.self) k.within moves tt in
+    let moves = moves_to (same_room c.loop-meter.store) c.push_packed.ensures.room
+    (same_room c.push_packed.new.self) k.within k.light moves tt in
     let h =
     element_goes {world = world_of (g.S.Space.view c.loop-meter.space) c.loop-meter.store c.push_packed.new.self}
     c.args.shape (8 * (g.S.Space.view c.args.space.now).len) (type_of c.args.self.now.nodes.now c.args.element)

@@ -41,6 +41,8 @@ returns-clause-is g c =
       value = integer_value c.args.number c.args.digits c.args.start;
       kept = c.in_ok-push_integer.ensures.ok c.args.self.now.nodes.now;
       ends = refl;
-      follows = follow_made (moves_to (same_room c.args.self.now.store.now) (same_room c.push_integer.new.self)
-          c.in_ok-push_integer.ensures.within c.in_ok-push_integer.ensures.moves tt) n.limit n.steps n.made follow_done;
+      follows = follow_made (moves_to (same_room c.args.self.now.store.now) c.push_integer.ensures.room
+          (same_room c.push_integer.new.self)
+          c.in_ok-push_integer.ensures.within c.in_ok-push_integer.ensures.light c.in_ok-push_integer.ensures.moves tt)
+          n.limit n.steps n.made follow_done;
     }

@@ -41,6 +41,8 @@ returns-clause-is g c =
       value = offset_value c.args.number c.args.unit c.args.digits c.args.start;
       kept = c.in_ok-push_offset.ensures.ok c.args.self.now.nodes.now;
       ends = refl;
-      follows = follow_made (moves_to (same_room c.args.self.now.store.now) (same_room c.push_offset.new.self)
-          c.in_ok-push_offset.ensures.within c.in_ok-push_offset.ensures.moves tt) n.limit n.steps n.made follow_done;
+      follows = follow_made
+          (moves_to (same_room c.args.self.now.store.now) c.push_offset.ensures.room (same_room c.push_offset.new.self)
+          c.in_ok-push_offset.ensures.within c.in_ok-push_offset.ensures.light c.in_ok-push_offset.ensures.moves tt)
+          n.limit n.steps n.made follow_done;
     }

@@ -97,7 +97,7 @@ returns-clause-is g c =
     let value = struct_is nodes c.args.at c.args.fields.now c.args.start.bit c.in_ok-end.end m.adds.digits _ _ named
     (m.adds.more nodes [] _ (o.levels nodes)) m.adds.ends in
     let runs = frame_packs nodes o.room m.frame.left.room d.room o.moves o.within c.requires.record.packs k.frame.room
-    (length c.args.fields.now) (struct_bytes cs) filled _ _ _ c.args.start.bit c.in_ok-end.end _ h k.state.1 is
+    (length c.args.fields.now) (struct_bytes cs) filled _ _ _ c.args.start.bit c.in_ok-end.end _ h k.state.1 k.light is
     (n.steps ∙ ap (λ (x : Meter). x.steps) k.frame.meter) (n.made ∙ ap (λ (x : Meter). x.made + 1) k.frame.meter) in
     record {
       digits = m.adds.digits;

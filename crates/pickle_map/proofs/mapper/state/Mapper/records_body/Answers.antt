@@ -67,7 +67,8 @@ returns-clause-is g c =
           (record_some nodes c.args.element c.args.fields.now r) m.is.ends w.if-end-start.true in
           let fresh = has_none nodes c.map_records.new.self.store.now c.args.element cs c.args.start.bit outer
           m.is.rows m.is.has none in
-          let moves = none_moves m.frame.left.room c.requires.record.packs fresh.opened e.within e.moves in
+          let moves = none_moves m.frame.left.room c.requires.record.packs e.room fresh.opened e.within e.light
+          e.moves in
           rw w.self-is (record {
             value = array_value c.args.start.bit c.in_ok-end.end
                 (structs_of nodes c.args.element cs c.args.start.bit m.is.rows ∷ outer);

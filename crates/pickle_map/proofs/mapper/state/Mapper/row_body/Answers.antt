@@ -50,8 +50,8 @@ returns-clause-is g c =
     ∙ ap (λ v. pushed outer (Some v))
     (row_closed c.args.shape m.numbers c.args.start.bit c.in_ok-end.end outer m.ends) in
     let room = c.in_ok-close_row.ensures.room in
-    let moves = moves_to c.in_ok-end.ensures.frame.left.room (same_room c.close_row.new.self)
-    c.in_ok-close_row.ensures.within c.in_ok-close_row.ensures.moves tt in
+    let moves = moves_to c.in_ok-end.ensures.frame.left.room c.close_row.ensures.room (same_room c.close_row.new.self)
+    c.in_ok-close_row.ensures.within c.in_ok-close_row.ensures.light c.in_ok-close_row.ensures.moves tt in
     let move = row_move c.args.shape (type_of c.args.self.now.nodes.now c.args.element) c.requires.shape.is in
     record {
       value = _;

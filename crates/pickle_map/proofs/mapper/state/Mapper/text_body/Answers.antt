@@ -65,7 +65,8 @@ returns-then-byte-eq0-clause-is g c =
     let end : c.args.start + 8 * (length i.so_far.0 + 1) ≡ c.loop-byte.place + 8 = omega (arith, i.so_far.3) in
     let keeps = rw end at keeps in
     let room = c.in_ok-close_text-in-Ok.ensures.room in
-    let moves = moves_to i.frame.room (same_room c.close_text.new.self) c.in_ok-close_text-in-Ok.ensures.within
+    let moves = moves_to i.frame.room c.close_text.ensures.room (same_room c.close_text.new.self)
+    c.in_ok-close_text-in-Ok.ensures.within c.in_ok-close_text-in-Ok.ensures.light
     c.in_ok-close_text-in-Ok.ensures.moves tt in
     record {
       value = text_value i.so_far.0 c.args.start (c.loop-byte.place + 8);
@@ -117,7 +118,8 @@ loop-byte-preserved g c =
     (omega (arith, i.so_far.3, fits, short)) in
     let shows = c.in_ok-push_byte-in-Ok.ensures.levels c.args.self.now.nodes.now i.so_far.0 outer i.so_far.4
     (omega (arith, i.so_far.3, fits, short)) in
-    let moves = moves_to i.frame.room (same_room c.push_byte.new.self) c.in_ok-push_byte-in-Ok.ensures.within
+    let moves = moves_to i.frame.room c.push_byte.ensures.room (same_room c.push_byte.new.self)
+    c.in_ok-push_byte-in-Ok.ensures.within c.in_ok-push_byte-in-Ok.ensures.light
     c.in_ok-push_byte-in-Ok.ensures.moves tt in
     let next = text_goes _ _ _ _ _ _ i.so_far.2 i.inside _ (r.limit ∙ i.frame.limit) r.steps r.made fits may
     c.if-byte-eq0.false moves n.steps n.made in
