@@ -133,6 +133,7 @@ mapping_options =
     ∷ option (only (codes "records")) (codes "limit") (codes "N")
     ∷ flag mapping (codes "whole")
     ∷ number mapping (codes "max-output") (codes "N")
+    ∷ number mapping (codes "memory") (codes "BYTES")
     ∷ number trying (codes "slots") (codes "N")
     ∷ repeated (option (codes "map" ∷ codes "show" ∷ []) (codes "get") (codes "PATH"))
     ∷ repeated (option (codes "each" ∷ codes "records" ∷ []) (codes "get") (codes "PATH"))

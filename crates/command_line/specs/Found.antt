@@ -100,6 +100,7 @@ pub record HasTerms (found : Found) (choice : Choice) (default : Style) (terms :
   pub most_output : NumberIfAny (first_value found (codes "max-output")) terms.most_output
   pub part : PartBeside (first_value found (codes "get")) terms.selection terms.part
   pub most_slots : NumberIfAny (first_value found (codes "slots")) terms.most_slots
+  pub most_bytes : NumberIfAny (first_value found (codes "memory")) terms.most_bytes
   pub style : NamesStyle found default terms.style
   pub look : terms.look ≡ None
   pub selection : Selects found choice terms.selection
@@ -110,6 +111,7 @@ no_terms = record {
   most_output = None;
   part = None;
   most_slots = None;
+  most_bytes = None;
   style = plain;
   look = None;
   selection = None;

@@ -69,6 +69,7 @@ pub data MisreadRequest (found : Found) (offered : Choice) : Type 0 where
   selection_wrong : MisreadSelection found offered → MisreadRequest found offered
   most_output_wrong : IsNoNumberIfAny (first_value found (codes "max-output")) → MisreadRequest found offered
   most_slots_wrong : IsNoNumberIfAny (first_value found (codes "slots")) → MisreadRequest found offered
+  most_bytes_wrong : IsNoNumberIfAny (first_value found (codes "memory")) → MisreadRequest found offered
   spool_wrong : IsNoNumberIfAny (first_value found (codes "spool")) → MisreadRequest found offered
   limit_wrong : IsNoLimitIfAny (first_value found (codes "limit")) → MisreadRequest found offered
   elements_wrong : IsNoElementsIfAny (first_value found (codes "elements")) → MisreadRequest found offered

@@ -41,14 +41,19 @@ has_words found after = is_some (after_type_in found after) && is_typed found (t
 abbrev pub keeps_inside : Found → (type : Option (List ℕ)) → Bool
 keeps_inside found type = not (is_given found (codes "inside")) || is_by_head (word_in found (codes "PICKLE")) type
 
+-- the ties of the place and the store of a mapping
+abbrev pub keeps_mapping_ties : Found → Bool
+keeps_mapping_ties found =
+    are_apart found (codes "byte") (codes "at") && are_apart found (codes "memory") (codes "slots")
+
 -- the ties of a mapping over one file
 abbrev pub keeps_file_ties : Found → Bool
-keeps_file_ties found = are_apart found (codes "byte") (codes "at") && (has_words found (codes "FILE")
+keeps_file_ties found = keeps_mapping_ties found && (has_words found (codes "FILE")
     && keeps_inside found (type_in found (codes "FILE")))
 
 -- the same where a file alone is enough
 abbrev pub keeps_show_ties : Found → Bool
-keeps_show_ties found = are_apart found (codes "byte") (codes "at")
+keeps_show_ties found = keeps_mapping_ties found
     && ((shows_file_alone found || has_words found (codes "FILE"))
     && keeps_inside found (type_in found (codes "FILE")))
 
@@ -58,7 +63,7 @@ keeps_map_ties found = keeps_file_ties found
 
 abbrev pub keeps_each_ties : Found → Bool
 keeps_each_ties found =
-    are_apart found (codes "byte") (codes "at") && (is_either_given found (codes "FILE") (codes "files0-from")
+    keeps_mapping_ties found && (is_either_given found (codes "FILE") (codes "files0-from")
     && (is_typed found (first_value found (codes "TYPE")) && keeps_inside found (first_value found (codes "TYPE"))))
 
 -- a list that goes on is inside a value, at a path that is given or that the head says

@@ -18,6 +18,8 @@ pub struct Terms {
     pub part: Option<Path>,
     /// The most slots of each kind that the mapping may fill. They are reserved before it starts. `None` is no limit.
     pub most_slots: Option<u64>,
+    /// The most bytes that the stored values may take, as docs/OPERATORS.md counts them. `None` is no limit.
+    pub most_bytes: Option<u64>,
     /// How the printed value looks.
     pub style: Style,
     /// If it is given, the value is shown to the eye, and has no mode and no style.
@@ -34,6 +36,7 @@ impl Terms {
           most_output = None;
           part = None;
           most_slots = None;
+          most_bytes = None;
           style = plain;
           look = None;
           selection = None;
@@ -44,6 +47,7 @@ impl Terms {
             most_output: None,
             part: None,
             most_slots: None,
+            most_bytes: None,
             style: Style::plain(),
             look: None,
             selection: None,

@@ -821,6 +821,7 @@ fn terms_of(
         most_output: number_if_any(alloc, found, "max-output", "--max-output <N>")?,
         part: part_beside(alloc, found, &selection)?,
         most_slots: number_if_any(alloc, found, "slots", "--slots <N>")?,
+        most_bytes: number_if_any(alloc, found, "memory", "--memory <BYTES>")?,
         style: style_of(alloc, found, style)?,
         look: None,
         selection,
@@ -850,6 +851,7 @@ fn has_no_terms(terms: &Terms) -> bool
             most_output: None,
             part: None,
             most_slots: None,
+            most_bytes: None,
             style: Style {
                 numbers: Numbers::Decimal,
                 chars: Chars::Numbers,

@@ -17,9 +17,9 @@ use Rattle.run_parts.specs.declared.accept.Refusal.TheVariants.{Memory}
 use Rattle.run_parts.specs.declared.status.Status.TheVariants.{Fault as Faulty}
 use Rattle.run_parts.specs.Outcomes.{fault_status, outcome_saying, outcome_status}
 use Rattle.run_parts.specs.declared.outcome.Outcome.{Outcome}
-use Rattle.run_parts.specs.declared.outcome.Outcome.TheVariants.{Done, Fault, Slots, Left, NoSuchPart, Output}
+use Rattle.run_parts.specs.declared.outcome.Outcome.TheVariants.{Done, Fault, Slots, Storage, Left, NoSuchPart, Output}
 use Rattle.poke_batch.specs.Runs.{IsAsked}
-use Rattle.poke_batch.specs.RunsUnder.{end_saying}
+use Rattle.poke_batch.specs.RunsUnder.{end_under_saying}
 use Rattle.pickle_source.specs.declared.text.Text.{Text}
 use Rattle.fault_report.specs.declared.cause.Fault.{Fault as Part}
 use Rattle.fault_report.specs.declared.scene.Scene.{Scene}
@@ -121,12 +121,14 @@ pub data TellsFault (run : Run) (type : PokeType) (fault : MapFault) : List ℕ 
 abbrev pub FailsRead : Run → MapFault → Type 0
 FailsRead run fault = fault.kind ≡ faults.Device → HasRisen run.space.failures run.after.failures
 
--- an outcome is the one of a fault, with exit status 1: the fault itself or, in a store of the most slots, that they
--- don't suffice
-pub data IsOutcomeOf (start : ℕ) (most : Option ℕ) (fault : MapFault) : Outcome → Type 0 where
-  itself : fault_status fault.kind ≡ Faulty → IsOutcomeOf start most fault (Fault fault)
-  too_few_slots : {slots : ℕ} → most ≡ Some slots → fault.kind ≡ faults.Memory →
-      IsOutcomeOf start most fault (Slots start)
+-- an outcome is the one of a fault, with exit status 1: the fault itself or, in a store of the most slots or for so
+-- many bytes, that these don't suffice
+pub data IsOutcomeOf (start : ℕ) (slots bytes : Option ℕ) (fault : MapFault) : Outcome → Type 0 where
+  itself : fault_status fault.kind ≡ Faulty → IsOutcomeOf start slots bytes fault (Fault fault)
+  too_few_slots : {most : ℕ} → bytes ≡ None → slots ≡ Some most → fault.kind ≡ faults.Memory →
+      IsOutcomeOf start slots bytes fault (Slots start)
+  too_many_bytes : {most : ℕ} → bytes ≡ Some most → fault.kind ≡ faults.Memory →
+      IsOutcomeOf start slots bytes fault (Storage start)
 
 -- What is printed about a finished run: for a fault the part and the arrays, for a value the term that it fails to
 -- meet, if any, and the arrays. The outcome is that of the fault which the type has on the file's bits.
@@ -135,13 +137,15 @@ pub data IsOutcomeOf (start : ℕ) (most : Option ℕ) (fault : MapFault) : Outc
 -- which the outcome isn't, or by a read that failed.
 pub data TellsWhy (run : Run) (type : PokeType) : List ℕ → Type 0 where
   of_fault : {fault : MapFault} {part arrays : List ℕ} → HasFault run.space type run.ask fault
-      → end_saying run.terms.most_slots run.ask.start fault.kind fault.at ≡ outcome_saying run.outcome
+      → end_under_saying run.terms.most_slots run.terms.most_bytes run.ask.start fault.kind fault.at
+      ≡ outcome_saying run.outcome
       → outcome_status run.outcome ≡ Faulty
       → TellsFault run type fault part → TellsArrays type arrays → TellsWhy run type (part ++ arrays)
   of_value : {term : Text} {arrays : List ℕ} → HasValue run.space type run.ask
       → TellsTerm run.terms run.outcome term → TellsArrays type arrays → TellsWhy run type (term.bytes.items ++ arrays)
   another_fault : {fault : MapFault} → HasFault run.space type run.ask fault → fault_status fault.kind ≡ Faulty
-      → (IsOutcomeOf run.ask.start run.terms.most_slots fault run.outcome → ⊥) → TellsWhy run type []
+      → (IsOutcomeOf run.ask.start run.terms.most_slots run.terms.most_bytes fault run.outcome → ⊥)
+      → TellsWhy run type []
   another_value : HasValue run.space type run.ask → is_of_value run.outcome ≡ false → TellsWhy run type []
   failed_read : HasRisen run.space.failures run.after.failures → TellsWhy run type []
 

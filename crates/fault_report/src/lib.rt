@@ -6,7 +6,7 @@ ghost use Rattle.pickle_types.specs.Table.{IsTable};
 ghost use Rattle.pickle_types.specs.TypeTable.{nodes_of};
 ghost use Rattle.bit_space.specs.SpaceView.{Keeps, SpaceView};
 ghost use Rattle.command_line.specs.declared.ask.Ask.{Ask};
-ghost use Rattle.poke_batch.specs.RunsUnder.{end_saying};
+ghost use Rattle.poke_batch.specs.RunsUnder.{end_under_saying};
 ghost use Rattle.poke_batch.specs.TypeRuns.{run_type};
 ghost use Rattle.run_parts.specs.Outcomes.{outcome_saying, outcome_status};
 ghost use Rattle.run_parts.specs.declared.status.Status.TheVariants.{Fault as Faulty};
@@ -61,7 +61,7 @@ use pickle_source::text::Text;
 use pickle_types::table::{Table, TypeId};
 use poke_batch::ask::Ask;
 use poke_batch::outcome::Outcome;
-use poke_batch::run::store_of;
+use poke_batch::run::store_under;
 use poke_batch::terms::Terms;
 use poke_batch::type_run::TypeRun;
 use run_parts::status::Status;
@@ -100,7 +100,7 @@ pub fn reasons<S: Space>(
         ask,
         terms,
     } = *run;
-    let Ok(mut store) = store_of(alloc, terms.most_slots) else {
+    let Ok(mut store) = store_under(alloc, terms) else {
         return Err(AllocError);
     };
     let Again { end, kept } = map_again(run, space, &mut store)?;
@@ -164,6 +164,7 @@ fn scene_of<'p, 't>(
         bits,
         most_steps: run.ask.limit,
         most_slots: run.terms.most_slots,
+        most_bytes: run.terms.most_bytes,
     })
 }
 
@@ -230,7 +231,7 @@ fn fault_reasons(
     ensures why { (space after : SpaceView) →
         TellsOfFault (run_of space after ask.now terms.now outcome) scene.now fault kept.now.fault result }
 {
-    if !is_outcome_of(outcome, ask.start, terms.most_slots, fault) {
+    if !is_outcome_of(outcome, ask.start, terms, fault) {
         return none_stopped(scene.alloc, fault.kind);
     }
     let part = part_text(scene, &kept.fault)?;
@@ -263,17 +264,21 @@ fn part_text(scene: &Scene<'_, '_>, part: &Option<Fault>) -> Result<Text, AllocE
     Ok(text)
 }
 
-/// Whether an outcome is the one of a fault, with exit status 1.
-fn is_outcome_of(outcome: Outcome, start: u64, most: Option<u64>, fault: MapFault) -> bool
-    ensures saying { IsTrue result → end_saying most start fault.kind fault.at ≡ outcome_saying outcome }
+/// Whether an outcome is the one of a fault under terms, with exit status 1.
+fn is_outcome_of(outcome: Outcome, start: u64, terms: &Terms, fault: MapFault) -> bool
+    ensures saying { IsTrue result →
+        end_under_saying terms.now.most_slots terms.now.most_bytes start fault.kind fault.at
+        ≡ outcome_saying outcome }
     ensures faulty { IsTrue result → outcome_status outcome ≡ Faulty }
-    ensures other { IsFalse result → IsOutcomeOf start most fault outcome → ⊥ }
+    ensures other { IsFalse result → IsOutcomeOf start terms.now.most_slots terms.now.most_bytes fault outcome → ⊥ }
 {
+    let lacks = fault.kind == MapFaultKind::Memory;
     match outcome {
         Outcome::Fault(told) => outcome.status() == Status::Fault && told == fault,
         Outcome::Slots(at) => {
-            most.is_some() && fault.kind == MapFaultKind::Memory && at == start
+            lacks && at == start && terms.most_bytes.is_none() && terms.most_slots.is_some()
         }
+        Outcome::Storage(at) => lacks && at == start && terms.most_bytes.is_some(),
         _ => false,
     }
 }

@@ -117,12 +117,18 @@ fn say_untried(scene: &Scene<'_, '_>, text: Text, fault: &Fault) -> Result<Text,
 
 /// Adds a line on the limit that the mapping exceeds to the text, with the option that sets it.
 fn say_limit(scene: &Scene<'_, '_>, text: Text, stop: Stop) -> Result<Text, AllocError> {
-    match (stop, scene.most_slots) {
-        (Stop::Limit, _) => {
+    match (stop, scene.most_slots, scene.most_bytes) {
+        (Stop::Limit, _, _) => {
             let text = text.say(b"  the steps are used up: --limit ")?;
             say_option(text, scene.most_steps)
         }
-        (Stop::Memory, Some(slots)) => {
+        (Stop::Memory, _, Some(bytes)) => {
+            say_option(
+                text.say(b"  the values would take more than --memory ")?,
+                bytes,
+            )
+        }
+        (Stop::Memory, Some(slots), None) => {
             say_option(text.say(b"  the slots are used up: --slots ")?, slots)
         }
         _ => Ok(text),

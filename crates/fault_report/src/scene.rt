@@ -37,6 +37,8 @@ pub struct Scene<'p, 't> {
     pub most_steps: u64,
     /// The most slots of each kind that the mapping may fill. `None` is no limit.
     pub most_slots: Option<u64>,
+    /// The most bytes that the stored values may take. `None` is no limit.
+    pub most_bytes: Option<u64>,
 }
 
 impl<'p, 't> Scene<'p, 't> {

@@ -61,6 +61,7 @@ pub fn term_text(
         | Outcome::Offset
         | Outcome::Fault(_)
         | Outcome::Slots(_)
+        | Outcome::Storage(_)
         | Outcome::Unidentified
         | Outcome::NotFound
         | Outcome::Attempts { .. }

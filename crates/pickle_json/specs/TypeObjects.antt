@@ -83,6 +83,7 @@ IsRefusedFor pickle outcome.ImpossiblePart = Unit {0}
 IsRefusedFor pickle outcome.Offset = Unit {0}
 IsRefusedFor pickle (outcome.Fault why) = Unit {0}
 IsRefusedFor pickle (outcome.Slots at) = Unit {0}
+IsRefusedFor pickle (outcome.Storage at) = Unit {0}
 IsRefusedFor pickle (outcome.Left at) = Unit {0}
 IsRefusedFor pickle outcome.NoSuchPart = Unit {0}
 IsRefusedFor pickle (outcome.Output at) = Unit {0}

@@ -12,6 +12,7 @@ pub mod RunLaws
 pub mod ObjectLaws
 pub mod Counted
 pub mod Mappings
+pub mod Weighing
 pub mod UnderTerms
 pub mod Unresolved
 pub mod PartsFound

@@ -207,6 +207,7 @@ done_before outcome.ImpossiblePart e = cc
 done_before outcome.Offset e = cc
 done_before (outcome.Fault why) e = cc
 done_before (outcome.Slots at) e = cc
+done_before (outcome.Storage at) e = cc
 done_before (outcome.Left at) e = cc
 done_before outcome.NoSuchPart e = cc
 done_before (outcome.Output at) e = cc

@@ -26,7 +26,7 @@ use Rattle.poke_batch.specs.PathParts.{part_at}
 use Rattle.value_text.specs.Printed.{printed}
 use Rattle.poke_batch.specs.RunLaws.{MappedPartsAreSmall, part_json, WritesJson, WritesStyledJson, MappedJsonReadsBack, PartJsonReadsBack, StyledPartJsonReadsBack}
 use Rattle.poke_batch.specs.Runs.{IsAsked, HasAnswer, MapsAs, no_type, refused_pickle, value, stops, device, unknown, refused_map, no_memory}
-use Rattle.poke_batch.specs.RunsUnder.{text_saying, is_left, part_saying, part_text, part_has, kept_saying, value_saying, shows_bytes, MapsUnder, mapped_under, shown_under, ended_under, slots_under, HasNoRun, MapsRequested, is_run, lacks_part, lacks_type, no_part, not_run, undecided}
+use Rattle.poke_batch.specs.RunsUnder.{text_saying, is_left, part_saying, part_text, part_has, kept_saying, value_saying, shows_bytes, MapsUnder, mapped_under, shown_under, ended_under, slots_under, storage_under, HasNoRun, MapsRequested, is_run, lacks_part, lacks_type, no_part, not_run, undecided}
 use Rattle.value_text.specs.SmallParts.{HasSmallParts, HasFewMembers}
 use Rattle.run_parts.specs.Told.{Saying, Text, Line, IsSaid, IsTold, IsWritten}
 use Rattle.value_text.proofs.StyledJsonValues.{json_reads_back, if_cut}
@@ -155,13 +155,14 @@ module _ (pickle : List ℕ) (ask : Ask) (before : SpaceView) (status : Status) 
       → Appends out out' (part_text table id ask terms mapped part) → A)
       → A
   under_said terms after saying none
-      (mapped_under {type = type} {mapped = mapped} table id named unshown asked means fits) h follows =
+      (mapped_under {type = type} {mapped = mapped} table id named unshown asked means fits light) h follows =
       value_said table id terms mapped (follows table id type mapped named asked means fits) h
-  under_said terms after saying none (shown_under table id file named shown beside asked means fits) h follows =
+  under_said terms after saying none (shown_under table id file named shown beside asked means fits light) h follows =
       let never : false ≡ true = sym (ap shows_bytes none) ∙ shown in absurd cc
   under_said terms after saying none (ended_under {status = line_status} {line = line} right) h follows =
       no_line line_status line (line_is after (Line line_status line) right line_status line refl) h
   under_said terms after saying none (slots_under asked most less few) h follows = no_line Fault _ (λ e. cc) h
+  under_said terms after saying none (storage_under asked most heavy) h follows = no_line Fault _ (λ e. cc) h
 
   -- a run that maps nothing isn't done
   not_done : (name : List ℕ) (terms : Terms) (ended : Outcome) → HasNoRun pickle name terms ended →

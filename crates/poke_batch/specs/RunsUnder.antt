@@ -1,5 +1,5 @@
 -- What a run must print for a pickle under terms.
-use Rattle.std.specs.Prelude.{◌*◌, ◌-◌, ◌/◌, min, ◌<◌, ◌≡◌, ℕ, Bool, true, false, ◌&&◌, List, Option, Some, None, Ok, length, nat_le, nat_lt, if◌then◌else◌, codes}
+use Rattle.std.specs.Prelude.{◌*◌, ◌-◌, ◌/◌, min, ◌<◌, ◌≤◌, ◌≡◌, ℕ, Bool, true, false, ◌&&◌, List, Option, Some, None, Ok, length, nat_le, nat_lt, if◌then◌else◌, codes}
 use Rattle.bit_space.specs.SpaceView.{SpaceView, GivesRange}
 use Rattle.pickle_types.specs.declared.table.Table.{Table}
 use Rattle.pickle_types.specs.declared.table.TypeId.{TypeId}
@@ -11,8 +11,10 @@ use Rattle.mapping_plans.specs.Kept.{KeepsBy}
 use Rattle.mapping_plans.specs.Mapping.{plan}
 use Rattle.bit_space.specs.Bits.{bits_of}
 use Rattle.pickle_meaning.specs.Fits.{Fits}
-use Rattle.value_store.specs.Slots.{Held, fixed, each_of}
+use Rattle.value_store.specs.Slots.{Held, fixed, weighing, each_of}
 use Rattle.value_store.specs.Moves.{IsWithin, no_state}
+use Rattle.value_store.specs.Weights.{Covers}
+use Rattle.pickle_map.specs.Weighed.{WeighsBy}
 use Rattle.pickle_meaning.specs.declared.faults.MapFaultKind.{MapFaultKind}
 use Rattle.pickle_meaning.specs.declared.faults.MapFaultKind.TheVariants as fault
 use Rattle.value_store.specs.declared.store.room.Growth.TheVariants.{Free}
@@ -117,6 +119,21 @@ pub record AreTooFew (most : ℕ) (type : PokeType) (ask : Ask) (space : SpaceVi
       → KeepsBy (λ state. IsWithin state (each_of most)) false (bits_of bytes)
       (plan (8 * space.len) type ask.order no_values ask.start) ask.limit no_state → ⊥
 
+-- what a mapping stores on a file's bytes, where arrays are packed, never weighs more than so many bytes
+abbrev pub WeighsAtMost : (most : ℕ) → PokeType → Ask → (bits : ℕ) → (bytes : List ℕ) → Type 0
+WeighsAtMost most type ask bits bytes =
+    WeighsBy (λ weight. weight ≤ most) true (bits_of bytes) (plan bits type ask.order no_values ask.start) ask.limit
+    no_state
+
+-- what a mapping stores on the file's bits, if these are known, weighs more than so many bytes
+pub record AreTooHeavy (most : ℕ) (type : PokeType) (ask : Ask) (space : SpaceView) : Type 0 where
+  pub lack : (bytes : List ℕ) → space.bytes ≡ Some bytes → WeighsAtMost most type ask (8 * space.len) bytes → ⊥
+
+-- under terms with a most of bytes, it never weighs more than these
+pub record AreLightUnder (terms : Terms) (type : PokeType) (ask : Ask) (space : SpaceView) : Type 0 where
+  pub light : (most : ℕ) → terms.most_bytes ≡ Some most → (bytes : List ℕ) → space.bytes ≡ Some bytes →
+      WeighsAtMost most type ask (8 * space.len) bytes
+
 -- what a mapping under terms prints
 pub data MapsUnder (pickle : List ℕ) (ask : Ask) (terms : Terms) (before after : SpaceView) : Saying → Type 0 where
   -- what the terms make of the value that the type means on the file's bits, if these are known; over any space, of one
@@ -124,14 +141,14 @@ pub data MapsUnder (pickle : List ℕ) (ask : Ask) (terms : Terms) (before after
   mapped_under : {type : PokeType} {mapped : Value} (table : Table) (id : TypeId) → type_named table id ≡ type
       → shows_bytes terms.look ≡ false → IsAsked pickle ask.name.now type
       → ((bytes : List ℕ) → before.bytes ≡ Some bytes → HasAnswer bytes type ask.order ask.start ask.limit (Ok mapped))
-      → Fits (8 * before.len) type no_values ask.start mapped
+      → Fits (8 * before.len) type no_values ask.start mapped → AreLightUnder terms type ask before
       → MapsUnder pickle ask terms before after (value_saying table id ask terms (8 * before.len) mapped)
   -- the same where a look shows the bytes of parts: beside those that the requested part takes of the file
   shown_under : {type : PokeType} {mapped : Value} (table : Table) (id : TypeId) (file : FileBytes)
       → type_named table id ≡ type
       → shows_bytes terms.look ≡ true → AreBeside before terms mapped file → IsAsked pickle ask.name.now type
       → ((bytes : List ℕ) → before.bytes ≡ Some bytes → HasAnswer bytes type ask.order ask.start ask.limit (Ok mapped))
-      → Fits (8 * before.len) type no_values ask.start mapped
+      → Fits (8 * before.len) type no_values ask.start mapped → AreLightUnder terms type ask before
       → MapsUnder pickle ask terms before after (saying_beside table id ask terms (Some file) (8 * before.len) mapped)
   -- without a value: what a mapping without terms prints
   ended_under : {status : Status} {line : List ℕ} → MapsAs pickle ask before after (Line status line)
@@ -140,6 +157,10 @@ pub data MapsUnder (pickle : List ℕ) (ask : Ask) (terms : Terms) (before after
   slots_under : {type : PokeType} {most : ℕ} → IsAsked pickle ask.name.now type → terms.most_slots ≡ Some most
       → most < room type (8 * before.len) → AreTooFew most type ask before
       → MapsUnder pickle ask terms before after (Line Fault (fault_at_line (codes "Slots") ask.start))
+  -- the values take more than so many bytes
+  storage_under : {type : PokeType} {most : ℕ} → IsAsked pickle ask.name.now type → terms.most_bytes ≡ Some most
+      → AreTooHeavy most type ask before
+      → MapsUnder pickle ask terms before after (Line Fault (fault_at_line (codes "Storage") ask.start))
 
 -- why a type isn't mapped under terms: no value of it has a requested part, or memory didn't suffice to decide that
 pub data LacksPart (type : PokeType) (terms : Terms) : Outcome → Type 0 where
@@ -164,6 +185,16 @@ abbrev pub IsStoreOf : (most : Option ℕ) → Held → Type 0
 IsStoreOf None store = store.room.growth ≡ Free
 IsStoreOf (Some most) store = store.room ≡ fixed most
 
+-- a store whose values weigh at most so many bytes, and that has capacity for all of these
+pub record IsStoreWeighing (most : ℕ) (store : Held) : Type 0 where
+  pub room : store.room ≡ weighing most
+  pub covers : Covers most store.capacity
+
+-- a store for a mapping under terms with these most slots and most bytes: with a most of bytes, one for these
+abbrev pub IsStoreUnder : (slots bytes : Option ℕ) → Held → Type 0
+IsStoreUnder slots None store = IsStoreOf slots store
+IsStoreUnder slots (Some most) store = IsStoreWeighing most store
+
 -- what is printed of a fault of a mapping that began at a bit, in a store of the most slots: `Slots` for an allocation
 -- failure
 abbrev pub fixed_saying : (start : ℕ) → MapFaultKind → (at : ℕ) → Saying
@@ -174,3 +205,14 @@ fixed_saying start kind at = fault_saying kind at
 abbrev pub end_saying : (most : Option ℕ) (start : ℕ) → MapFaultKind → (at : ℕ) → Saying
 end_saying None start kind at = fault_saying kind at
 end_saying (Some most) start kind at = fixed_saying start kind at
+
+-- what is printed of a fault of a mapping that began at a bit, in a store for so many bytes: `Storage` for an
+-- allocation failure
+abbrev pub weighing_saying : (start : ℕ) → MapFaultKind → (at : ℕ) → Saying
+weighing_saying start fault.Memory at = Line Fault (fault_at_line (codes "Storage") start)
+weighing_saying start kind at = fault_saying kind at
+
+-- the same under terms with these most slots and most bytes
+abbrev pub end_under_saying : (slots bytes : Option ℕ) (start : ℕ) → MapFaultKind → (at : ℕ) → Saying
+end_under_saying slots None start kind at = end_saying slots start kind at
+end_under_saying slots (Some most) start kind at = weighing_saying start kind at

@@ -15,7 +15,7 @@ ghost use Rattle.run_parts.specs.declared.status.Status.{Status};
 
 use crate::file_line::put_file_line;
 use crate::file_object::put_file_object;
-use crate::run::{map_stored, store_of};
+use crate::run::{map_apart, map_stored, store_of};
 use crate::type_run::TypeRun;
 use bit_space::{Memory, Space};
 use command_line::fault_form::FaultForm;
@@ -28,7 +28,8 @@ use std::io::Write;
 use text_output::write::WriteFault;
 
 /// What is stored from file to file: the values, what was found of the table's types, and what a run wrote. The next file
-/// uses the same memory.
+/// uses the same memory. Under terms with `most_bytes` no values are stored here: each file has a store of its own, so
+/// that the memory that one file takes isn't kept for the next.
 #[derive(Drop)]
 pub struct Kept {
     store: Store,
@@ -86,13 +87,16 @@ pub fn map_file<S: Space>(run: &TypeRun<'_>, kept: &mut Kept, space: &mut S)
     ensures keeps { Keeps (S.view space.old) (S.view space.new) }
 {
     kept.text.clear();
-    let ended = map_stored(
-        run,
-        &mut kept.store,
-        &mut kept.findings,
-        space,
-        &mut kept.text,
-    );
+    let Kept {
+        store,
+        findings,
+        text,
+        ..
+    } = kept;
+    let ended = match run.terms.most_bytes {
+        Some(_) => map_apart(run, findings, space, text),
+        None => map_stored(run, store, findings, space, text),
+    };
     kept.outcome = in_memory(ended);
 }
 

@@ -9,7 +9,7 @@ ghost use Rattle.pickle_meaning.specs.Values.{Value, value_at, start_of, end_of}
 ghost use Rattle.run_parts.specs.Outcomes.{EndsAs, outcome_saying};
 ghost use Rattle.run_parts.specs.Told.{Says};
 ghost use Rattle.poke_batch.specs.Runs.{ChecksAs, BoundsAs, MapsAs, types_text};
-ghost use Rattle.poke_batch.specs.RunsUnder.{MapsRequested, IsStoreOf, end_saying, fixed_saying};
+ghost use Rattle.poke_batch.specs.RunsUnder.{MapsRequested, IsStoreOf, IsStoreUnder, end_saying, end_under_saying, fixed_saying, weighing_saying};
 ghost use Rattle.poke_batch.specs.TypeRuns.{EndsRun, TellsValue};
 ghost use Rattle.text_output.specs.Written.{AppendsPart};
 ghost use Rattle.value_store.specs.Slots.{levels};
@@ -182,10 +182,7 @@ impl TypeRun<'_> {
             (O.contents out.old) (O.contents out.new) }
         ensures keeps { Keeps (S.view space.old) (S.view space.new) }
     {
-        match store_of(self.alloc, self.terms.most_slots) {
-            Ok(mut store) => map_stored(self, &mut store, &mut Findings::new(), space, out),
-            Err(Memory) => Outcome::Failed(Failure::Memory),
-        }
+        map_apart(self, &mut Findings::new(), space, out)
     }
 
     /// Writes the value that a store holds, mapped from a space.
@@ -216,6 +213,36 @@ pub fn store_of(alloc: Global, most: Option<u64>) -> Result<Store, Memory>
     }
 }
 
+/// A store for mappings under terms. With `most_bytes`, its values weigh at most so many bytes, and it reserves what
+/// these may take. Otherwise it is that of [`store_of`]. `Memory` is returned if an allocation fails.
+pub fn store_under(alloc: Global, terms: &Terms) -> Result<Store, Memory>
+    ensures { IfOk result (IsStoreUnder terms.now.most_slots terms.now.most_bytes) }
+{
+    match terms.most_bytes {
+        Some(most) => Store::with_weight(alloc, most),
+        None => store_of(alloc, terms.most_slots),
+    }
+}
+
+/// Maps the type of a run into a store of its own. Otherwise it does what [`map_stored`] does.
+pub fn map_apart<S: Space, O: Write>(
+    run: &TypeRun<'_>,
+    findings: &mut Findings,
+    space: &mut S,
+    out: &mut O,
+) -> Outcome
+    requires found { AreFound (nodes_of run.now.table.now) findings.old }
+    ensures found { AreFound (nodes_of run.now.table.now) findings.new }
+    ensures ends { EndsRun run.now (S.view space.old) (S.view space.new) result
+        (O.contents out.old) (O.contents out.new) }
+    ensures keeps { Keeps (S.view space.old) (S.view space.new) }
+{
+    match store_under(run.alloc, run.terms) {
+        Ok(mut store) => map_stored(run, &mut store, findings, space, out),
+        Err(Memory) => Outcome::Failed(Failure::Memory),
+    }
+}
+
 /// Maps the type of a run into a store, which is emptied first. Writes the printed value to `out`, if the mapping has
 /// no fault. What mappings find of the table's types is kept for the next ones.
 pub fn map_stored<S: Space, O: Write>(
@@ -225,9 +252,9 @@ pub fn map_stored<S: Space, O: Write>(
     space: &mut S,
     out: &mut O,
 ) -> Outcome
-    requires store { IsStoreOf run.now.terms.now.most_slots store.old }
+    requires store { IsStoreUnder run.now.terms.now.most_slots run.now.terms.now.most_bytes store.old }
     requires found { AreFound (nodes_of run.now.table.now) findings.old }
-    ensures store { IsStoreOf run.now.terms.now.most_slots store.new }
+    ensures store { IsStoreUnder run.now.terms.now.most_slots run.now.terms.now.most_bytes store.new }
     ensures found { AreFound (nodes_of run.now.table.now) findings.new }
     ensures ends { EndsRun run.now (S.view space.old) (S.view space.new) result
         (O.contents out.old) (O.contents out.new) }
@@ -247,7 +274,29 @@ pub fn map_stored<S: Space, O: Write>(
         table, id, ask.order, ask.start, space, &mut meter, store, watch, findings,
     ) {
         Ok(()) => run.tell_root(store, space, out),
-        Err(fault) => end_outcome(fault, terms.most_slots, ask.start),
+        Err(fault) => end_under(fault, terms, ask.start),
+    }
+}
+
+/// The outcome of a mapping under terms that began at the bit `start` and has a fault. With `most_bytes` the store takes
+/// no more than so many, and an allocation failure is reported as `Storage`. Otherwise it is that of [`end_outcome`].
+pub fn end_under(fault: MapFault, terms: &Terms, start: u64) -> Outcome
+    ensures { outcome_saying result
+        ≡ end_under_saying terms.now.most_slots terms.now.most_bytes start fault.kind fault.at }
+{
+    match terms.most_bytes {
+        None => end_outcome(fault, terms.most_slots, start),
+        Some(_) => weighed_outcome(fault, start),
+    }
+}
+
+// The outcome in a store for so many bytes.
+fn weighed_outcome(fault: MapFault, start: u64) -> Outcome
+    ensures { outcome_saying result ≡ weighing_saying start fault.kind fault.at }
+{
+    match fault.kind {
+        MapFaultKind::Memory => Outcome::Storage(start),
+        _ => Outcome::Fault(fault),
     }
 }
 

@@ -74,7 +74,7 @@ fn has_reason(outcome: Outcome) -> bool {
     match outcome {
         Outcome::Done | Outcome::Refused(Refusal::Memory) => false,
         Outcome::Failed(failure) => matches!(failure, Failure::Open | Failure::Read),
-        Outcome::Slots(_) => false,
+        Outcome::Slots(_) | Outcome::Storage(_) => false,
         _ => outcome.status() != Status::Outside,
     }
 }

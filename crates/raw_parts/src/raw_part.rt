@@ -4,7 +4,7 @@ ghost use Rattle.std.specs.Prelude.{◌≡◌, ◌*◌, ℕ, List, Some, IsSome,
 ghost use Rattle.bit_space.specs.SpaceView.{Keeps};
 ghost use Rattle.pickle_meaning.specs.Values.{Value};
 ghost use Rattle.poke_batch.specs.Runs.{IsAsked};
-ghost use Rattle.poke_batch.specs.RunsUnder.{IsStoreOf};
+ghost use Rattle.poke_batch.specs.RunsUnder.{IsStoreUnder};
 ghost use Rattle.poke_batch.specs.TypeRuns.{run_type};
 ghost use Rattle.raw_parts.specs.Mapped.{HasFault, HoldsMapped, held_value};
 ghost use Rattle.raw_parts.specs.Within.{IsWithin};
@@ -18,7 +18,7 @@ use pickle_map::mapper::findings::Findings;
 use pickle_map::mapper::map_with;
 use pickle_map::mapper::watch::Unwatched;
 use pickle_map::{MapFault, Store, ValueRef};
-use poke_batch::run::{end_outcome, store_of};
+use poke_batch::run::{end_under, store_under};
 use poke_batch::type_run::TypeRun;
 use run_parts::outcome::{Failure, Outcome};
 use std::io::Write;
@@ -40,7 +40,7 @@ pub fn write_raw_part<S: Space, O: Write>(run: &TypeRun<'_>, space: &mut S, out:
         (O.contents out.old) (O.contents out.new) result }
     ensures keeps { Keeps (S.view space.old) (S.view space.new) }
 {
-    match store_of(run.alloc, run.terms.most_slots) {
+    match store_under(run.alloc, run.terms) {
         Ok(mut store) => write_mapped(run, &mut store, space, out),
         Err(Memory) => Outcome::Failed(Failure::Memory),
     }
@@ -53,7 +53,7 @@ fn write_mapped<S: Space, O: Write>(
     space: &mut S,
     out: &mut O,
 ) -> Outcome
-    requires { IsStoreOf run.now.terms.now.most_slots store.old }
+    requires { IsStoreUnder run.now.terms.now.most_slots run.now.terms.now.most_bytes store.old }
     ensures writes { (pickle : List ℕ) → IsAsked pickle run.now.ask.now.name.now (run_type run.now) →
         WritesRaw pickle run.now (S.view space.old) (S.view space.new)
         (O.contents out.old) (O.contents out.new) result }
@@ -61,13 +61,13 @@ fn write_mapped<S: Space, O: Write>(
 {
     match map_into(run, store, space) {
         Ok(()) => write_root(run, store, space, out),
-        Err(fault) => end_outcome(fault, run.terms.most_slots, run.ask.start),
+        Err(fault) => end_under(fault, run.terms, run.ask.start),
     }
 }
 
 // Maps the type of a run into a store, which is emptied first.
 fn map_into<S: Space>(run: &TypeRun<'_>, store: &mut Store, space: &mut S) -> Result<(), MapFault>
-    requires { IsStoreOf run.now.terms.now.most_slots store.old }
+    requires { IsStoreUnder run.now.terms.now.most_slots run.now.terms.now.most_bytes store.old }
     ensures ok { OnOk result (HoldsMapped run.now (S.view space.old) store.new) }
     ensures err { IfErr result (HasFault run.now (S.view space.old) (S.view space.new)) }
     ensures keeps { Keeps (S.view space.old) (S.view space.new) }

@@ -63,6 +63,8 @@ pub enum Outcome {
     Fault(MapFault),
     /// A store with a fixed number of slots is too small for the mapping that began at this bit.
     Slots(u64),
+    /// The values of the mapping that began at this bit would take more bytes than they may.
+    Storage(u64),
     /// The value must end with the file, and this is the first bit after it.
     Left(u128),
     /// The value doesn't have the requested part.
@@ -99,6 +101,7 @@ impl Outcome {
                 Status::Refused,
             Outcome::Fault(fault) => fault_status(fault.kind),
             Outcome::Slots(_)
+            | Outcome::Storage(_)
             | Outcome::Left(_)
             | Outcome::NoSuchPart
             | Outcome::Output(_)
@@ -120,6 +123,7 @@ impl Outcome {
             Outcome::Offset => "offset",
             Outcome::Fault(fault) => fault.kind.name(),
             Outcome::Slots(_) => "Slots",
+            Outcome::Storage(_) => "Storage",
             Outcome::Left(_) => "Left",
             Outcome::ImpossiblePart | Outcome::NoSuchPart => "NoSuchPart",
             Outcome::Output(_) => "Output",
@@ -138,9 +142,10 @@ impl Outcome {
         match self {
             Outcome::Refused(refusal) => refusal_place(refusal),
             Outcome::Fault(fault) => fault_place(fault),
-            Outcome::Slots(at) | Outcome::Output(at) | Outcome::Unaligned(at) => RunEnd::Bit(
-                u128::from(at),
-            ),
+            Outcome::Slots(at)
+            | Outcome::Storage(at)
+            | Outcome::Output(at)
+            | Outcome::Unaligned(at) => RunEnd::Bit(u128::from(at)),
             Outcome::Left(at) => RunEnd::Bit(at),
             Outcome::Done
             | Outcome::NoSuchType

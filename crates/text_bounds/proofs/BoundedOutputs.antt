@@ -19,7 +19,7 @@ use Rattle.pickle_types.specs.TypeTable.{nodes_of}
 use Rattle.poke_batch.specs.PathParts.{part_at, node_at}
 use Rattle.poke_batch.specs.Runs.{IsAsked}
 use Rattle.poke_batch.proofs.PartTexts.{styled_part}
-use Rattle.poke_batch.specs.RunsUnder.{text_saying, is_left, part_saying, part_text, part_has, kept_saying, value_saying, shows_bytes, MapsUnder, mapped_under, shown_under, ended_under, slots_under, MapsRequested, not_run, is_run}
+use Rattle.poke_batch.specs.RunsUnder.{text_saying, is_left, part_saying, part_text, part_has, kept_saying, value_saying, shows_bytes, MapsUnder, mapped_under, shown_under, ended_under, slots_under, storage_under, MapsRequested, not_run, is_run}
 use Rattle.run_parts.specs.Told.{Saying, Text, Line, IsSaid}
 use Rattle.run_parts.proofs.Sayings.{outcome_lines}
 use Rattle.text_bounds.specs.OutputRoom.{GrowsWithin, OutputIsBounded}
@@ -93,15 +93,17 @@ saying_bounded : (pickle : List ℕ) (ask : Ask) (terms : Terms) (before after :
     → terms.look ≡ None → terms.selection ≡ None → MapsUnder pickle ask terms before after saying
     → IsSaid saying status out out' err err' → OutputIsBounded pickle ask terms.style before.len out out'
 saying_bounded pickle ask terms before after saying status out out' err err' look all
-    (mapped_under {type = type} {mapped = mapped} table id named unshown asked means fits) h =
+    (mapped_under {type = type} {mapped = mapped} table id named unshown asked means fits light) h =
     of_type pickle ask terms.style before.len out out' type asked
     (value_said ask terms (8 * before.len) type mapped fits status out out' err err' table id look all h)
 saying_bounded pickle ask terms before after saying status out out' err err' look all
-    (shown_under table id file named shown beside asked means fits) h =
+    (shown_under table id file named shown beside asked means fits light) h =
     let never : false ≡ true = sym (ap shows_bytes look) ∙ shown in absurd cc
 saying_bounded pickle ask terms before after saying status out out' err err' look all (ended_under right) h = inl h.0
 saying_bounded pickle ask terms before after saying status out out' err err' look all
     (slots_under asked most less few) h = inl h.0
+saying_bounded pickle ask terms before after saying status out out' err err' look all
+    (storage_under asked most heavy) h = inl h.0
 
 requested_bounded : (pickle : List ℕ) (ask : Ask) (terms : Terms) (before after : SpaceView) (saying : Saying)
     (status : Status) (out out' err err' : Option (List ℕ))

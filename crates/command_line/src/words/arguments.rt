@@ -231,6 +231,18 @@ const MAPPING: &[Argument] = &[
         help: "The most bytes of the printed value [default: any length]",
         ..OPTION
     },
+    // The stored values take at most BYTES bytes, the values of attempts included. A mapping whose values would take more
+    // ends with `fault Storage`. The page on operators says [what is counted](OPERATORS.md#memory). It excludes `--slots`.
+    Argument {
+        of: &["map", "show", "each"],
+        name: "memory",
+        value: "BYTES",
+        accepts: Accepts::Number,
+        tie: Tie::Apart("slots"),
+        is_rare: true,
+        help: "The most bytes that stored values may take [default: any number]",
+        ..OPTION
+    },
     // Reserve N slots of each kind before the mapping, which then allocates no more memory for values. A slot
     // [stores a part of a value](OPERATORS.md#memory): a node, a link to a part, a part of a value that isn't finished, or
     // a byte of a string. A mapping that needs more ends with `fault Slots`.

@@ -43,6 +43,7 @@ Options of map, show and each:
                    [default: 1000000000]
   --whole          accept only a value that ends where FILE does [default: any end]
   --max-output N   the most bytes of the printed value [default: any length]
+  --memory BYTES   the most bytes that stored values may take [default: any number]
 
 Options of records:
   --limit N        the most steps of all records together [default: 1000000000, or 256 a byte if that is more]

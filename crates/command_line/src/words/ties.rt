@@ -2,7 +2,7 @@
 ghost use Rattle.std.specs.Prelude.{◌≡◌, codes, option_map};
 ghost use Rattle.clap.specs.Matches.{found_of, first_value};
 ghost use Rattle.command_line.specs.Found.{shows_file_alone};
-ghost use Rattle.command_line.specs.Ties.{is_given, are_apart, needs, is_either_given, is_typed, has_words, keeps_inside, keeps_file_ties, keeps_map_ties, keeps_show_ties, keeps_each_ties, keeps_records_ties, keeps_resume, keeps_find_ties, keeps_identify_ties, keeps_text_ties, keeps_bound_ties, keeps_types_ties, keeps_dump_ties, keeps_ties};
+ghost use Rattle.command_line.specs.Ties.{is_given, are_apart, needs, is_either_given, is_typed, has_words, keeps_inside, keeps_mapping_ties, keeps_file_ties, keeps_map_ties, keeps_show_ties, keeps_each_ties, keeps_records_ties, keeps_resume, keeps_find_ties, keeps_identify_ties, keeps_text_ties, keeps_bound_ties, keeps_types_ties, keeps_dump_ties, keeps_ties};
 
 use crate::subject::{has_type, is_by_head, is_file_alone};
 use crate::words::found::{after_type, type_word, word};
@@ -33,10 +33,17 @@ fn keeps_map_ties(found: &ArgMatches<'_>) -> bool
     keeps_file_ties(found) && needs(found, "rows", "get") && needs(found, "header", "rows")
 }
 
+// The ties of the place and the store of a mapping.
+fn keeps_mapping_ties(found: &ArgMatches<'_>) -> bool
+    ensures { result ≡ keeps_mapping_ties (found_of found.now) }
+{
+    are_apart(found, "byte", "at") && are_apart(found, "memory", "slots")
+}
+
 fn keeps_file_ties(found: &ArgMatches<'_>) -> bool
     ensures { result ≡ keeps_file_ties (found_of found.now) }
 {
-    are_apart(found, "byte", "at")
+    keeps_mapping_ties(found)
         && has_words(found, "FILE")
         && keeps_inside(found, type_word(found, "FILE"))
 }
@@ -44,7 +51,7 @@ fn keeps_file_ties(found: &ArgMatches<'_>) -> bool
 fn keeps_show_ties(found: &ArgMatches<'_>) -> bool
     ensures { result ≡ keeps_show_ties (found_of found.now) }
 {
-    are_apart(found, "byte", "at")
+    keeps_mapping_ties(found)
         && (shows_file_alone(found) || has_words(found, "FILE"))
         && keeps_inside(found, type_word(found, "FILE"))
 }
@@ -52,7 +59,7 @@ fn keeps_show_ties(found: &ArgMatches<'_>) -> bool
 fn keeps_each_ties(found: &ArgMatches<'_>) -> bool
     ensures { result ≡ keeps_each_ties (found_of found.now) }
 {
-    are_apart(found, "byte", "at")
+    keeps_mapping_ties(found)
         && is_either_given(found, "FILE", "files0-from")
         && is_typed(found, found.get_str("TYPE"))
         && keeps_inside(found, found.get_str("TYPE"))

@@ -9,7 +9,7 @@ use Rattle.fault_report.proofs.is_outcome_of.Goals as goal
 pub returns-then-eq-clause-other : goal.returns-then-eq-clause-other
 returns-then-eq-clause-other c = λ differs own.
     let own = rw c.in-Fault.is at own in
-    not_own c.args.start c.args.most c.args.fault c.in-Fault.told
+    not_own c.args.start c.args.terms.now.most_slots c.args.terms.now.most_bytes c.args.fault c.in-Fault.told
     (λ same.
     false≢true
     (sym differs ∙ c.eq-then-eq.ensures
@@ -21,6 +21,6 @@ pub returns-in_default : goal.returns-in_default
 returns-in_default c = record {
   saying = λ is. absurd (false≢true is);
   faulty = λ is. absurd (false≢true is);
-  other = λ differs. neither c.args.start c.args.most c.args.fault c.args.outcome c.in_default.not-Fault
-      c.in_default.not-Slots;
+  other = λ differs. neither c.args.start c.args.terms.now.most_slots c.args.terms.now.most_bytes c.args.fault
+      c.args.outcome c.in_default.not-Fault c.in_default.not-Slots c.in_default.not-Storage;
 }

@@ -28,6 +28,6 @@ returns-in-Ok-clause-writes g c = λ pickle asked.
 pub returns-in-Err-clause-writes : goal.returns-in-Err-clause-writes
 returns-in-Err-clause-writes g c = λ pickle asked.
     has_no_value
-    (subst (HasNoValue pickle c.args.run.now _ _) (sym c.end_outcome.ensures)
+    (subst (HasNoValue pickle c.args.run.now _ _) (sym c.end_under.ensures)
     (c.in-Err.ensures.err.says pickle asked))
     (Keeps-refl _)
