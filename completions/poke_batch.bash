@@ -5,9 +5,9 @@
 # The options of a command.
 _poke_batch_options_of() {
     case $1 in
-        map) echo '--at --byte --length --inside --endian --limit --whole --max-output --slots --get --spool --progress --rows --header --absent --mode --numbers --chars --elements --faults --why --help' ;;
-        show) echo '--at --byte --length --inside --endian --limit --whole --max-output --slots --get --spool --progress --absent --numbers --chars --elements --depth --sizes --bytes --color --help' ;;
-        each) echo '--at --byte --length --inside --endian --limit --whole --max-output --slots --get --spool --progress --absent --mode --numbers --chars --elements --faults --why --flush --files0-from --help' ;;
+        map) echo '--at --byte --length --inside --endian --limit --whole --max-output --memory --slots --get --spool --progress --rows --header --absent --mode --numbers --chars --elements --faults --why --help' ;;
+        show) echo '--at --byte --length --inside --endian --limit --whole --max-output --memory --slots --get --spool --progress --absent --numbers --chars --elements --depth --sizes --bytes --color --help' ;;
+        each) echo '--at --byte --length --inside --endian --limit --whole --max-output --memory --slots --get --spool --progress --absent --mode --numbers --chars --elements --faults --why --flush --files0-from --help' ;;
         records) echo '--at --byte --length --endian --limit --slots --get --spool --progress --header --absent --count --omit --any-end --report-end --of --resume --mode --numbers --chars --elements --faults --why --flush --help' ;;
         find) echo '--at --byte --length --endian --slots --get --spool --progress --absent --step --header --apart --count --attempt-limit --limit --mode --numbers --chars --elements --faults --why --flush --help' ;;
         identify) echo '--spool --progress --all --in --byte --length --mode --faults --why --flush --files0-from --help' ;;
@@ -22,7 +22,7 @@ _poke_batch_options_of() {
 
 # Whether an option has a value.
 _poke_batch_takes_value_of() {
-    [[ $1 =~ ^(--(at|byte|length|endian|limit|max-output|slots|get|spool|rows|absent|count|omit|of|resume|step|attempt-limit|in|mode|numbers|chars|elements|faults|depth|parts|color|files0-from|from|size|skip)|-[sn])$ ]]
+    [[ $1 =~ ^(--(at|byte|length|endian|limit|max-output|memory|slots|get|spool|rows|absent|count|omit|of|resume|step|attempt-limit|in|mode|numbers|chars|elements|faults|depth|parts|color|files0-from|from|size|skip)|-[sn])$ ]]
 }
 
 # The words that an option of a command accepts, if it is a choice.

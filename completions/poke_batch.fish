@@ -3,7 +3,7 @@
 # tools/options: options with a value
 # Whether an option has a value.
 function __poke_batch_takes_value
-    contains -- $argv[1] --at --byte --length --endian --limit --max-output --slots --get --spool --rows --absent --count --omit --of --resume --step --attempt-limit --in --mode --numbers --chars --elements --faults --depth --parts --color --files0-from --from --size --skip -s -n
+    contains -- $argv[1] --at --byte --length --endian --limit --max-output --memory --slots --get --spool --rows --absent --count --omit --of --resume --step --attempt-limit --in --mode --numbers --chars --elements --faults --depth --parts --color --files0-from --from --size --skip -s -n
 end
 # tools/options: end
 
@@ -102,6 +102,7 @@ complete -c poke_batch -n '__poke_batch_is map show each' -l limit -x -d 'The mo
 complete -c poke_batch -n '__poke_batch_is records' -l limit -x -d 'The most steps of all records together'
 complete -c poke_batch -n '__poke_batch_is map show each' -l whole -d 'Accept only a value that ends where FILE does'
 complete -c poke_batch -n '__poke_batch_is map show each' -l max-output -x -d 'The most bytes of the printed value'
+complete -c poke_batch -n '__poke_batch_is map show each' -l memory -x -d 'The most bytes that stored values may take'
 complete -c poke_batch -n '__poke_batch_is map show each records find' -l slots -x -d 'The most slots of each kind'
 complete -c poke_batch -n '__poke_batch_is map show' -l get -x -d 'Print parts of the value'
 complete -c poke_batch -n '__poke_batch_is each records' -l get -x -d 'Print a part of the value'
