@@ -17,6 +17,7 @@ use Rattle.command_line.specs.declared.words.arguments.Argument.{Argument}
 use Rattle.command_line.specs.declared.words.arguments.Groups.{Groups}
 use Rattle.command_line.specs.declared.words.arguments.Kind.{Kind}
 use Rattle.command_line.specs.declared.words.arguments.Kind.TheVariants.{Flag, Valued, Repeated, Positional, Omissible, Positionals}
+use Rattle.command_line.specs.declared.words.commands.Verb.{Verb}
 
 -- what the parser accepts as a value
 pub data Accepted : Type 0 where
@@ -334,15 +335,14 @@ without_commands = record {
   subs = [];
 }
 
--- the names of the commands that read files by types, of the others, and of all
-abbrev pub reading_commands : List Text
-reading_commands = codes "map" ∷ codes "show" ∷ codes "each" ∷ codes "records" ∷ codes "find" ∷ codes "identify" ∷ []
-
-abbrev pub answering_commands : List Text
-answering_commands = codes "bound" ∷ codes "check" ∷ codes "types" ∷ codes "formats" ∷ codes "dump" ∷ []
-
+-- the names of the commands, in the order in which the program has them
 abbrev pub commands : List Text
-commands = reading_commands ++ answering_commands
+commands = codes "map" ∷ codes "show" ∷ codes "each" ∷ codes "records" ∷ codes "find" ∷ codes "identify"
+    ∷ codes "bound" ∷ codes "check" ∷ codes "types" ∷ codes "formats" ∷ codes "dump" ∷ []
+
+-- the names of commands of the code
+abbrev pub verb_names : List Verb → List Text
+verb_names verbs = map (λ verb. verb.name.now) verbs
 
 -- a program with the commands of these names, one after the other
 abbrev pub with_commands : App → (names : List Text) → List Argument → App

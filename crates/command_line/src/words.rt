@@ -44,6 +44,7 @@ use bytes::{bits_if_any, bits_of, byte_of, bytes_in, window_of};
 use clap::ArgMatches;
 use clap::error::ErrorKind;
 use commands::{ATTEMPT_LIMIT, PROGRAM, SHOWN_LEVELS, program};
+pub use commands::{Verb, verbs};
 use found::{after_type, flag_of, number_if_any, number_of, type_word, word, word_if_any, word_of};
 use line::{command_line, without_help_of_help};
 use mapping::{

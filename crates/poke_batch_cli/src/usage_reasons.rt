@@ -3,10 +3,14 @@ use crate::offset_reasons::tell_signed;
 use crate::reason_text::{add, add_word};
 use command_line::path::{PathFault, read_path};
 use command_line::pattern::read_pattern;
+use command_line::words::verbs;
 use pickle_source::near::nearest;
 use poke_batch::write::{WriteFault, put};
 use std::alloc::{AllocError, Global};
 use std::io::Write;
+
+/// The name of the command that prints help.
+const HELP: &[u8] = b"help";
 
 /// What begins clap's tip to write `--` before a word.
 const TIP: &str = "\n  tip: to pass '";
@@ -45,30 +49,27 @@ pub fn put_usage<E: Write>(text: &str, explained: bool, err: &mut E) -> Result<(
 
 // Adds which command has a near name, if the first argument is none.
 fn tell_command(alloc: Global, word: &str, text: &mut Vec<u8>) -> Result<(), AllocError> {
-    let commands: [&[u8]; 12] = [
-        b"map",
-        b"show",
-        b"each",
-        b"records",
-        b"find",
-        b"identify",
-        b"bound",
-        b"check",
-        b"types",
-        b"formats",
-        b"dump",
-        b"help",
-    ];
+    let names = command_names(alloc)?;
     let word = word.as_bytes();
-    if word.first() == Some(&b'-') || commands.contains(&word) {
+    if word.first() == Some(&b'-') || names.contains(&word) {
         return Ok(());
     }
-    if let Some(near) = nearest(alloc, word, commands.as_slice())? {
+    if let Some(near) = nearest(alloc, word, names.as_slice())? {
         add(text, &["  is "])?;
         text.extend_from_slice(near)?;
         add(text, &[" meant?\n"])?;
     }
     Ok(())
+}
+
+// The names of the commands, with the one that the parser adds.
+fn command_names(alloc: Global) -> Result<Vec<&'static [u8]>, AllocError> {
+    let mut names = Vec::new(alloc);
+    for verb in verbs() {
+        names.push(verb.name.as_bytes())?;
+    }
+    names.push(HELP)?;
+    Ok(names)
 }
 
 // The value of `--get`, if an argument is that option.

@@ -2,7 +2,7 @@
 ghost use Rattle.std.specs.Prelude.{◌≡◌, IfOk};
 ghost use Rattle.clap.specs.Simple.{new_app};
 ghost use Rattle.clap.specs.Simple.{App};
-ghost use Rattle.command_line.specs.Commands.{IsApp, answering_commands, command_of, reading_commands, table_of, the_program, with_commands, without_commands};
+ghost use Rattle.command_line.specs.Commands.{IsApp, command_of, commands, table_of, the_program, verb_names, with_commands, without_commands};
 
 use crate::words::arguments::Groups;
 use crate::words::overview::PROGRAM_HELP;
@@ -34,14 +34,21 @@ PICKLE is a path, - for standard input, or +NAME for a pickle that `formats` lis
 
 /// A command, and the texts of its help.
 #[derive(Clone, Copy)]
-struct Verb {
-    name: &'static str,
-    about: &'static str,
+pub struct Verb {
+    /// Its name.
+    pub name: &'static str,
+    /// What it does, in a sentence.
+    pub about: &'static str,
     /// Its usage, where the parser can't say which arguments may be left out.
-    usage: Option<&'static str>,
+    pub usage: Option<&'static str>,
     /// What follows its arguments in the long help.
-    help: &'static str,
+    pub help: &'static str,
 }
+
+/// The commands, in the order in which help lists them.
+const VERBS: &[Verb] = &[
+    MAP, SHOW, EACH, RECORDS, FIND, IDENTIFY, BOUND, CHECK, TYPES, FORMATS, DUMP,
+];
 
 const MAP: Verb = Verb {
     name: "map",
@@ -272,49 +279,36 @@ Exit status:
   3  memory, a file or an output failed",
 };
 
+/// The commands, in the order in which help lists them.
+pub fn verbs() -> &'static [Verb]
+    ensures { verb_names result.now ≡ commands }
+{
+    VERBS
+}
+
 /// The program with its commands.
 pub fn program<'a>(alloc: Global, table: Groups, ties: Ties) -> Result<Command<'a>, AllocError>
     ensures { IfOk result (λ program. ties ≡ Ties.Without → IsApp (the_program (table_of table)) program) }
 {
-    let program = with_reading(alloc, without_commands(alloc), table, ties)?;
-    with_answering(alloc, program, table, ties)
+    with_verbs(alloc, without_commands(alloc), verbs(), table, ties)
 }
 
-// The program with the commands that read files by types.
-fn with_reading<'a>(
+// The program with more commands.
+fn with_verbs<'a>(
     alloc: Global,
     program: Command<'a>,
+    verbs: &'static [Verb],
     table: Groups,
     ties: Ties,
 ) -> Result<Command<'a>, AllocError>
-    ensures { (app : App) → (ties ≡ Ties.Without → IsApp app program.entry) → IfOk result (λ made. ties ≡ Ties.Without →
-        IsApp (with_commands app reading_commands (table_of table)) made) }
+    ensures { IfOk result (λ made. (app : App) → ties ≡ Ties.Without → IsApp app program.entry
+        → IsApp (with_commands app (verb_names verbs.entry.now) (table_of table)) made) }
 {
-    program
-        .subcommand(command(alloc, MAP, table, ties)?)?
-        .subcommand(command(alloc, SHOW, table, ties)?)?
-        .subcommand(command(alloc, EACH, table, ties)?)?
-        .subcommand(command(alloc, RECORDS, table, ties)?)?
-        .subcommand(command(alloc, FIND, table, ties)?)?
-        .subcommand(command(alloc, IDENTIFY, table, ties)?)
-}
-
-// The program with the other commands.
-fn with_answering<'a>(
-    alloc: Global,
-    program: Command<'a>,
-    table: Groups,
-    ties: Ties,
-) -> Result<Command<'a>, AllocError>
-    ensures { (app : App) → (ties ≡ Ties.Without → IsApp app program.entry) → IfOk result (λ made. ties ≡ Ties.Without →
-        IsApp (with_commands app answering_commands (table_of table)) made) }
-{
-    program
-        .subcommand(command(alloc, BOUND, table, ties)?)?
-        .subcommand(command(alloc, CHECK, table, ties)?)?
-        .subcommand(command(alloc, TYPES, table, ties)?)?
-        .subcommand(command(alloc, FORMATS, table, ties)?)?
-        .subcommand(command(alloc, DUMP, table, ties)?)
+    let mut program = program;
+    for verb in verbs {
+        program = program.subcommand(command(alloc, *verb, table, ties)?)?;
+    }
+    Ok(program)
 }
 
 fn without_commands<'a>(alloc: Global) -> Command<'a>
