@@ -9,3 +9,4 @@ pub mod PathTexts
 pub mod Printed
 pub mod PatternTexts
 pub mod SelectedWords
+pub mod Tied

@@ -1,5 +1,5 @@
--- The commands and their arguments, as the parser reads them: without the ties between arguments and without help
--- texts.
+-- The commands and their arguments, without help texts, and how the parser reads them: without the ties between
+-- arguments.
 use Rattle.std.specs.Borrow.{Bor}
 use Rattle.std.specs.Prelude.{◌≡◌, true, false, Bool, ℕ, List, [], ◌∷◌, ◌++◌, map, Option, Some, None, codes, option_map}
 use Rattle.std.specs.List.{list_any}
@@ -17,6 +17,8 @@ use Rattle.command_line.specs.declared.words.arguments.Argument.{Argument}
 use Rattle.command_line.specs.declared.words.arguments.Groups.{Groups}
 use Rattle.command_line.specs.declared.words.arguments.Kind.{Kind}
 use Rattle.command_line.specs.declared.words.arguments.Kind.TheVariants.{Flag, Valued, Repeated, Positional, Omissible, Positionals}
+use Rattle.command_line.specs.declared.words.arguments.Tie.{Tie}
+use Rattle.command_line.specs.declared.words.arguments.Tie.TheVariants as tie
 use Rattle.command_line.specs.declared.words.commands.Verb.{Verb}
 
 -- what the parser accepts as a value
@@ -25,8 +27,20 @@ pub data Accepted : Type 0 where
   ANumber : Accepted
   OneOf : (words : List Text) → Accepted
 
+-- how an argument is tied to others
+pub data Tied : Type 0 where
+  Free : Tied
+  Apart : (other : Text) → Tied
+  Needs : (other : Text) → Tied
+  Either : (other : Text) → Tied
+  ByHead : Tied
+  NeedsOrByHead : (other : Text) → Tied
+  Typed : Tied
+  Last : Tied
+  LastOrAlone : Tied
+
 -- an argument: the commands that have it, its name, the letter that is short for it, how it is given, the name of its
--- value, what it accepts, and its value if it isn't given
+-- value, what it accepts, its value if it isn't given, and how it is tied to others
 pub record Row : Type 0 where
   pub of : List Text
   pub name : Text
@@ -35,6 +49,7 @@ pub record Row : Type 0 where
   pub value : Text
   pub accepted : Accepted
   pub default : Option Text
+  pub tied : Tied
 
 abbrev pub option : (of : List Text) → (name value : Text) → Row
 option of name value = record {
@@ -45,6 +60,7 @@ option of name value = record {
   value = value;
   accepted = AnyText;
   default = None;
+  tied = Free;
 }
 
 abbrev pub flag : (of : List Text) → (name : Text) → Row
@@ -72,6 +88,10 @@ defaulted row default = record row { default = Some default }
 -- it may be given many times
 abbrev pub repeated : Row → Row
 repeated row = record row { kind = Repeated }
+
+-- tied to others
+abbrev pub tied_by : Row → Tied → Row
+tied_by row tied = record row { tied = tied }
 
 abbrev pub lettered : Row → (letter : ℕ) → Row
 lettered row letter = record row { letter = Some letter }
@@ -124,33 +144,33 @@ forms = codes "text" ∷ codes "json" ∷ []
 abbrev pub mapping_options : List Row
 mapping_options =
     defaulted (option placing (codes "at") (codes "OFFSET")) (codes "0#b")
-    ∷ option placing (codes "byte") (codes "N")
+    ∷ tied_by (option placing (codes "byte") (codes "N")) (Apart (codes "at"))
     ∷ defaulted (option (only (codes "find")) (codes "at") (codes "OFFSET")) (codes "0#b")
-    ∷ option (only (codes "find")) (codes "byte") (codes "N")
+    ∷ tied_by (option (only (codes "find")) (codes "byte") (codes "N")) (Apart (codes "at"))
     ∷ option trying (codes "length") (codes "BYTES")
-    ∷ flag mapping (codes "inside")
+    ∷ tied_by (flag mapping (codes "inside")) ByHead
     ∷ choice trying (codes "endian") (codes "ORDER") (codes "big" ∷ codes "little" ∷ [])
     ∷ defaulted (option mapping (codes "limit") (codes "N")) (codes "1000000000")
     ∷ option (only (codes "records")) (codes "limit") (codes "N")
     ∷ flag mapping (codes "whole")
     ∷ number mapping (codes "max-output") (codes "N")
-    ∷ number mapping (codes "memory") (codes "BYTES")
+    ∷ tied_by (number mapping (codes "memory") (codes "BYTES")) (Apart (codes "slots"))
     ∷ number trying (codes "slots") (codes "N")
     ∷ repeated (option (codes "map" ∷ codes "show" ∷ []) (codes "get") (codes "PATH"))
     ∷ repeated (option (codes "each" ∷ codes "records" ∷ []) (codes "get") (codes "PATH"))
     ∷ repeated (option (only (codes "find")) (codes "get") (codes "PATH"))
     ∷ number reading (codes "spool") (codes "BYTES")
     ∷ flag reading (codes "progress")
-    ∷ option (only (codes "map")) (codes "rows") (codes "PATTERN")
+    ∷ tied_by (option (only (codes "map")) (codes "rows") (codes "PATTERN")) (Needs (codes "get"))
     ∷ flag (only (codes "records")) (codes "header")
-    ∷ flag (only (codes "map")) (codes "header")
+    ∷ tied_by (flag (only (codes "map")) (codes "header")) (Needs (codes "rows"))
     ∷ defaulted (choice trying (codes "absent") (codes "WHAT") (codes "fault" ∷ codes "empty" ∷ [])) (codes "fault")
     ∷ number (only (codes "records")) (codes "count") (codes "N")
     ∷ defaulted (number (only (codes "records")) (codes "omit") (codes "N")) (codes "0")
     ∷ flag (only (codes "records")) (codes "any-end")
     ∷ flag (only (codes "records")) (codes "report-end")
     ∷ option (only (codes "records")) (codes "of") (codes "PATH")
-    ∷ option (only (codes "records")) (codes "resume") (codes "OFFSET")
+    ∷ tied_by (option (only (codes "records")) (codes "resume") (codes "OFFSET")) (NeedsOrByHead (codes "of"))
     ∷ defaulted (option (only (codes "find")) (codes "step") (codes "OFFSET")) (codes "1#B")
     ∷ flag (only (codes "find")) (codes "header")
     ∷ flag (only (codes "find")) (codes "apart")
@@ -172,27 +192,28 @@ format_options =
 abbrev pub style_options : List Row
 style_options =
     flag (only (codes "bound")) (codes "text")
-    ∷ flag (only (codes "bound")) (codes "tight")
+    ∷ tied_by (flag (only (codes "bound")) (codes "tight")) (Apart (codes "text"))
     ∷ defaulted (choice (only (codes "map")) (codes "mode") (codes "MODE") map_modes) (codes "flat")
     ∷ defaulted (choice (only (codes "records")) (codes "mode") (codes "MODE") modes) (codes "flat")
     ∷ defaulted (choice (only (codes "find")) (codes "mode") (codes "MODE") (codes "flat" ∷ codes "json" ∷ []))
     (codes "flat")
     ∷ defaulted (choice (only (codes "each")) (codes "mode") (codes "MODE") (codes "flat" ∷ codes "json" ∷ []))
     (codes "flat")
-    ∷ choice (only (codes "bound")) (codes "mode") (codes "MODE") modes
+    ∷ tied_by (choice (only (codes "bound")) (codes "mode") (codes "MODE") modes) (Needs (codes "text"))
     ∷ defaulted (choice (codes "check" ∷ codes "types" ∷ codes "formats" ∷ []) (codes "mode") (codes "MODE") forms)
     (codes "text")
     ∷ defaulted (choice (only (codes "identify")) (codes "mode") (codes "MODE") forms) (codes "text")
     ∷ choice trying (codes "numbers") (codes "FORM") numbers
-    ∷ choice (only (codes "bound")) (codes "numbers") (codes "FORM") numbers
+    ∷ tied_by (choice (only (codes "bound")) (codes "numbers") (codes "FORM") numbers) (Needs (codes "text"))
     ∷ choice trying (codes "chars") (codes "FORM") chars
-    ∷ choice (only (codes "bound")) (codes "chars") (codes "FORM") chars
+    ∷ tied_by (choice (only (codes "bound")) (codes "chars") (codes "FORM") chars) (Needs (codes "text"))
     ∷ option trying (codes "elements") (codes "N")
-    ∷ option (only (codes "bound")) (codes "elements") (codes "N")
+    ∷ tied_by (option (only (codes "bound")) (codes "elements") (codes "N")) (Needs (codes "text"))
     ∷ defaulted (choice reporting (codes "faults") (codes "FORM") forms) (codes "text")
     ∷ defaulted (option (only (codes "show")) (codes "depth") (codes "N")) (codes "6")
     ∷ option (only (codes "types")) (codes "parts") (codes "NAME")
-    ∷ defaulted (option (only (codes "types")) (codes "depth") (codes "N")) (codes "6")
+    ∷ tied_by (defaulted (option (only (codes "types")) (codes "depth") (codes "N")) (codes "6"))
+    (Needs (codes "parts"))
     ∷ flag (only (codes "show")) (codes "sizes")
     ∷ flag (only (codes "show")) (codes "bytes")
     ∷ defaulted (choice (only (codes "show")) (codes "color") (codes "WHEN")
@@ -212,8 +233,8 @@ other_options =
     ∷ option over_many (codes "files0-from") (codes "PATH")
     ∷ defaulted (option (only (codes "dump")) (codes "from") (codes "OFFSET")) (codes "0#B")
     ∷ defaulted (option (only (codes "dump")) (codes "size") (codes "OFFSET")) (codes "128#B")
-    ∷ lettered (option (only (codes "dump")) (codes "skip") (codes "BYTES")) 115
-    ∷ lettered (option (only (codes "dump")) (codes "length") (codes "BYTES")) 110
+    ∷ tied_by (lettered (option (only (codes "dump")) (codes "skip") (codes "BYTES")) 115) (Apart (codes "from"))
+    ∷ tied_by (lettered (option (only (codes "dump")) (codes "length") (codes "BYTES")) 110) (Apart (codes "size"))
     ∷ flag (only (codes "dump")) (codes "no-ruler")
     ∷ []
 
@@ -223,12 +244,13 @@ positionals =
     (codes "PICKLE")
     ∷ omissible (only (codes "show")) (codes "PICKLE")
     ∷ omissible (only (codes "find")) (codes "PICKLE")
-    ∷ omissible (codes "map" ∷ codes "show" ∷ codes "each" ∷ codes "records" ∷ codes "find" ∷ codes "bound" ∷ [])
-    (codes "TYPE")
-    ∷ omissible (codes "map" ∷ codes "show" ∷ codes "records" ∷ codes "find" ∷ []) (codes "FILE")
+    ∷ omissible (codes "map" ∷ codes "show" ∷ codes "records" ∷ codes "find" ∷ codes "bound" ∷ []) (codes "TYPE")
+    ∷ tied_by (omissible (only (codes "each")) (codes "TYPE")) Typed
+    ∷ tied_by (omissible (codes "map" ∷ codes "records" ∷ []) (codes "FILE")) Last
+    ∷ tied_by (omissible (codes "show" ∷ codes "find" ∷ []) (codes "FILE")) LastOrAlone
     ∷ positional (only (codes "dump")) (codes "FILE")
-    ∷ record (positional over_many (codes "FILE")) { kind = Positionals }
-    ∷ record (omissible (only (codes "bound")) (codes "BITS")) { accepted = ANumber }
+    ∷ tied_by (record (positional over_many (codes "FILE")) { kind = Positionals }) (Either (codes "files0-from"))
+    ∷ tied_by (record (omissible (only (codes "bound")) (codes "BITS")) { accepted = ANumber }) Last
     ∷ []
 
 -- the arguments of all commands
@@ -241,6 +263,17 @@ accepted accepts.Number = ANumber
 accepted (accepts.OneOf words) = OneOf (texts words.now)
 accepted _ = AnyText
 
+abbrev pub tied_as : Tie → Tied
+tied_as tie.Free = Free
+tied_as (tie.Apart other) = Apart other.now
+tied_as (tie.Needs other) = Needs other.now
+tied_as (tie.Either other) = Either other.now
+tied_as tie.ByHead = ByHead
+tied_as (tie.NeedsOrByHead other) = NeedsOrByHead other.now
+tied_as tie.Typed = Typed
+tied_as tie.Last = Last
+tied_as tie.LastOrAlone = LastOrAlone
+
 abbrev pub row_of : Argument → Row
 row_of argument = record {
   of = texts argument.of.now;
@@ -250,6 +283,7 @@ row_of argument = record {
   value = argument.value.now;
   accepted = accepted argument.accepts;
   default = option_map (λ text. text.now) argument.default;
+  tied = tied_as argument.tie;
 }
 
 -- a group of arguments of the code has these rows

@@ -1,10 +1,13 @@
 -- The ties between the arguments of a command: those that exclude or require one another.
 use Rattle.std.specs.Prelude.{◌&&◌, ◌||◌, Bool, true, false, not, ℕ, List, Option, Some, None, codes, if◌then◌else◌, is_some, option_and_then}
+use Rattle.std.specs.List.{list_all, list_any}
 use Rattle.std.specs.Str.{bytes_eq}
 use Rattle.clap.specs.Matches.{first_value, matched_of}
 use Rattle.clap.specs.declared.parser.matches.Found.{Found}
 use Rattle.clap.specs.declared.parser.ValueSource.{ValueSource}
 use Rattle.clap.specs.declared.parser.ValueSource.TheVariants.{CommandLine, DefaultValue}
+use Rattle.command_line.specs.Commands.{Row, Tied, Free, Apart, Needs, Either, ByHead, NeedsOrByHead, Typed, Last, LastOrAlone, arguments, has, tied_as}
+use Rattle.command_line.specs.declared.words.arguments.Argument.{Argument}
 use Rattle.command_line.specs.Subjects.{has_type, is_by_head}
 use Rattle.command_line.specs.Found.{after_type_in, shows_file_alone, type_in, word_in}
 
@@ -37,74 +40,44 @@ is_typed found type = has_type (word_in found (codes "PICKLE")) type
 abbrev pub has_words : Found → (after : List ℕ) → Bool
 has_words found after = is_some (after_type_in found after) && is_typed found (type_in found after)
 
--- a part of the head was given only where the head says the type
-abbrev pub keeps_inside : Found → (type : Option (List ℕ)) → Bool
-keeps_inside found type = not (is_given found (codes "inside")) || is_by_head (word_in found (codes "PICKLE")) type
+-- the argument for the type before files, which may be in a list
+abbrev pub type_unless_listed : (list type before : Option (List ℕ)) → Option (List ℕ)
+type_unless_listed (Some path) type before = type
+type_unless_listed None type before = before
 
--- the ties of the place and the store of a mapping
-abbrev pub keeps_mapping_ties : Found → Bool
-keeps_mapping_ties found =
-    are_apart found (codes "byte") (codes "at") && are_apart found (codes "memory") (codes "slots")
+abbrev pub type_before_files : Found → Option (List ℕ)
+type_before_files found = type_unless_listed (first_value found (codes "files0-from"))
+    (first_value found (codes "TYPE")) (type_in found (codes "FILE"))
 
--- the ties of a mapping over one file
-abbrev pub keeps_file_ties : Found → Bool
-keeps_file_ties found = keeps_mapping_ties found && (has_words found (codes "FILE")
-    && keeps_inside found (type_in found (codes "FILE")))
+-- the head of the pickle says the type
+abbrev pub has_head_type : Found → Bool
+has_head_type found = is_by_head (word_in found (codes "PICKLE")) (type_before_files found)
 
--- the same where a file alone is enough
-abbrev pub keeps_show_ties : Found → Bool
-keeps_show_ties found = keeps_mapping_ties found
-    && ((shows_file_alone found || has_words found (codes "FILE"))
-    && keeps_inside found (type_in found (codes "FILE")))
+-- an argument is given beside others as it is tied to them
+abbrev pub keeps_tie : Found → (name : List ℕ) → Tied → Bool
+keeps_tie found name Free = true
+keeps_tie found name (Apart other) = are_apart found name other
+keeps_tie found name (Needs other) = needs found name other
+keeps_tie found name (Either other) = is_either_given found name other
+keeps_tie found name ByHead = not (is_given found name) || has_head_type found
+keeps_tie found name (NeedsOrByHead other) = needs found name other || has_head_type found
+keeps_tie found name Typed = is_typed found (first_value found name)
+keeps_tie found name Last = has_words found name
+keeps_tie found name LastOrAlone = shows_file_alone found || has_words found name
 
-abbrev pub keeps_map_ties : Found → Bool
-keeps_map_ties found = keeps_file_ties found
-    && (needs found (codes "rows") (codes "get") && needs found (codes "header") (codes "rows"))
-
-abbrev pub keeps_each_ties : Found → Bool
-keeps_each_ties found =
-    keeps_mapping_ties found && (is_either_given found (codes "FILE") (codes "files0-from")
-    && (is_typed found (first_value found (codes "TYPE")) && keeps_inside found (first_value found (codes "TYPE"))))
-
--- a list that goes on is inside a value, at a path that is given or that the head says
-abbrev pub keeps_resume : Found → (type : Option (List ℕ)) → Bool
-keeps_resume found type = needs found (codes "resume") (codes "of") || is_by_head (word_in found (codes "PICKLE")) type
-
-abbrev pub keeps_records_ties : Found → Bool
-keeps_records_ties found = are_apart found (codes "byte") (codes "at") && (has_words found (codes "FILE")
-    && keeps_resume found (type_in found (codes "FILE")))
-
-abbrev pub keeps_find_ties : Found → Bool
-keeps_find_ties found = are_apart found (codes "byte") (codes "at")
-    && (shows_file_alone found || has_words found (codes "FILE"))
-
-abbrev pub keeps_identify_ties : Found → Bool
-keeps_identify_ties found = is_either_given found (codes "FILE") (codes "files0-from")
-
-abbrev pub keeps_text_ties : Found → Bool
-keeps_text_ties found = needs found (codes "mode") (codes "text") && (needs found (codes "numbers") (codes "text")
-    && (needs found (codes "chars") (codes "text") && needs found (codes "elements") (codes "text")))
-
-abbrev pub keeps_bound_ties : Found → Bool
-keeps_bound_ties found =
-    has_words found (codes "BITS") && (are_apart found (codes "tight") (codes "text") && keeps_text_ties found)
-
-abbrev pub keeps_dump_ties : Found → Bool
-keeps_dump_ties found = are_apart found (codes "skip") (codes "from") && are_apart found (codes "length") (codes "size")
-
-abbrev pub keeps_types_ties : Found → Bool
-keeps_types_ties found = needs found (codes "depth") (codes "parts")
+-- an argument is given so, if the command of this name has it
+abbrev pub keeps_row : (command : List ℕ) → Found → Row → Bool
+keeps_row command found row =
+    not (list_any (λ name. bytes_eq name command) row.of) || keeps_tie found row.name row.tied
 
 -- the ties of the command of this name are kept
-abbrev pub keeps_ties : (command : List ℕ) → Found → Bool
-keeps_ties command found =
-    if bytes_eq command (codes "map") then keeps_map_ties found
-    else if bytes_eq command (codes "show") then keeps_show_ties found
-    else if bytes_eq command (codes "each") then keeps_each_ties found
-    else if bytes_eq command (codes "records") then keeps_records_ties found
-    else if bytes_eq command (codes "find") then keeps_find_ties found
-    else if bytes_eq command (codes "identify") then keeps_identify_ties found
-    else if bytes_eq command (codes "bound") then keeps_bound_ties found
-    else if bytes_eq command (codes "types") then keeps_types_ties found
-    else if bytes_eq command (codes "dump") then keeps_dump_ties found
-    else true
+unfoldable pub keeps_ties : (command : List ℕ) → Found → Bool
+keeps_ties command found = list_all (keeps_row command found) arguments
+
+-- the same of arguments of the code
+abbrev pub keeps_argument : (command : List ℕ) → Found → Argument → Bool
+keeps_argument command found argument =
+    not (has command argument) || keeps_tie found argument.name.now (tied_as argument.tie)
+
+abbrev pub keep_ties : (command : List ℕ) → Found → List Argument → Bool
+keep_ties command found group = list_all (keeps_argument command found) group

@@ -39,7 +39,7 @@ pub enum Accepts {
     OneOf(&'static [&'static str]),
 }
 
-/// How an argument is tied to another one.
+/// How an argument is tied to others. The parser knows of the first four ties.
 #[derive(Clone, Copy)]
 pub enum Tie {
     /// It isn't.
@@ -50,6 +50,16 @@ pub enum Tie {
     Needs(&'static str),
     /// Just one of both is given.
     Either(&'static str),
+    /// It requires that the head of the pickle says the type.
+    ByHead,
+    /// It requires the other, or that the head of the pickle says the type.
+    NeedsOrByHead(&'static str),
+    /// It is TYPE, which is left out only beside an installed pickle.
+    Typed,
+    /// It is given after TYPE, which is left out only beside an installed pickle.
+    Last,
+    /// The same, unless one argument alone is a file.
+    LastOrAlone,
 }
 
 /// An argument of some commands.
@@ -177,6 +187,7 @@ const MAPPING: &[Argument] = &[
     Argument {
         of: &["map", "show", "each"],
         name: "inside",
+        tie: Tie::ByHead,
         is_rare: true,
         help: "Map the type of +NAME for the format inside other bytes [default: that of whole files]",
         ..FLAG
@@ -399,6 +410,7 @@ const MAPPING: &[Argument] = &[
         name: "resume",
         value: "OFFSET",
         accepts: Accepts::Offset,
+        tie: Tie::NeedsOrByHead("of"),
         is_rare: true,
         help: "With --of, where in FILE the list goes on [default: at its first record]",
         ..OPTION
@@ -860,16 +872,33 @@ const POSITIONALS: &[Argument] = &[
         ..POSITIONAL
     },
     Argument {
-        of: &["map", "show", "each", "records", "find", "bound"],
+        of: &["map", "show", "records", "find", "bound"],
         name: "TYPE",
         kind: Kind::Omissible,
         help: "The type to map. Left out or - after +NAME, it is that of the pickle's head",
         ..POSITIONAL
     },
     Argument {
-        of: &["map", "show", "records", "find"],
+        of: &["each"],
+        name: "TYPE",
+        kind: Kind::Omissible,
+        tie: Tie::Typed,
+        help: "The type to map. Left out or - after +NAME, it is that of the pickle's head",
+        ..POSITIONAL
+    },
+    Argument {
+        of: &["map", "records"],
         name: "FILE",
         kind: Kind::Omissible,
+        tie: Tie::Last,
+        help: "The file of the bytes",
+        ..POSITIONAL
+    },
+    Argument {
+        of: &["show", "find"],
+        name: "FILE",
+        kind: Kind::Omissible,
+        tie: Tie::LastOrAlone,
         help: "The file of the bytes",
         ..POSITIONAL
     },
@@ -892,6 +921,7 @@ const POSITIONALS: &[Argument] = &[
         name: "BITS",
         kind: Kind::Omissible,
         accepts: Accepts::Number,
+        tie: Tie::Last,
         help: "The size of a file in bits",
         ..POSITIONAL
     },

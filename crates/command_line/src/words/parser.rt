@@ -88,8 +88,8 @@ fn is_left_out(row: &Argument, ties: Ties) -> bool
     }
 }
 
-// Whether a command has the argument.
-fn has(row: &Argument, command: &str) -> bool
+/// Whether a command has the argument.
+pub fn has(row: &Argument, command: &str) -> bool
     ensures { result ≡ has command.now row.now }
 {
     row.of.contains(&command)
@@ -184,9 +184,9 @@ fn with_tie<'a>(arg: Arg<'a>, row: &Argument) -> Result<Arg<'a>, AllocError> {
         _ => arg,
     };
     match row.tie {
-        Tie::Free => Ok(arg),
         Tie::Apart(other) => arg.conflicts_with(other),
         Tie::Needs(other) => arg.requires_arg(other),
         Tie::Either(other) => arg.required_unless_present(other)?.conflicts_with(other),
+        _ => Ok(arg),
     }
 }

@@ -1,122 +1,83 @@
 //! The ties between arguments, which the parser's own program doesn't have.
-ghost use Rattle.std.specs.Prelude.{◌≡◌, codes, option_map};
+ghost use Rattle.std.specs.Prelude.{◌≡◌, ◌&&◌, codes, option_map};
 ghost use Rattle.clap.specs.Matches.{found_of, first_value};
+ghost use Rattle.command_line.specs.Commands.{tied_as};
 ghost use Rattle.command_line.specs.Found.{shows_file_alone};
-ghost use Rattle.command_line.specs.Ties.{is_given, are_apart, needs, is_either_given, is_typed, has_words, keeps_inside, keeps_mapping_ties, keeps_file_ties, keeps_map_ties, keeps_show_ties, keeps_each_ties, keeps_records_ties, keeps_resume, keeps_find_ties, keeps_identify_ties, keeps_text_ties, keeps_bound_ties, keeps_types_ties, keeps_dump_ties, keeps_ties};
+ghost use Rattle.command_line.specs.Ties.{is_given, are_apart, needs, is_either_given, has_head_type, is_typed, has_words, keeps_argument, keeps_tie, keep_ties, keeps_ties, type_before_files};
 
 use crate::subject::{has_type, is_by_head, is_file_alone};
+use crate::words::arguments::{Argument, Groups, Tie, arguments};
 use crate::words::found::{after_type, type_word, word};
+use crate::words::parser::has;
 use clap::ArgMatches;
 use clap::parser::ValueSource;
 
-/// Whether the arguments of a command keep the ties that the program with ties has.
+/// Whether the arguments of a command keep the ties that the table has.
 pub fn keeps_ties(command: &str, found: &ArgMatches<'_>) -> bool
     ensures { result ≡ keeps_ties command.now (found_of found.now) }
 {
-    match command {
-        "map" => keeps_map_ties(found),
-        "show" => keeps_show_ties(found),
-        "each" => keeps_each_ties(found),
-        "records" => keeps_records_ties(found),
-        "find" => keeps_find_ties(found),
-        "identify" => keeps_identify_ties(found),
-        "bound" => keeps_bound_ties(found),
-        "types" => keeps_types_ties(found),
-        "dump" => keeps_dump_ties(found),
-        _ => true,
+    keep_all_ties(command, found, arguments())
+}
+
+fn keep_all_ties(command: &str, found: &ArgMatches<'_>, table: Groups) -> bool
+    ensures { result ≡ (keep_ties command.now (found_of found.now) table.mapping.now
+        && (keep_ties command.now (found_of found.now) table.formats.now
+        && (keep_ties command.now (found_of found.now) table.style.now
+        && (keep_ties command.now (found_of found.now) table.others.now
+        && keep_ties command.now (found_of found.now) table.positionals.now)))) }
+{
+    keep_ties(command, found, table.mapping)
+        && keep_ties(command, found, table.formats)
+        && keep_ties(command, found, table.style)
+        && keep_ties(command, found, table.others)
+        && keep_ties(command, found, table.positionals)
+}
+
+// Whether the arguments of a group that a command has keep their ties.
+fn keep_ties(command: &str, found: &ArgMatches<'_>, group: &[Argument]) -> bool
+    ensures { result ≡ keep_ties command.now (found_of found.now) group.now }
+{
+    group.iter().all(|row| keeps_argument(command, found, row))
+}
+
+// Whether an argument keeps its tie, if a command has it.
+fn keeps_argument(command: &str, found: &ArgMatches<'_>, row: &Argument) -> bool
+    ensures { result ≡ keeps_argument command.now (found_of found.now) row.now }
+{
+    !has(row, command) || keeps_tie(found, row.name, row.tie)
+}
+
+fn keeps_tie(found: &ArgMatches<'_>, name: &str, tie: Tie) -> bool
+    ensures { result ≡ keeps_tie (found_of found.now) name.now (tied_as tie) }
+{
+    match tie {
+        Tie::Free => true,
+        Tie::Apart(other) => are_apart(found, name, other),
+        Tie::Needs(other) => needs(found, name, other),
+        Tie::Either(other) => is_either_given(found, name, other),
+        Tie::ByHead => !is_given(found, name) || has_head_type(found),
+        Tie::NeedsOrByHead(other) => needs(found, name, other) || has_head_type(found),
+        Tie::Typed => is_typed(found, found.get_str(name)),
+        Tie::Last => has_words(found, name),
+        Tie::LastOrAlone => shows_file_alone(found) || has_words(found, name),
     }
 }
 
-fn keeps_map_ties(found: &ArgMatches<'_>) -> bool
-    ensures { result ≡ keeps_map_ties (found_of found.now) }
+// Whether the head of the pickle says the type.
+fn has_head_type(found: &ArgMatches<'_>) -> bool
+    ensures { result ≡ has_head_type (found_of found.now) }
 {
-    keeps_file_ties(found) && needs(found, "rows", "get") && needs(found, "header", "rows")
+    is_by_head(word(found, "PICKLE"), type_before_files(found))
 }
 
-// The ties of the place and the store of a mapping.
-fn keeps_mapping_ties(found: &ArgMatches<'_>) -> bool
-    ensures { result ≡ keeps_mapping_ties (found_of found.now) }
+// The argument for the type before files, which may be in a list.
+fn type_before_files<'a>(found: &ArgMatches<'a>) -> Option<&'a str>
+    ensures { option_map (λ word. word.now) result ≡ type_before_files (found_of found.now) }
 {
-    are_apart(found, "byte", "at") && are_apart(found, "memory", "slots")
-}
-
-fn keeps_file_ties(found: &ArgMatches<'_>) -> bool
-    ensures { result ≡ keeps_file_ties (found_of found.now) }
-{
-    keeps_mapping_ties(found)
-        && has_words(found, "FILE")
-        && keeps_inside(found, type_word(found, "FILE"))
-}
-
-fn keeps_show_ties(found: &ArgMatches<'_>) -> bool
-    ensures { result ≡ keeps_show_ties (found_of found.now) }
-{
-    keeps_mapping_ties(found)
-        && (shows_file_alone(found) || has_words(found, "FILE"))
-        && keeps_inside(found, type_word(found, "FILE"))
-}
-
-fn keeps_each_ties(found: &ArgMatches<'_>) -> bool
-    ensures { result ≡ keeps_each_ties (found_of found.now) }
-{
-    keeps_mapping_ties(found)
-        && is_either_given(found, "FILE", "files0-from")
-        && is_typed(found, found.get_str("TYPE"))
-        && keeps_inside(found, found.get_str("TYPE"))
-}
-
-fn keeps_records_ties(found: &ArgMatches<'_>) -> bool
-    ensures { result ≡ keeps_records_ties (found_of found.now) }
-{
-    are_apart(found, "byte", "at")
-        && has_words(found, "FILE")
-        && keeps_resume(found, type_word(found, "FILE"))
-}
-
-// Whether a list that goes on is inside a value, at a path that is given or that the head says.
-fn keeps_resume(found: &ArgMatches<'_>, name: Option<&str>) -> bool
-    ensures { result ≡ keeps_resume (found_of found.now) (option_map (λ name. name.now) name.entry) }
-{
-    needs(found, "resume", "of") || is_by_head(word(found, "PICKLE"), name)
-}
-
-fn keeps_find_ties(found: &ArgMatches<'_>) -> bool
-    ensures { result ≡ keeps_find_ties (found_of found.now) }
-{
-    are_apart(found, "byte", "at") && (shows_file_alone(found) || has_words(found, "FILE"))
-}
-
-fn keeps_identify_ties(found: &ArgMatches<'_>) -> bool
-    ensures { result ≡ keeps_identify_ties (found_of found.now) }
-{
-    is_either_given(found, "FILE", "files0-from")
-}
-
-fn keeps_bound_ties(found: &ArgMatches<'_>) -> bool
-    ensures { result ≡ keeps_bound_ties (found_of found.now) }
-{
-    has_words(found, "BITS") && are_apart(found, "tight", "text") && keeps_text_ties(found)
-}
-
-fn keeps_text_ties(found: &ArgMatches<'_>) -> bool
-    ensures { result ≡ keeps_text_ties (found_of found.now) }
-{
-    needs(found, "mode", "text")
-        && needs(found, "numbers", "text")
-        && needs(found, "chars", "text")
-        && needs(found, "elements", "text")
-}
-
-fn keeps_types_ties(found: &ArgMatches<'_>) -> bool
-    ensures { result ≡ keeps_types_ties (found_of found.now) }
-{
-    needs(found, "depth", "parts")
-}
-
-fn keeps_dump_ties(found: &ArgMatches<'_>) -> bool
-    ensures { result ≡ keeps_dump_ties (found_of found.now) }
-{
-    are_apart(found, "skip", "from") && are_apart(found, "length", "size")
+    match found.get_str("files0-from") {
+        Some(_) => found.get_str("TYPE"),
+        None => type_word(found, "FILE"),
+    }
 }
 
 /// Whether TYPE and the argument after it are given, of which TYPE may be left out beside an installed pickle.
@@ -141,12 +102,6 @@ fn is_typed(found: &ArgMatches<'_>, name: Option<&str>) -> bool
     ensures { result ≡ is_typed (found_of found.now) (option_map (λ name. name.now) name.entry) }
 {
     has_type(word(found, "PICKLE"), name)
-}
-
-fn keeps_inside(found: &ArgMatches<'_>, name: Option<&str>) -> bool
-    ensures { result ≡ keeps_inside (found_of found.now) (option_map (λ name. name.now) name.entry) }
-{
-    !is_given(found, "inside") || is_by_head(word(found, "PICKLE"), name)
 }
 
 fn are_apart(found: &ArgMatches<'_>, name: &str, other: &str) -> bool
