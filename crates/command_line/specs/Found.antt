@@ -312,6 +312,14 @@ IsSource found None (of.«Path» path) = ⊥
 IsSource found None of.Values = is_headed found ≡ false
 IsSource found None of.Head = is_headed found ≡ true
 
+-- the name of the one file that a type is mapped over
+abbrev pub file_over : Over → Option (List ℕ)
+file_over (File file) = Some (string_bytes file)
+file_over (Bytes file) = Some (string_bytes file)
+file_over (Files names flush) = None
+file_over (Records file of list) = Some (string_bytes file)
+file_over (Search file search) = Some (string_bytes file)
+
 -- what a type is mapped over: the one file that an argument names, or many, of which each line may be written at once,
 -- or the records in one, or the places in one
 abbrev pub IsOver : Found → Over → Type 0

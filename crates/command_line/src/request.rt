@@ -1,6 +1,7 @@
 //! A mapping that requests more than a plain one does.
 
-ghost use Rattle.std.specs.Prelude.{◌≡◌};
+ghost use Rattle.std.specs.Prelude.{◌≡◌, option_map};
+ghost use Rattle.command_line.specs.Found.{file_over};
 ghost use Rattle.command_line.specs.Requests.{faults_in};
 
 use crate::color::Color;
@@ -94,6 +95,21 @@ pub enum Over {
         file: String,
         search: ValueSearch,
     },
+}
+
+impl Over {
+    /// The name of the file, if it is one alone.
+    pub fn file(&self) -> Option<&str>
+        ensures { option_map (λ name. name.now) result ≡ file_over self.now }
+    {
+        match self {
+            Over::File(file)
+            | Over::Bytes(file)
+            | Over::Records { file, .. }
+            | Over::Search { file, .. } => Some(file.as_str()),
+            Over::Files { .. } => None,
+        }
+    }
 }
 
 /// What the records of a list are.

@@ -38,19 +38,19 @@ pub fn explained_endings(asked: &Asked) -> Explained {
     };
     match (&request.over, &request.form) {
         (
-            Over::File(_) | Over::Bytes(_) | Over::Records { .. } | Over::Search { .. },
-            Form::Printed {
-                faults: FaultForm::Text,
-                ..
-            },
-        ) => Explained::Endings,
-        (
             Over::Files { .. },
             Form::Printed {
                 faults: FaultForm::Text,
                 ..
             },
         ) => Explained::Refusals,
+        (
+            _,
+            Form::Printed {
+                faults: FaultForm::Text,
+                ..
+            },
+        ) => Explained::Endings,
         _ => Explained::Nothing,
     }
 }

@@ -8,7 +8,6 @@ use crate::reason_text::{add, add_word};
 use crate::with_progress::ClearedWriter;
 use bit_space::OpenFault;
 use command_line::answer_form::AnswerForm;
-use command_line::request::{Over, Request};
 use command_line::subject::Subject;
 use jobs::why::{Reasons, Why};
 use jobs::{Ending, FileFault, Lengthless, report_in_json, run_job};
@@ -165,17 +164,8 @@ fn tell_unread<R: Files<File = File> + Env + AllocGlobal + Clone + Drop>(
 // The argument that names the file of a job, if it has one.
 fn file_of(job: &Job) -> Option<&str> {
     match job {
-        Job::Map { file, .. }
-        | Job::Request(
-            Request {
-                over: Over::File(file)
-                | Over::Bytes(file)
-                | Over::Records { file, .. }
-                | Over::Search { file, .. },
-                ..
-            },
-        )
-        | Job::Dump { file, .. } => Some(file.as_str()),
+        Job::Map { file, .. } | Job::Dump { file, .. } => Some(file.as_str()),
+        Job::Request(request) => request.over.file(),
         _ => None,
     }
 }
@@ -183,7 +173,7 @@ fn file_of(job: &Job) -> Option<&str> {
 // Whether a job shows how far its file was read.
 fn shows_reads(job: &Job) -> bool {
     match job {
-        Job::Request(request) => request.progress && !matches!(request.over, Over::Files { .. }),
+        Job::Request(request) => request.progress && request.over.file().is_some(),
         _ => false,
     }
 }
