@@ -7,7 +7,7 @@ use Rattle.command_line.specs.Subjects.{pickle_of}
 use Rattle.command_line.specs.declared.answer_form.AnswerForm.{AnswerForm}
 use Rattle.command_line.specs.declared.identification.Identification.{Identification}
 use Rattle.command_line.specs.declared.request.Over.{Over}
-use Rattle.command_line.specs.declared.request.Over.TheVariants.{Bytes, File, Files, Records, Search}
+use Rattle.command_line.specs.declared.request.Over.TheVariants.{Files}
 use Rattle.command_line.specs.declared.request.Request.{Request}
 use Rattle.command_line.specs.declared.words.Job.{Job}
 use Rattle.command_line.specs.declared.words.Job.TheVariants as job
@@ -112,10 +112,7 @@ module _ (gives : Gives) (every : Every) where
 -- of a requested mapping, by what it is over: of each of many files
 abbrev pub TellsOver : Gives → (why : Bool) → Requested → (pickle : List ℕ) → Over → (text : List ℕ) → Type 0
 TellsOver gives why requested pickle (Files names flush) = TellsFile gives (every_for why requested pickle)
-TellsOver gives why requested pickle (File file) = λ text. ⊥
-TellsOver gives why requested pickle (Records file of list) = λ text. ⊥
-TellsOver gives why requested pickle (Bytes file) = λ text. ⊥
-TellsOver gives why requested pickle (Search file search) = λ text. ⊥
+TellsOver gives why requested pickle other = λ text. ⊥
 
 -- of a request, once its pickle says which type is mapped
 pub data TellsRequest (gives : Gives) (why : Bool) (request : Request) (text : List ℕ) : Type 0 where

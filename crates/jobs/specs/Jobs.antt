@@ -13,7 +13,7 @@ use Rattle.command_line.specs.declared.identification.Identification.{Identifica
 use Rattle.command_line.specs.declared.request.FileNames.{FileNames}
 use Rattle.command_line.specs.declared.request.FileNames.TheVariants.{Words, EndedByZero}
 use Rattle.command_line.specs.declared.request.Over.{Over}
-use Rattle.command_line.specs.declared.request.Over.TheVariants.{Bytes, File, Files, Records, Search}
+use Rattle.command_line.specs.declared.request.Over.TheVariants.{File, Search}
 use Rattle.command_line.specs.declared.request.Request.{Request}
 use Rattle.command_line.specs.declared.words.Job.{Job}
 use Rattle.command_line.specs.declared.words.Job.TheVariants as job
@@ -26,8 +26,8 @@ use Rattle.jobs.specs.Files.{Every, IdentifiesFrom, MapsFrom, answer_form, file_
 use Rattle.identification.specs.declared.format.Formats.{Formats}
 use Rattle.jobs.specs.Gives.{Gives}
 use Rattle.jobs.specs.Installed.{DueAmong, folder_of}
-use Rattle.jobs.specs.Tasks.{DueListTask, DueTask}
-use Rattle.jobs.specs.declared.task.Task.TheVariants as task
+use Rattle.jobs.specs.Tasks.{DueTask, IsOverFile, IsOverFiles, IsTaskOver}
+use Rattle.jobs.specs.declared.task.Task.{Task}
 use Rattle.jobs.specs.Hunted.{DueHuntedFile}
 use Rattle.jobs.specs.Identified.{DueIdentifiedFile}
 use Rattle.jobs.specs.Spaces.{DueSpace}
@@ -206,21 +206,20 @@ module _ (gives : Gives) (why : Bool) where
       (λ pickles formats. DueNamed gives (every_format why asked form formats) asked.names)
 
   -- of a requested mapping over one file or over many, or of a task with one
-  abbrev pub DueMapping : Requested → Over → (pickle : List ℕ) → (lines : List (List ℕ)) → Option End → Type 0
-  DueMapping requested (File file) = DueFile requested (string_bytes file)
-  DueMapping requested (Files files flush) = DueEach requested files
-  DueMapping requested (Records file of list) = DueListTask gives requested of list (string_bytes file)
-  DueMapping requested (Bytes file) = DueTask gives requested task.Copy (string_bytes file)
-  DueMapping requested (Search file search) =
-      DueTask gives requested (task.Search search requested.faults) (string_bytes file)
+  pub data DueMapping (requested : Requested) (over : Over) (pickle : List ℕ) :
+      (lines : List (List ℕ)) → Option End → Type 0 where
+    file_due : {path : List ℕ} {lines : List (List ℕ)} {end : Option End} → IsOverFile (λ file. File file) over path
+        → DueFile requested path pickle lines end → DueMapping requested over pickle lines end
+    each_due : {names : FileNames} {lines : List (List ℕ)} {end : Option End} → IsOverFiles over names
+        → DueEach requested names pickle lines end → DueMapping requested over pickle lines end
+    task_due : {lines : List (List ℕ)} {end : Option End} (path : List ℕ) (task : Task)
+        → IsTaskOver over requested.faults path task → DueTask gives requested task path pickle lines end
+        → DueMapping requested over pickle lines end
 
-  -- of a request without a pickle: by the file's own format, or by all formats
+  -- of a request without a pickle: by all formats, or by the file's own
   abbrev pub DueUnnamed : Request → Over → (lines : List (List ℕ)) → Option End → Type 0
   DueUnnamed request (Search file search) = DueHuntedFile gives request search (string_bytes file)
-  DueUnnamed request (File file) = DueIdentifiedFile gives why request
-  DueUnnamed request (Bytes file) = DueIdentifiedFile gives why request
-  DueUnnamed request (Files files flush) = DueIdentifiedFile gives why request
-  DueUnnamed request (Records file of list) = DueIdentifiedFile gives why request
+  DueUnnamed request other = DueIdentifiedFile gives why request
 
   -- of a request: once its pickle says which type is mapped, or without one
   abbrev pub DueSubject : Request → Option (List ℕ) → (lines : List (List ℕ)) → Option End → Type 0

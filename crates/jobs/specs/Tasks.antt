@@ -1,12 +1,16 @@
 -- What is due of a task with a file: its records, the bytes of a part, or the places of values.
 use Rattle.std.specs.Borrow.{Bor}
-use Rattle.std.specs.Prelude.{◌≡◌, ◌<◌, ◌≤◌, ◌*◌, ◌-◌, ℕ, Bool, true, false, if◌then◌else◌, List, [], ◌∷◌, max, Option, Some, None, is_some, Ok, Err}
+use Rattle.std.specs.Prelude.{◌≡◌, ◌<◌, ◌≤◌, ◌*◌, ◌-◌, ℕ, Bool, true, false, if◌then◌else◌, List, [], ◌∷◌, max, Option, Some, None, is_some, Ok, Err, String, string_bytes}
+use Rattle.std.specs.declared.alloc.Global.{Global}
 use Rattle.bit_space.specs.SpaceView.{HasRisen, SpaceView}
 use Rattle.command_line.specs.Starts.{start_bit}
 use Rattle.command_line.specs.declared.ask.Ask.{Ask}
 use Rattle.command_line.specs.declared.fault_form.FaultForm.{FaultForm}
 use Rattle.command_line.specs.Paths.{IsPath, steps_of}
 use Rattle.command_line.specs.declared.path.Path.{Path}
+use Rattle.command_line.specs.declared.request.FileNames.{FileNames}
+use Rattle.command_line.specs.declared.request.Over.{Over}
+use Rattle.command_line.specs.declared.request.Over.TheVariants.{Bytes, File, Files, Records, Search}
 use Rattle.command_line.specs.declared.request.RecordList.{RecordList}
 use Rattle.command_line.specs.declared.request.RecordsOf.{RecordsOf}
 use Rattle.command_line.specs.declared.request.RecordsOf.TheVariants as of
@@ -26,6 +30,8 @@ use Rattle.jobs.specs.declared.fault.FileFault.{FileFault}
 use Rattle.jobs.specs.declared.fault.FileFault.TheVariants as fault
 use Rattle.jobs.specs.declared.task.Task.{Task}
 use Rattle.jobs.specs.declared.task.Task.TheVariants as task
+use Rattle.jobs.specs.declared.task.Work.{Work}
+use Rattle.jobs.specs.declared.task.Work.TheVariants as work
 use Rattle.pickle_meaning.specs.Values.{Value}
 use Rattle.pickle_types.specs.Types.{PokeType}
 use Rattle.poke_batch.specs.Runs.{HasNoType, IsAsked}
@@ -47,7 +53,7 @@ use Rattle.records.specs.declared.listing.Listing.{Listing}
 use Rattle.records.specs.declared.listing.Progress.{Progress}
 use Rattle.searches.specs.Written.{EndsSearch, Searches}
 use Rattle.searches.specs.declared.search.Reach.{Reach}
-use Rattle.searches.specs.declared.search.Search.{Search}
+use Rattle.searches.specs.declared.search.Search.{Search as PlaceSearch}
 use Rattle.run_parts.specs.Outcomes.{outcome_saying}
 use Rattle.run_parts.specs.declared.outcome.Failure.{Failure}
 use Rattle.run_parts.specs.declared.outcome.Failure.TheVariants as failure
@@ -168,7 +174,7 @@ pub data DueCopy (pickle : List ℕ) (run : TypeRun) (file after : SpaceView) : 
   no_memory : DueCopy pickle run file after [] (Some (Ok (Run (outcome.Failed failure.Memory))))
 
 -- what the search of a request says of its places, of which two never are the same
-abbrev pub search_of : ValueSearch → Search
+abbrev pub search_of : ValueSearch → PlaceSearch
 search_of search = record {
   step = max 1 search.step;
   attempt_limit = search.attempt_limit;
@@ -302,10 +308,28 @@ pub data DueTask (gives : Gives) (requested : Requested) (task : Task) (path pic
       DueTask gives requested task path pickle [] (Some (Err fault))
   no_pages : DueTask gives requested task path pickle [] (Some (Err fault.Memory))
 
--- the same of the records that a request says
-pub data DueListTask (gives : Gives) (requested : Requested) (of : RecordsOf) (list : RecordList)
-    (path pickle : List ℕ) :
-    (lines : List (List ℕ)) → Option End → Type 0 where
-  lists : {given : Bor RecordsOf} {lines : List (List ℕ)} {end : Option End} → given.now ≡ of
-      → DueTask gives requested (task.List given list) path pickle lines end
-      → DueListTask gives requested of list path pickle lines end
+-- ---- by what a request is over
+
+-- it is such of the one file of this name
+pub record IsOverFile (such : String Global → Over) (over : Over) (path : List ℕ) : Type 0 where
+  pub file : String Global
+  pub over_is : over ≡ such file
+  pub path_is : path ≡ string_bytes file
+
+-- it is over files with these names
+pub record IsOverFiles (over : Over) (names : FileNames) : Type 0 where
+  pub flush : Bool
+  pub over_is : over ≡ Files names flush
+
+-- it says a task with the file of this name, of which attempts that were given up are reported in a form
+abbrev pub IsTaskOver : Over → FaultForm → (path : List ℕ) → Task → Type 0
+IsTaskOver over faults path (task.List of list) = IsOverFile (λ file. Records file of.now list) over path
+IsTaskOver over faults path task.Copy = IsOverFile (λ file. Bytes file) over path
+IsTaskOver over faults path (task.Search search form) =
+    IsOverFile (λ file. Search file search) over path × (form ≡ faults)
+
+-- what is done over it
+abbrev pub IsWorkOver : Over → FaultForm → Work → Type 0
+IsWorkOver over faults (work.Map path) = IsOverFile (λ file. File file) over path.now
+IsWorkOver over faults (work.MapEach names) = IsOverFiles over names.now
+IsWorkOver over faults (work.Do path task) = IsTaskOver over faults path.now task

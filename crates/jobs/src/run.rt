@@ -22,7 +22,7 @@ use crate::one_file::map_file;
 use crate::opener::{NamedPickle, Opener};
 use crate::pickles::{answer_about, question_of};
 use crate::settings::{Mapping, settle_terms};
-use crate::task::{Task, do_in_file};
+use crate::task::{Work, do_in_file, work_over};
 use crate::usage::refuse;
 use crate::why::{Why, explain_ending};
 use command_line::request::{Over, Request};
@@ -284,23 +284,12 @@ fn map_files<P: Opener, O: Write, A: Aside>(
     ensures told { Tells (TellsOver (P.gives opener.now) why.old.asked (of_mapping mapping.entry) pickle.now.bytes.items
         over.now) (A.told aside.old) (A.told aside.new) }
 {
-    match over {
-        Over::File(file) => map_file(alloc, opener, mapping, pickle, file, out, why),
-        Over::Files { names, .. } => {
+    match work_over(over, mapping.faults) {
+        Work::Map(path) => map_file(alloc, opener, mapping, pickle, path, out, why),
+        Work::MapEach(names) => {
             let ending = map_each(alloc, opener, mapping, pickle, names, out, aside, why);
             Ok(ending)
         }
-        Over::Records { file, of, list } => {
-            let task = Task::List(of, *list);
-            do_in_file(alloc, opener, mapping, pickle, file, task, out, why)
-        }
-        Over::Bytes(file) => {
-            let task = Task::Copy;
-            do_in_file(alloc, opener, mapping, pickle, file, task, out, why)
-        }
-        Over::Search { file, search } => {
-            let task = Task::Search(*search, mapping.faults);
-            do_in_file(alloc, opener, mapping, pickle, file, task, out, why)
-        }
+        Work::Do(path, task) => do_in_file(alloc, opener, mapping, pickle, path, task, out, why),
     }
 }

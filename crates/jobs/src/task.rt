@@ -7,7 +7,7 @@ ghost use Rattle.jobs.specs.Due.{Holds};
 ghost use Rattle.pickle_types.specs.TypeTable.{IsInTable, type_named};
 ghost use Rattle.poke_batch.specs.RunsUnder.{LacksPart};
 ghost use Rattle.type_parts.specs.CanHave.{can_have_requested};
-ghost use Rattle.jobs.specs.Tasks.{DoesTask, DoesTaskIn, DueTask, IsRunOf, has_own_parts, task_ask};
+ghost use Rattle.jobs.specs.Tasks.{DoesTask, DoesTaskIn, DueTask, IsRunOf, IsWorkOver, has_own_parts, task_ask};
 
 use crate::ending::Ending;
 use crate::fault::FileFault;
@@ -21,7 +21,7 @@ use crate::value_search::search_run;
 use crate::why::{Why, explain_parts};
 use bit_space::{Paged, Space};
 use command_line::fault_form::FaultForm;
-use command_line::request::{RecordList, RecordsOf, ValueSearch};
+use command_line::request::{FileNames, Over, RecordList, RecordsOf, ValueSearch};
 use pickle_types::table::{Table, TypeId};
 use poke_batch::ask::Ask;
 use poke_batch::outcome::Outcome;
@@ -42,6 +42,30 @@ pub enum Task<'a> {
     Copy,
     /// The places in it at which the type has a value are written. Attempts that were given up are told in a form.
     Search(ValueSearch, FaultForm),
+}
+
+/// What is done over what a request says.
+#[derive(Clone, Copy)]
+pub enum Work<'a> {
+    /// A value of the file at this path is printed.
+    Map(&'a str),
+    /// The same for each of these files.
+    MapEach(&'a FileNames),
+    /// A task is done with the file at this path.
+    Do(&'a str, Task<'a>),
+}
+
+/// What is done over what a request says, whose faults are written in a form.
+pub fn work_over(over: &Over, faults: FaultForm) -> Work<'_>
+    ensures { IsWorkOver over.now faults result }
+{
+    match over {
+        Over::File(file) => Work::Map(file),
+        Over::Files { names, .. } => Work::MapEach(names),
+        Over::Records { file, of, list } => Work::Do(file, Task::List(of, *list)),
+        Over::Bytes(file) => Work::Do(file, Task::Copy),
+        Over::Search { file, search } => Work::Do(file, Task::Search(*search, faults)),
+    }
 }
 
 impl Task<'_> {
