@@ -69,6 +69,13 @@ impl TypeRun<'_> {
         }
     }
 
+    /// Whether a value that ends there must end with the last of so many bits, and doesn't.
+    pub fn is_left(&self, end: u128, bits: u128) -> bool
+        ensures { result ≡ is_left self.now.terms.now.whole end bits }
+    {
+        self.terms.whole && end < bits
+    }
+
     /// The bytes that the requested part of a value takes, if it is there.
     fn take_bytes<S: Space>(
         &self,
@@ -105,7 +112,7 @@ impl TypeRun<'_> {
             (O.contents out.old) (O.contents out.new) }
     {
         let end = u128::from(value.start()) + u128::from(value.size());
-        if is_left(self.terms.whole, end, bits) {
+        if self.is_left(end, bits) {
             Outcome::Left(end)
         } else {
             self.tell_kept(value, file, out)
@@ -213,11 +220,4 @@ fn shows_bytes(look: Option<Look>) -> bool
         Some(look) => look.beside.bytes,
         None => false,
     }
-}
-
-// Whether a value must end with the last bit of its file, and ends before that.
-fn is_left(whole: bool, end: u128, bits: u128) -> bool
-    ensures { result ≡ is_left whole end bits }
-{
-    whole && end < bits
 }

@@ -1,7 +1,6 @@
 //! Where the bytes of the requested part of a value are.
 
 ghost use Rattle.std.specs.Prelude.{◌≡◌, ◌*◌, ◌≤◌, IfErr, IfNone, IfOk, IfSome, false};
-ghost use Rattle.poke_batch.specs.RunsUnder.{is_left};
 ghost use Rattle.value_store.specs.Refs.{value_shown};
 ghost use Rattle.value_text.specs.TypedValue.{mapped_in, node_in, nodes_in, types_in};
 ghost use Rattle.raw_parts.specs.Places.{HasBytes, HasPlace, IsInFile, LacksBytes, are_own_bytes, are_whole_bytes, is_too_long};
@@ -33,7 +32,7 @@ pub fn bytes_of(run: &TypeRun<'_>, value: ValueRef<'_>, len: u64) -> Result<Byte
 {
     let end = u128::from(value.start()) + u128::from(value.size());
     let bits = 8 * u128::from(len);
-    if is_left(run.terms.whole, end, bits) {
+    if run.is_left(end, bits) {
         return Err(Outcome::Left(end));
     }
     let types = Types::new(run.table);
@@ -49,13 +48,6 @@ pub fn bytes_of(run: &TypeRun<'_>, value: ValueRef<'_>, len: u64) -> Result<Byte
         return Err(Outcome::Output(run.ask.start));
     }
     Ok(range)
-}
-
-// Whether a value must end with the last bit of its file, and ends before that.
-fn is_left(whole: bool, end: u128, bits: u128) -> bool
-    ensures { result ≡ is_left whole end bits }
-{
-    whole && end < bits
 }
 
 // The bytes of the requested part of a value, if it has bytes of its own.
