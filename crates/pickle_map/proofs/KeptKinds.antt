@@ -1,5 +1,5 @@
 -- The kinds of types that are kept, by the rows of the types.
-use Rattle.std.proofs.Common.{◌≡◌, ℕ, ◌<◌, Bool, true, false, zero, suc, List, [], ◌∷◌, ◌++◌, Option, Some, None, arith, get_or, length, replicate, set, take, refl}
+use Rattle.std.proofs.Common.{◌≡◌, ℕ, ◌<◌, Bool, true, false, zero, suc, List, [], ◌∷◌, ◌++◌, Option, Some, None, arith, get_or, length, replicate, set, take, refl, ap, ◌∙◌}
 use Rattle.std.specs.Prelude.{if◌then◌else◌, IsTrue}
 use Rattle.std.specs.declared.alloc.Global.{Global}
 use Rattle.std.specs.Prelude.{Vec}
@@ -11,20 +11,37 @@ use Rattle.pickle_types.specs.declared.node.Part.{Part}
 use Rattle.pickle_types.specs.declared.node.Shape.{Shape}
 use Rattle.pickle_types.specs.declared.node.Shape.TheVariants as shape
 use Rattle.pickle_types.specs.Table.{open_shape}
-use Rattle.pickle_types.specs.Types.{Fields, PokeType}
-use Rattle.mapping_plans.specs.Rows.{Row, Apart, Numbers, Records, Values, Layout, column_widths, or_values, records_of, row_of, struct_row}
+use Rattle.pickle_types.specs.Types.{Fields, PokeType, StructOf}
+use Rattle.pickle_meaning.specs.Values.{Naming}
+use Rattle.mapping_plans.specs.Rows.{Row, Apart, Numbers, Records, Values, Layout, column_widths, element_layout, or_values, records_of, row_of, struct_row}
 use Rattle.pickle_map.specs.declared.mapper.packings.Kept.{Kept}
 use Rattle.pickle_map.specs.declared.mapper.packings.Kept.TheVariants as kept
+use Rattle.pickle_map.specs.declared.mapper.packings.Packing.{Packing}
+use Rattle.pickle_map.specs.declared.mapper.packings.Packing.TheVariants as packing
 use Rattle.pickle_map.specs.declared.mapper.packings.Packings.{Packings}
-use Rattle.pickle_map.specs.Packings.{AreKept, IsLaidKind, is_known_right, is_right}
+use Rattle.pickle_map.specs.Packings.{AreColumnsOf, AreKept, IsLaidPacking, IsPackingOf, is_known_right, is_right}
 use Rattle.pickle_map.proofs.Sizes.{kept_as}
 
--- the kind of a layout is right
-pub laid_right : (kind : Kept) (row : Row) (own : Option Layout) → row ≡ kept_as own → IsLaidKind kind own →
-    IsTrue (is_right row (Some kind))
-laid_right kept.Apart row own keeps none = rw (keeps, none) refl
-laid_right kept.Records row own keeps laid = absurd laid
-laid_right kept.Values row own keeps laid = rw (keeps, laid.1) refl
+-- how elements of a layout are kept
+pub laid_packing_is : (p : Packing) (type : PokeType) → row_of type ≡ kept_as (element_layout type) →
+    IsLaidPacking p (element_layout type) → IsPackingOf p type
+laid_packing_is packing.Apart type keeps none = keeps ∙ ap kept_as none
+laid_packing_is (packing.Numbers width) type keeps laid = absurd laid
+laid_packing_is (packing.Records columns stride) type keeps laid = absurd laid
+laid_packing_is (packing.Values bits bytes) type keeps laid = (keeps ∙ ap kept_as laid, laid)
+
+pub struct_columns : (name : Naming) (pinned : Bool) (fields : Fields) (columns stride : ℕ) →
+    AreColumnsOf (struct_row pinned fields) columns stride →
+    AreColumnsOf (row_of (StructOf name pinned fields)) columns stride
+struct_columns name pinned fields columns stride h = record {
+  widths = h.widths;
+  is = ap (λ r. or_values r (element_layout (StructOf name pinned fields))) h.is;
+  count = h.count;
+  bytes = h.bytes;
+}
+
+pub values_right : (row : Row) (stride : ℕ) → row ≡ Values stride → IsTrue (is_right row (Some kept.Values))
+values_right row stride e = rw e refl
 
 pub apart_right : (row : Row) → row ≡ Apart → IsTrue (is_right row (Some kept.Apart))
 apart_right row e = rw e refl

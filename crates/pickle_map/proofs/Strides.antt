@@ -1,14 +1,14 @@
 -- The bytes of a struct of numbers, as the mapper sums them up.
-use Rattle.std.proofs.Common.{◌≡◌, ℕ, zero, suc, ◌+◌, ◌<◌, ◌≤◌, false, List, [], ◌∷◌, Option, Some, None, drop, length, get_or, refl, sym, ap, subst, ◌∙◌, arith}
-use Rattle.std.specs.Prelude.{nat_le}
+use Rattle.std.proofs.Common.{◌≡◌, ℕ, zero, suc, ◌+◌, ◌<◌, ◌≤◌, List, [], ◌∷◌, Option, Some, None, drop, length, get_or, refl, sym, ap, subst, ◌∙◌, arith}
 use Rattle.std.proofs.lemmas.Bool.{le-leb, lt-leb}
 use Rattle.std.proofs.lemmas.List.{drop_more}
 use Rattle.pickle_types.specs.declared.node.Field.{Field}
 use Rattle.pickle_types.specs.declared.node.Node.{Node}
 use Rattle.pickle_types.specs.Table.{type_of, open_fields}
 use Rattle.value_store.specs.Packed.{bytes_for}
-use Rattle.mapping_plans.specs.Rows.{column_then, column_widths, records_of, stride_of}
-use Rattle.pickle_map.specs.Columns.{ArePacked, IsStride, field_width}
+use Rattle.mapping_plans.specs.Rows.{Apart, column_then, column_widths, records_of, stride_of}
+use Rattle.pickle_map.specs.Columns.{IsStride, field_width}
+use Rattle.pickle_map.specs.Packings.{AreColumnsOf}
 
 none_more : (width : Option ℕ) (widths : Option (List ℕ)) → IsStride None widths →
     IsStride None (column_then width widths)
@@ -61,19 +61,44 @@ module _ (nodes : List Node) where
         pub columns_more : all + bytes_for width ≤ 512 → IsStride (Some (all + bytes_for width)) (widths_of (drop n fs))
         columns_more few = subst (IsStride (Some (all + bytes_for width))) here (sum_is all width _ so_far few)
 
--- how structs of such widths are kept
-pub not_packed : (widths : Option (List ℕ)) → IsStride None widths → ArePacked false (records_of widths)
-not_packed None h = refl
-not_packed (Some ws) h =
+-- ---- how structs of such widths are kept
+
+pub none_packed : (widths : Option (List ℕ)) → IsStride None widths → records_of widths ≡ Apart
+none_packed None h = refl
+none_packed (Some ws) h =
     rw (le-leb 1 (stride_of ws) (omega (arith, h)), lt-leb (stride_of ws) 512 h) refl
 
-pub some_packed : (stride : ℕ) (widths : Option (List ℕ)) → IsStride (Some stride) widths →
-    ArePacked (nat_le 1 stride) (records_of widths)
-some_packed stride None h = absurd h
-some_packed zero (Some ws) h = rw (lt-leb 1 (stride_of ws) (omega (arith, h.0))) refl
-some_packed (suc n) (Some ws) h =
-    rw (
-      le-leb 1 (suc n) (omega arith),
-      le-leb 1 (stride_of ws) (omega (arith, h.0)),
-      le-leb (stride_of ws) 512 (omega (arith, h.0, h.1)),
-    ) (ws, refl)
+pub empty_packed : (stride : ℕ) (widths : Option (List ℕ)) → stride < 1 → IsStride (Some stride) widths →
+    records_of widths ≡ Apart
+empty_packed stride None none h = absurd h
+empty_packed stride (Some ws) none h = rw (lt-leb 1 (stride_of ws) (omega (arith, none, h.0))) refl
+
+pub columns_packed : (stride count : ℕ) (widths : Option (List ℕ)) → 1 ≤ stride → IsStride (Some stride) widths →
+    ((ws : List ℕ) → widths ≡ Some ws → length ws ≡ count) → AreColumnsOf (records_of widths) count stride
+columns_packed stride count None some h counted = absurd h
+columns_packed stride count (Some ws) some h counted = record {
+  widths = ws;
+  is = rw (
+    le-leb 1 (stride_of ws) (omega (arith, some, h.0)),
+    le-leb (stride_of ws) 512 (omega (arith, h.0, h.1)),
+  ) refl;
+  count = counted ws refl;
+  bytes = sym h.0;
+}
+
+-- a struct has as many columns as fields
+one_column_more : (width : Option ℕ) (widths : Option (List ℕ)) (count : ℕ) →
+    ((ws : List ℕ) → widths ≡ Some ws → length ws ≡ count) → (ws : List ℕ) →
+    column_then width widths ≡ Some ws → length ws ≡ suc count
+one_column_more None None count so_far ws e = absurd cc
+one_column_more None (Some vs) count so_far ws e = absurd cc
+one_column_more (Some w) None count so_far ws e = absurd cc
+one_column_more (Some w) (Some vs) count so_far ws e =
+    let all : w ∷ vs ≡ ws = cc in ap length (sym all) ∙ ap suc (so_far vs refl)
+
+pub column_count : (nodes : List Node) (fs : List Field) (ws : List ℕ) →
+    column_widths (open_fields (type_of nodes) fs) ≡ Some ws → length ws ≡ length fs
+column_count nodes [] ws e = let none : [] ≡ ws = cc in ap length (sym none)
+column_count nodes (f ∷ fs) ws e =
+    one_column_more (field_width nodes f) (column_widths (open_fields (type_of nodes) fs)) (length fs)
+    (column_count nodes fs) ws e

@@ -1,5 +1,5 @@
 -- The numbers of a struct, as a mapper places them.
-use Rattle.std.specs.Prelude.{◌≤◌, ◌≡◌, ℕ, ◌+◌, ◌<◌, ◌^◌, ◌∷◌, ◌++◌, List, map, length, Bool, true, false, Option, Some, None}
+use Rattle.std.specs.Prelude.{◌≤◌, ◌≡◌, ℕ, ◌+◌, ◌<◌, ◌^◌, ◌∷◌, ◌++◌, List, map, length, Option, Some, None}
 use Rattle.pickle_types.specs.Types.{PokeType}
 use Rattle.pickle_types.specs.declared.node.Field.{Field}
 use Rattle.pickle_types.specs.declared.node.Node.{Node}
@@ -16,7 +16,7 @@ use Rattle.value_store.specs.Names.{Names}
 use Rattle.value_store.specs.Packed.{bytes_for, number_bytes}
 use Rattle.value_store.specs.PackedStructs.{AreDigits, fields, struct_bits, struct_row}
 use Rattle.value_store.specs.Slots.{Held, HoldsInRoom, levels, number_bits}
-use Rattle.mapping_plans.specs.Rows.{Row, Apart, Records, column_width, stride_of, scalar_shape}
+use Rattle.mapping_plans.specs.Rows.{column_width, stride_of, scalar_shape}
 
 -- a field's type is in the table
 abbrev pub HasNode : List Node → Field → Type 0
@@ -33,11 +33,6 @@ IsStride (Some stride) (Some widths) = (stride ≡ stride_of widths) × (stride 
 abbrev pub field_width : List Node → Field → Option ℕ
 field_width nodes f =
     column_width (type_of nodes f.node) (optional_term f.constraint) (optional_term f.label) (optional_term f.condition)
-
--- packed structs of numbers, or elements that are kept apart
-abbrev pub ArePacked : Bool → Row → Type 0
-ArePacked true row = (widths : List ℕ) × (row ≡ Records widths)
-ArePacked false row = row ≡ Apart
 
 -- the shapes of fields that are numbers
 abbrev pub shapes_of : (ℕ → PokeType) → List Field → List Shape

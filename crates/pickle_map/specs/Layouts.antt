@@ -1,5 +1,5 @@
 -- Types whose values are all alike but for their numbers, as the mapper finds them.
-use Rattle.std.specs.Prelude.{◌≡◌, ℕ, ◌+◌, ◌-◌, ◌*◌, ◌<◌, ◌≤◌, Bool, true, false, List, Option, Some, None, length, nat_le, if◌then◌else◌}
+use Rattle.std.specs.Prelude.{◌≡◌, ℕ, ◌+◌, ◌-◌, ◌*◌, ◌<◌, ◌≤◌, List, Option, Some, None, length, nat_le, if◌then◌else◌}
 use Rattle.pickle_types.specs.declared.node.Field.{Field}
 use Rattle.pickle_types.specs.declared.node.Node.{Node}
 use Rattle.pickle_types.specs.declared.node.Part.{Part}
@@ -24,11 +24,6 @@ HasPlace nodes level f = level + f.node < length nodes
 
 abbrev pub HasPartPlace : List Node → (level : ℕ) → Part → Type 0
 HasPartPlace nodes level p = level + p.node < length nodes
-
--- there is a layout
-abbrev pub IsLaid : Bool → Option Layout → Type 0
-IsLaid true own = (l : Layout) × (own ≡ Some l)
-IsLaid false own = own ≡ None
 
 -- what is left of so many after some; nothing if they are more
 abbrev pub left_of : (weight left : ℕ) → Option ℕ

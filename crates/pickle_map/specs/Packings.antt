@@ -1,19 +1,43 @@
 -- How the elements of arrays of structs are kept, as far as it was found for the types of a table.
-use Rattle.std.specs.Prelude.{◌≡◌, ℕ, Bool, true, false, List, Option, Some, None, Vec, get_or, IsTrue}
+use Rattle.std.specs.Prelude.{◌≡◌, ℕ, Bool, true, false, List, Option, Some, None, Vec, get_or, length, IsTrue}
 use Rattle.std.specs.declared.alloc.Global.{Global}
 use Rattle.pickle_types.specs.declared.node.Node.{Node}
+use Rattle.pickle_types.specs.Types.{PokeType}
 use Rattle.pickle_types.specs.Table.{type_of}
-use Rattle.mapping_plans.specs.Rows.{Row, Apart, Numbers, Records, Values, Layout, row_of}
+use Rattle.mapping_plans.specs.Rows.{Row, Apart, Numbers, Records, Values, Layout, element_layout, row_of, stride_of}
 use Rattle.pickle_map.specs.declared.mapper.packings.Kept.{Kept}
 use Rattle.pickle_map.specs.declared.mapper.packings.Kept.TheVariants as kept
 use Rattle.pickle_map.specs.declared.mapper.packings.KindAt.{KindAt}
+use Rattle.pickle_map.specs.declared.mapper.packings.Packing.{Packing}
+use Rattle.pickle_map.specs.declared.mapper.packings.Packing.TheVariants as packing
 use Rattle.pickle_map.specs.declared.mapper.packings.Packings.{Packings}
 
 -- elements that have a layout are kept as values, others apart
-abbrev pub IsLaidKind : Kept → Option Layout → Type 0
-IsLaidKind kept.Apart own = own ≡ None
-IsLaidKind kept.Records own = ⊥
-IsLaidKind kept.Values own = (l : Layout) × (own ≡ Some l)
+abbrev pub IsLaidPacking : Packing → Option Layout → Type 0
+IsLaidPacking packing.Apart own = own ≡ None
+IsLaidPacking (packing.Numbers width) own = ⊥
+IsLaidPacking (packing.Records columns stride) own = ⊥
+IsLaidPacking (packing.Values bits bytes) own = own ≡ Some (record { bits = bits; bytes = bytes })
+
+-- a row is that of structs of so many numbers, which take so many bytes
+pub record AreColumnsOf (row : Row) (columns stride : ℕ) : Type 0 where
+  pub widths : List ℕ
+  pub is : row ≡ Records widths
+  pub count : length widths ≡ columns
+  pub bytes : stride_of widths ≡ stride
+
+-- how many bytes a packed struct of so many fields takes, or none if such structs are kept in another way
+abbrev pub IsStructStride : Option ℕ → (fields : ℕ) → Row → Type 0
+IsStructStride None fields row = row ≡ Apart
+IsStructStride (Some stride) fields row = AreColumnsOf row fields stride
+
+-- how the elements of a type are kept
+abbrev pub IsPackingOf : Packing → PokeType → Type 0
+IsPackingOf packing.Apart type = row_of type ≡ Apart
+IsPackingOf (packing.Numbers width) type = row_of type ≡ Numbers width
+IsPackingOf (packing.Records columns stride) type = AreColumnsOf (row_of type) columns stride
+IsPackingOf (packing.Values bits bytes) type =
+    (row_of type ≡ Values bytes) × (element_layout type ≡ Some (record { bits = bits; bytes = bytes }))
 
 -- whether the kind that is known of a type, if any, is that of its row; numbers are kept apart
 abbrev pub is_right : Row → Option Kept → Bool

@@ -12,7 +12,7 @@ ghost use Rattle.value_store.specs.Slots.{emptied, HoldsInRoom, KeepsRoom};
 
 pub mod clauses;
 pub mod findings;
-pub(crate) mod layouts;
+pub mod layouts;
 pub(crate) mod level;
 pub mod number;
 pub(crate) mod packed_fields;

@@ -15,47 +15,34 @@ use Rattle.pickle_types.specs.Types.{Term, Parts, PokeType, FieldThen, NoFields,
 use Rattle.pickle_types.specs.Table.{type_of, open_shape, open_fields, open_parts, name_of, optional_term, IsTable, FieldsBelow, PartsBelow, NamesBelow}
 use Rattle.pickle_types.proofs.Tables.{opens}
 use Rattle.tight_bounds.specs.declared.type_grains.TypeGrains.{TypeGrains}
-use Rattle.tight_bounds.specs.declared.field_grains.FieldGrains.{FieldGrains}
-use Rattle.tight_bounds.specs.declared.part_grains.PartGrains.{PartGrains}
 use Rattle.tight_bounds.specs.Tight.{width, own, least_part, parts_own}
-use Rattle.tight_bounds.specs.Held.{AreGrains, AreFieldGrains, ArePartGrains, AreKnown}
+use Rattle.tight_bounds.specs.Held.{AreGrains, AreKnown}
 
-module _ (at : ℕ → PokeType) (m : ℕ) where
-  pub no_fields_left : (fields : List Field) (b : FieldGrains) → AreFieldGrains b NoFields m →
-      AreFieldGrains b (open_fields at (drop (length fields) fields)) m
-  no_fields_left fields b h =
-      subst (λ fs. AreFieldGrains b (open_fields at fs) m) (sym (drop_all (length fields) fields (omega arith))) h
+module _ (at : ℕ → PokeType) (P : Fields → Type 0) where
+  pub no_fields_left : (fields : List Field) → P NoFields → P (open_fields at (drop (length fields) fields))
+  no_fields_left fields h =
+      subst (λ fs. P (open_fields at fs)) (sym (drop_all (length fields) fields (omega arith))) h
 
-  pub one_field_more : (fields : List Field) (i : ℕ) (f : Field) → i < length fields →
-      f ≡ get_or fields i f → (b : FieldGrains) →
-      AreFieldGrains b (FieldThen (name_of f.name) f.order (at f.node) (optional_term f.constraint)
-      (optional_term f.label) (optional_term f.condition) (open_fields at (drop (i + 1) fields))) m →
-      AreFieldGrains b (open_fields at (drop i fields)) m
-  one_field_more fields i f lt e b h =
+  pub one_field_more : (fields : List Field) (i : ℕ) (f : Field) → i < length fields → f ≡ get_or fields i f →
+      P (FieldThen (name_of f.name) f.order (at f.node) (optional_term f.constraint) (optional_term f.label)
+      (optional_term f.condition) (open_fields at (drop (i + 1) fields))) → P (open_fields at (drop i fields))
+  one_field_more fields i f lt e h =
       let split : drop i fields ≡ f ∷ drop (i + 1) fields = drop_more fields i f lt
       ∙ ap (λ x. x ∷ drop (i + 1) fields) (sym e) in
-      subst (λ fs. AreFieldGrains b (open_fields at fs) m) (sym split) h
+      subst (λ fs. P (open_fields at fs)) (sym split) h
 
-  pub no_parts_left : (parts : List Part) (b : PartGrains) → ArePartGrains b NoParts m →
-      ArePartGrains b (open_parts at (drop (length parts) parts)) m
-  no_parts_left parts b h =
-      subst (λ ps. ArePartGrains b (open_parts at ps) m) (sym (drop_all (length parts) parts (omega arith))) h
+module _ (at : ℕ → PokeType) (P : Parts → Type 0) where
+  pub no_parts_left : (parts : List Part) → P NoParts → P (open_parts at (drop (length parts) parts))
+  no_parts_left parts h =
+      subst (λ ps. P (open_parts at ps)) (sym (drop_all (length parts) parts (omega arith))) h
 
-  pub one_part_more : (parts : List Part) (i : ℕ) (p : Part) → i < length parts →
-      p ≡ get_or parts i p → (b : PartGrains) →
-      ArePartGrains b
-      (PartThen (name_of p.name) p.order (at p.node) (optional_term p.constraint) (open_parts at (drop (i + 1) parts)))
-      m →
-      ArePartGrains b (open_parts at (drop i parts)) m
-  one_part_more parts i p lt e b h =
+  pub one_part_more : (parts : List Part) (i : ℕ) (p : Part) → i < length parts → p ≡ get_or parts i p →
+      P (PartThen (name_of p.name) p.order (at p.node) (optional_term p.constraint)
+      (open_parts at (drop (i + 1) parts))) → P (open_parts at (drop i parts))
+  one_part_more parts i p lt e h =
       let split : drop i parts ≡ p ∷ drop (i + 1) parts = drop_more parts i p lt
       ∙ ap (λ x. x ∷ drop (i + 1) parts) (sym e) in
-      subst (λ ps. ArePartGrains b (open_parts at ps) m) (sym split) h
-
--- what is known of a node
-pub known_at : (nodes : List Node) (known : List TypeGrains) (m i : ℕ) (d : TypeGrains) → AreKnown nodes known m →
-    i < length known → AreGrains (get_or known i d) (type_of nodes i) m
-known_at nodes known m i d are lt = are.each i (get_or known i d) (slice_get-get_or known i d lt)
+      subst (λ ps. P (open_parts at ps)) (sym split) h
 
 -- the node of a field or a part is one of those that are known
 pub field_known : (count : ℕ) (fields : List Field) (i : ℕ) (f : Field) → FieldsBelow count fields → i < length fields →
@@ -66,44 +53,62 @@ pub part_known : (count : ℕ) (parts : List Part) (i : ℕ) (p : Part) → Part
     p ≡ get_or parts i p → p.node < count
 part_known count parts i p below lt is = subst (λ (q : Part). q.node < count) (sym is) (below i p lt)
 
--- one node more
-pub known_more : (nodes : List Node) (known : List TypeGrains) (m : ℕ) (g : TypeGrains) → AreKnown nodes known m →
-    AreGrains g (type_of nodes (length known)) m → AreKnown nodes (known ++ g ∷ []) m
-known_more nodes known m g h more = record {
-  each = λ k x at_known. elim (cases_lt k
-      (length known)) [ inl lt ↦ before k x at_known lt | inr le ↦ last k x at_known le ];
-}
-  where
-    longer : length (known ++ g ∷ []) ≡ length known + 1
-    longer = length-append known (g ∷ [])
+-- what holds of each item at its place
+module _ {A : Type 0} (Holds : A → (place : ℕ) → Type 0) where
+  abbrev pub AllHold : List A → Type 0
+  AllHold items = (i : ℕ) (a : A) → slice_get items i ≡ Some a → Holds a i
 
-    before : (k : ℕ) (x : TypeGrains) → slice_get (known ++ g ∷ []) k ≡ Some x → k < length known →
-        AreGrains x (type_of nodes k) m
+  pub holds_at : (items : List A) (i : ℕ) (d : A) → AllHold items → i < length items → Holds (get_or items i d) i
+  holds_at items i d all lt = all i (get_or items i d) (slice_get-get_or items i d lt)
+
+  pub none_hold : AllHold []
+  none_hold i a is = absurd (let within = slice_get_within [] i a is in omega arith)
+
+  module _ (items : List A) (a : A) (all : AllHold items) (more : Holds a (length items)) where
+    longer : length (items ++ a ∷ []) ≡ length items + 1
+    longer = length-append items (a ∷ [])
+
+    before : (k : ℕ) (x : A) → slice_get (items ++ a ∷ []) k ≡ Some x → k < length items → Holds x k
     before k x at_known lt =
-        let here = slice_get-get_or (known ++ g ∷ []) k x (let e = longer in omega arith) in
-        let there = slice_get-get_or known k x lt in
-        let left = get_or_append_left known (g ∷ []) x k lt in
-        h.each k x (there ∙ ap Some (sym left) ∙ sym here ∙ at_known)
+        let here = slice_get-get_or (items ++ a ∷ []) k x (let e = longer in omega arith) in
+        let there = slice_get-get_or items k x lt in
+        let left = get_or_append_left items (a ∷ []) x k lt in
+        all k x (there ∙ ap Some (sym left) ∙ sym here ∙ at_known)
 
-    last : (k : ℕ) (x : TypeGrains) → slice_get (known ++ g ∷ []) k ≡ Some x → length known ≤ k →
-        AreGrains x (type_of nodes k) m
+    last : (k : ℕ) (x : A) → slice_get (items ++ a ∷ []) k ≡ Some x → length items ≤ k → Holds x k
     last k x at_known le =
-        let within = slice_get_within (known ++ g ∷ []) k x at_known in
+        let within = slice_get_within (items ++ a ∷ []) k x at_known in
         let e = longer in
-        let same : k ≡ length known = omega arith in
-        let here : slice_get (known ++ g ∷ []) (length known) ≡ Some g =
-        slice_get-get_or (known ++ g ∷ []) (length known) g (omega arith) ∙ ap Some (get_or-append_seam known g [] g) in
-        let is_g : x ≡ g = let y = rw same at at_known in cc (y, here) in
-        rw (same, is_g) more
+        let same : k ≡ length items = omega arith in
+        let here : slice_get (items ++ a ∷ []) (length items) ≡ Some a =
+        slice_get-get_or (items ++ a ∷ []) (length items) a (omega arith)
+        ∙ ap Some (get_or-append_seam items a [] a) in
+        let is_a : x ≡ a = let y = rw same at at_known in cc (y, here) in
+        rw (same, is_a) more
+
+    pub one_more_holds : AllHold (items ++ a ∷ [])
+    one_more_holds k x at_known = elim (cases_lt k
+        (length items)) [ inl lt ↦ before k x at_known lt | inr le ↦ last k x at_known le ]
+
+-- what is known of a node
+pub known_at : (nodes : List Node) (known : List TypeGrains) (m i : ℕ) (d : TypeGrains) → AreKnown nodes known m →
+    i < length known → AreGrains (get_or known i d) (type_of nodes i) m
+known_at nodes known m i d are = holds_at (λ g i. AreGrains g (type_of nodes i) m) known i d are.each
+
+-- the type of a node, from its shape
+pub opened_type : (P : PokeType → Type 0) (nodes : List Node) → IsTable nodes → (count : ℕ) (node : Node) →
+    slice_get nodes count ≡ Some node → P (open_shape (type_of nodes) node.shape) → P (type_of nodes count)
+opened_type P nodes table count node is = subst P (sym (opens nodes table count node is))
 
 -- the next node of a table
 pub next_known : (nodes : List Node) → IsTable nodes → (known : List TypeGrains) (m : ℕ) (node : Node)
     (g : TypeGrains) → slice_get nodes (length known) ≡ Some node → AreKnown nodes known m →
     ((ns : List Node) → AreKnown ns known m → AreGrains g (open_shape (type_of ns) node.shape) m) →
     AreKnown nodes (known ++ g ∷ []) m
-next_known nodes table known m node g is are h =
-    known_more nodes known m g are
-    (subst (λ t. AreGrains g t m) (sym (opens nodes table (length known) node is)) (h nodes are))
+next_known nodes table known m node g is are h = record {
+  each = one_more_holds (λ a i. AreGrains a (type_of nodes i) m) known g are.each
+      (opened_type (λ t. AreGrains g t m) nodes table (length known) node is (h nodes are));
+}
 
 -- an item of the nodes of a table
 pub item_of : (nodes items : List Node) (count i : ℕ) (n : Node) → items ≡ nodes → count ≡ i → i < length items →
@@ -113,7 +118,7 @@ item_of nodes items count i n same is lt e = subst (λ xs. slice_get xs count �
 
 -- nothing is known yet
 pub none_known : (nodes : List Node) (m : ℕ) → AreKnown nodes [] m
-none_known nodes m = record { each = λ i g is. absurd (let within = slice_get_within [] i g is in omega arith) }
+none_known nodes m = record { each = none_hold (λ g i. AreGrains g (type_of nodes i) m) }
 
 -- the next node names only nodes that are known
 pub next_below : (nodes : List Node) → IsTable nodes → (count i : ℕ) (d : Node) → count ≡ i → i < length nodes →

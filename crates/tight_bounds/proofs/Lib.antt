@@ -6,7 +6,7 @@ mod Wide
 mod Spent
 mod Spending
 mod Tighter
-mod Known
+pub mod Known
 mod Paid
 mod SlotsTight
 mod Rows

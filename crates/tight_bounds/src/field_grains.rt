@@ -67,7 +67,7 @@ fn own_grains(field: &Field) -> Option<u128>
 }
 
 /// Whether a field, or one of those after it, has a label.
-fn is_labelled(field: &Field, rest: bool) -> bool
+pub fn is_labelled(field: &Field, rest: bool) -> bool
     ensures { result ≡ (is_some (optional_term field.now.label) || rest) }
 {
     field.label.is_some() || rest

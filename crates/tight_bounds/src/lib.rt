@@ -2,8 +2,8 @@
 #![tactic(auto)]
 
 pub mod bound;
-mod field_grains;
-mod grains;
+pub mod field_grains;
+pub mod grains;
 pub mod laws;
 mod nodes;
 mod part_grains;

@@ -2,7 +2,7 @@
 
 ghost use Rattle.std.specs.Prelude.{◌≡◌, ◌+◌, ◌<◌, Option, Some, None, length, All, if◌then◌else◌};
 ghost use Rattle.mapping_plans.specs.Rows.{Layout, array_layout, clause_avoids, element_layout, field_layout, fields_layout, layout_of, literal_count, number_layout, parts_layout, scalar_width, some_bytes};
-ghost use Rattle.pickle_map.specs.Layouts.{HasPlace, HasPartPlace, IsFew, IsLaid, IsSizeOf};
+ghost use Rattle.pickle_map.specs.Layouts.{HasPlace, HasPartPlace, IsFew, IsSizeOf};
 ghost use Rattle.pickle_types.specs.Table.{IsTable, IsWidth, bound_of, type_of, open_fields, open_parts, optional_term};
 
 use crate::mapper::packed_fields::{clause_avoids, scalar_width};
@@ -12,7 +12,7 @@ use pickle_types::view::{Extent, Field, Node, Part, Resolved, Shape};
 
 /// How many bits each value of such a type takes, and how many bytes its numbers take side by side.
 #[derive(Clone, Copy)]
-pub(crate) struct FixedSize {
+pub struct FixedSize {
     pub bits: u32,
     pub bytes: u32,
 }
@@ -49,8 +49,9 @@ fn literal_count(bound: &Extent) -> Option<u64>
 // The most bits of a number of an array.
 const MOST_BITS: u32 = 32;
 
-// The size of an array of at least one number. Each has a byte, so there are no more of them than bytes.
-fn numbers_size(nodes: &[Node], element: usize, bound: &Extent) -> Option<FixedSize>
+/// The size of an array of at least one number of at most 32 bits, of a literal count, if its numbers take at most 512
+/// bytes. Each has a byte, so there are no more of them than bytes.
+pub fn numbers_size(nodes: &[Node], element: usize, bound: &Extent) -> Option<FixedSize>
     requires table { IsTable nodes.now }
     requires element { element < length nodes.now }
     ensures size { IsSizeOf result
@@ -193,12 +194,16 @@ fn parts_size(nodes: &[Node], parts: &[Part], level: usize) -> Option<FixedSize>
     if all.bytes == 0 { None } else { Some(all) }
 }
 
-/// Whether the elements of an array of the type at a place of the table, which are no numbers and no structs of numbers,
-/// are kept as values of fixed layout. No step is counted for that, so little is looked at.
-pub(crate) fn is_laid(nodes: &[Node], at: usize) -> bool
+/// The size of each value of the type at a place of the table, if the elements of an array of it, which are no numbers and
+/// no structs of numbers, are kept as values of fixed layout. No step is counted for that, so little is looked at.
+pub(crate) fn laid_size(nodes: &[Node], at: usize) -> Option<FixedSize>
     requires table { IsTable nodes.now }
     requires at { at < length nodes.now }
-    ensures { IsLaid result (element_layout (type_of nodes.now at)) }
+    ensures { IsSizeOf result (element_layout (type_of nodes.now at)) }
 {
-    is_light(nodes, at) && size_at(nodes, at, 0).is_some()
+    if is_light(nodes, at) {
+        size_at(nodes, at, 0)
+    } else {
+        None
+    }
 }

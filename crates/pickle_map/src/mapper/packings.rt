@@ -2,12 +2,12 @@
 
 ghost use Rattle.std.specs.Prelude.{◌<◌, List, Some, length, All, IsTrue};
 ghost use Rattle.mapping_plans.specs.Rows.{element_layout, row_of, struct_row};
-ghost use Rattle.pickle_map.specs.Columns.{HasNode, ArePacked};
-ghost use Rattle.pickle_map.specs.Packings.{AreKept, IsLaidKind, is_right};
+ghost use Rattle.pickle_map.specs.Columns.{HasNode};
+ghost use Rattle.pickle_map.specs.Packings.{AreKept, IsLaidPacking, IsPackingOf, IsStructStride, is_right};
 ghost use Rattle.pickle_types.specs.declared.node.Node.{Node};
 ghost use Rattle.pickle_types.specs.Table.{IsTable, type_of, open_fields};
 
-use crate::mapper::layouts::is_laid;
+use crate::mapper::layouts::laid_size;
 use crate::mapper::packed_fields::stride_of;
 use pickle_types::view::{Field, Node, Shape};
 use std::alloc::Global;
@@ -37,31 +37,72 @@ pub struct Packings {
     others: Option<Vec<Option<Kept>>>,
 }
 
-// Whether structs with such fields are packed in an array.
-fn packs_structs(nodes: &[Node], pinned: bool, fields: &[Field]) -> bool
+/// How a store that packs arrays keeps the elements of one.
+#[derive(Clone, Copy)]
+pub enum Packing {
+    /// Each as a value of its own.
+    Apart,
+    /// As numbers of so many bits, side by side.
+    Numbers(u8),
+    /// As structs of so many numbers, side by side. Those of a struct take so many bytes.
+    Records { columns: usize, stride: usize },
+    /// As values of fixed layout: the bits of each in the file, and the bytes that its numbers take side by side.
+    Values { bits: u32, bytes: u32 },
+}
+
+// How many bytes the numbers of a struct with such fields take side by side, if such structs are packed in an array.
+fn struct_stride(nodes: &[Node], pinned: bool, fields: &[Field]) -> Option<usize>
     requires table { IsTable nodes.now }
     requires fields { All (HasNode nodes.now) fields.now }
-    ensures { ArePacked result (struct_row pinned (open_fields (type_of nodes.now) fields.now)) }
+    ensures { IsStructStride result (length fields.now)
+        (struct_row pinned (open_fields (type_of nodes.now) fields.now)) }
 {
     if pinned {
-        return false;
+        return None;
     }
-    match stride_of(nodes, fields) {
-        None => false,
-        Some(stride) => 1 <= stride,
-    }
+    let stride = stride_of(nodes, fields)?;
+    if 1 <= stride { Some(stride) } else { None }
 }
 
 // How the elements of an array are kept that are no numbers and no structs of numbers.
-fn laid_kind(nodes: &[Node], element: usize) -> Kept
+fn laid_packing(nodes: &[Node], element: usize) -> Packing
     requires table { IsTable nodes.now }
     requires element { element < length nodes.now }
-    ensures { IsLaidKind result (element_layout (type_of nodes.now element)) }
+    ensures { IsLaidPacking result (element_layout (type_of nodes.now element)) }
 {
-    if is_laid(nodes, element) {
-        Kept::Values
-    } else {
-        Kept::Apart
+    match laid_size(nodes, element) {
+        Some(own) => Packing::Values {
+            bits: own.bits,
+            bytes: own.bytes,
+        },
+        None => Packing::Apart,
+    }
+}
+
+/// How the elements of an array of the type at a place of the table are kept.
+pub fn packing_of(nodes: &[Node], element: usize) -> Packing
+    requires table { IsTable nodes.now }
+    requires element { element < length nodes.now }
+    ensures { IsPackingOf result (type_of nodes.now element) }
+{
+    match &nodes[element].shape {
+        Shape::Integer(number) => Packing::Numbers(number.width),
+        Shape::Offset(number, _) => Packing::Numbers(number.width),
+        Shape::Struct {
+            name: _,
+            pinned,
+            fields,
+        } => match struct_stride(nodes, *pinned, fields) {
+            Some(stride) => Packing::Records {
+                columns: fields.len(),
+                stride,
+            },
+            None => laid_packing(nodes, element),
+        },
+        Shape::Integral { .. } => laid_packing(nodes, element),
+        Shape::String => Packing::Apart,
+        Shape::Array(_, _) => Packing::Apart,
+        Shape::Union { .. } => Packing::Apart,
     }
 }
 
@@ -71,20 +112,11 @@ fn find_kind(nodes: &[Node], element: usize) -> Kept
     requires element { element < length nodes.now }
     ensures { IsTrue (is_right (row_of (type_of nodes.now element)) (Some result)) }
 {
-    match &nodes[element].shape {
-        Shape::Struct {
-            name: _,
-            pinned,
-            fields,
-        } => {
-            if packs_structs(nodes, *pinned, fields) {
-                Kept::Records
-            } else {
-                laid_kind(nodes, element)
-            }
-        }
-        Shape::Integral { .. } => laid_kind(nodes, element),
-        _ => Kept::Apart,
+    match packing_of(nodes, element) {
+        Packing::Apart => Kept::Apart,
+        Packing::Numbers(_) => Kept::Apart,
+        Packing::Records { .. } => Kept::Records,
+        Packing::Values { .. } => Kept::Values,
     }
 }
 

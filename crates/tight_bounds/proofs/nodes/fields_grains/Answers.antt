@@ -8,7 +8,8 @@ pub loop-at-init : goal.loop-at-init
 loop-at-init c = record {
   within = omega arith;
   so_far = λ nodes are.
-      no_fields_left (type_of nodes) c.args.bits c.args.fields.now _ (c.no_fields-all.ensures c.args.bits);
+      no_fields_left (type_of nodes) (λ xs. AreFieldGrains c.no_fields-all.result xs c.args.bits) c.args.fields.now
+      (c.no_fields-all.ensures c.args.bits);
 }
 
 pub loop-at-preserved : goal.loop-at-preserved
@@ -22,8 +23,8 @@ loop-at-preserved c =
     c.index-fields-at.is in
     record {
       within = omega arith;
-      so_far = λ nodes are. one_field_more (type_of nodes) m c.args.fields.now (c.loop-at.at - 1) found (omega arith)
-          c.index-fields-at.is _
+      so_far = λ nodes are. one_field_more (type_of nodes) (λ xs. AreFieldGrains c.field_and_rest-all.result xs m)
+          c.args.fields.now (c.loop-at.at - 1) found (omega arith) c.index-fields-at.is
           (c.field_and_rest-all.ensures _ _ (known_at nodes known m found.node _ are known_there)
           (subst (λ i. AreFieldGrains c.loop-at.all (open_fields (type_of nodes) (drop i c.args.fields.now)) m)
           (sym at) (c.loop-at.invariant.so_far nodes are)));

@@ -8,7 +8,8 @@ pub loop-at-init : goal.loop-at-init
 loop-at-init c = record {
   within = omega arith;
   so_far = λ nodes are.
-      no_parts_left (type_of nodes) c.args.bits c.args.parts.now _ (c.no_parts-all.ensures c.args.bits);
+      no_parts_left (type_of nodes) (λ xs. ArePartGrains c.no_parts-all.result xs c.args.bits) c.args.parts.now
+      (c.no_parts-all.ensures c.args.bits);
 }
 
 pub loop-at-preserved : goal.loop-at-preserved
@@ -21,8 +22,8 @@ loop-at-preserved c =
     part_known (length known) c.args.parts.now (c.loop-at.at - 1) found c.requires (omega arith) c.index-parts-at.is in
     record {
       within = omega arith;
-      so_far = λ nodes are. one_part_more (type_of nodes) m c.args.parts.now (c.loop-at.at - 1) found (omega arith)
-          c.index-parts-at.is _
+      so_far = λ nodes are. one_part_more (type_of nodes) (λ xs. ArePartGrains c.part_and_rest-all.result xs m)
+          c.args.parts.now (c.loop-at.at - 1) found (omega arith) c.index-parts-at.is
           (c.part_and_rest-all.ensures _ _ (known_at nodes known m found.node _ are known_there)
           (subst (λ i. ArePartGrains c.loop-at.all (open_parts (type_of nodes) (drop i c.args.parts.now)) m)
           (sym at) (c.loop-at.invariant.so_far nodes are)));
