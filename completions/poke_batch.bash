@@ -11,7 +11,7 @@ _poke_batch_options_of() {
         records) echo '--at --byte --length --endian --limit --slots --get --spool --progress --header --absent --count --omit --any-end --report-end --of --resume --mode --numbers --chars --elements --faults --why --flush --help' ;;
         find) echo '--at --byte --length --endian --slots --get --spool --progress --absent --step --header --apart --count --attempt-limit --limit --mode --numbers --chars --elements --faults --why --flush --help' ;;
         identify) echo '--spool --progress --all --in --byte --length --mode --faults --why --flush --files0-from --help' ;;
-        bound) echo '--text --tight --mode --numbers --chars --elements --why --help' ;;
+        bound) echo '--text --tight --memory --mode --numbers --chars --elements --why --help' ;;
         check) echo '--mode --why --help' ;;
         types) echo '--mode --parts --depth --why --help' ;;
         formats) echo '--mode --help' ;;

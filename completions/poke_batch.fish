@@ -131,6 +131,7 @@ complete -c poke_batch -n '__poke_batch_is identify' -l byte -x -d 'The byte whe
 complete -c poke_batch -n '__poke_batch_is identify' -l length -x -d 'After how many bytes from there FILE ends'
 complete -c poke_batch -n '__poke_batch_is bound' -l text -d 'Print the most bytes of the printed value too'
 complete -c poke_batch -n '__poke_batch_is bound' -l tight -d 'Print tighter bounds on the steps and slots too'
+complete -c poke_batch -n '__poke_batch_is bound' -l memory -d 'Print the most bytes that stored values take too'
 complete -c poke_batch -n '__poke_batch_is map' -l mode -xa 'flat tree json lines raw' -d 'How the value is printed'
 complete -c poke_batch -n '__poke_batch_is records' -l mode -xa 'flat tree json lines' -d 'How each value is printed'
 complete -c poke_batch -n '__poke_batch_is find' -l mode -xa 'flat json' -d 'How the line of a value is printed'

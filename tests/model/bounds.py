@@ -46,8 +46,12 @@ def bounds_of(of, bits):
     return 1 + evaluated + sum(1 + steps for steps, _ in inner), 1 + together([1 + slots for _, slots in inner] or [0])
 
 
+def told_bound(bound):
+    return bound if bound < KNOWN else "more than 2^128-1"
+
+
 def bounds_text(of, bits):
-    told = (it if it < KNOWN else "more than 2^128-1" for it in (*bounds_of(of, bits), *tight_bounds_of(of, bits)))
+    told = map(told_bound, (*bounds_of(of, bits), *tight_bounds_of(of, bits)))
     return "".join(f"{name} {it}\n" for name, it in zip(("steps", "slots", "tight steps", "tight slots"), told))
 
 

@@ -191,8 +191,9 @@ format_options =
 -- those of printed values and answers
 abbrev pub style_options : List Row
 style_options =
-    flag (only (codes "bound")) (codes "text")
+    tied_by (flag (only (codes "bound")) (codes "text")) (Apart (codes "memory"))
     ∷ tied_by (flag (only (codes "bound")) (codes "tight")) (Apart (codes "text"))
+    ∷ tied_by (flag (only (codes "bound")) (codes "memory")) (Apart (codes "tight"))
     ∷ defaulted (choice (only (codes "map")) (codes "mode") (codes "MODE") map_modes) (codes "flat")
     ∷ defaulted (choice (only (codes "records")) (codes "mode") (codes "MODE") modes) (codes "flat")
     ∷ defaulted (choice (only (codes "find")) (codes "mode") (codes "MODE") (codes "flat" ∷ codes "json" ∷ []))

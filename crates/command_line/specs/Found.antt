@@ -34,7 +34,7 @@ use Rattle.command_line.specs.declared.terms.Terms.{Terms}
 use Rattle.command_line.specs.declared.words.mapping.MappingWords.{MappingWords}
 use Rattle.command_line.specs.declared.words.Job.{Job}
 use Rattle.command_line.specs.declared.words.Job.TheVariants as job
-use Rattle.command_line.specs.declared.words.Job.TheVariants.{Map, Bound, BoundText, TightBound, Check, Types, Identify, Formats, Dump}
+use Rattle.command_line.specs.declared.words.Job.TheVariants.{Map, Bound, BoundText, TightBound, MemoryBound, Check, Types, Identify, Formats, Dump}
 use Rattle.command_line.specs.declared.identification.Identification.{Identification}
 use Rattle.command_line.specs.declared.request.Request.{Request}
 use Rattle.command_line.specs.declared.fault_form.FaultForm.{FaultForm}
@@ -425,8 +425,12 @@ Asks found (Map at order limit mode pickle name file) =
 Asks found (job.Request request) = AsksRequest found request
 Asks found (Bound pickle name bits) = AsksBound found (string_bytes pickle) (string_bytes name) bits
     × FlagIn (one_text found (codes "text")) false × FlagIn (one_text found (codes "tight")) false
+    × FlagIn (one_text found (codes "memory")) false
 Asks found (TightBound pickle name bits) = AsksBound found (string_bytes pickle) (string_bytes name) bits
     × FlagIn (one_text found (codes "text")) false × FlagIn (one_text found (codes "tight")) true
+Asks found (MemoryBound pickle name bits) = AsksBound found (string_bytes pickle) (string_bytes name) bits
+    × FlagIn (one_text found (codes "text")) false × FlagIn (one_text found (codes "tight")) false
+    × FlagIn (one_text found (codes "memory")) true
 Asks found (BoundText pickle name bits mode style) = AsksBound found (string_bytes pickle) (string_bytes name) bits
     × FlagIn (one_text found (codes "text")) true × NamesModeIfAny (first_value found (codes "mode")) mode
     × NamesStyle found plain style
@@ -464,6 +468,7 @@ IsJobOf command (Map at order limit mode pickle name file) = command ≡ Some (c
 IsJobOf command (job.Request request) = IsRequestOf command request.form request.over
 IsJobOf command (Bound pickle name bits) = command ≡ Some (codes "bound")
 IsJobOf command (TightBound pickle name bits) = command ≡ Some (codes "bound")
+IsJobOf command (MemoryBound pickle name bits) = command ≡ Some (codes "bound")
 IsJobOf command (BoundText pickle name bits mode style) = command ≡ Some (codes "bound")
 IsJobOf command (Types pickle) = command ≡ Some (codes "types")
 IsJobOf command (job.Parts pickle name depth) = command ≡ Some (codes "types")

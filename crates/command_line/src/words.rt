@@ -123,6 +123,13 @@ pub enum Job {
         name: String,
         bits: u64,
     },
+    /// Print the most steps and slots that a mapping of a type over `bits` bits takes, and the most bytes that its values
+    /// take while it goes on. The type `-` is as above.
+    MemoryBound {
+        pickle: String,
+        name: String,
+        bits: u64,
+    },
     /// Print the most steps and slots that a mapping of a type over `bits` bits takes, and the most bytes of its
     /// printed value in `mode`, or in every mode, in a style. The type `-` is as above.
     BoundText {
@@ -898,6 +905,9 @@ fn read_bound(alloc: Global, found: &ArgMatches<'_>, words: &[String]) -> Result
     }
     if flag_of(found, "tight") {
         return Ok(Job::TightBound { pickle, name, bits });
+    }
+    if flag_of(found, "memory") {
+        return Ok(Job::MemoryBound { pickle, name, bits });
     }
     Ok(Job::Bound { pickle, name, bits })
 }

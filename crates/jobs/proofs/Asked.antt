@@ -10,10 +10,21 @@ use Rattle.command_line.specs.declared.words.Job.{Job}
 use Rattle.command_line.specs.declared.words.Job.TheVariants as job
 use Rattle.part_lists.specs.PartRuns.{PartsAs}
 use Rattle.jobs.specs.Due.{DueOver, DueRun, End, Holds}
-use Rattle.jobs.specs.Given.{DueAnswer, IsAskedAbout, IsOverFiles, of_bound, of_check, of_parts, of_text, of_tight, of_types}
+use Rattle.jobs.specs.Given.{DueAnswer, IsAskedAbout, IsOverFiles, of_bound, of_check, of_memory, of_parts, of_text, of_tight, of_types}
 use Rattle.jobs.specs.Gives.{Gives}
-use Rattle.jobs.specs.Jobs.{DueBound, DueCheckIn, DueTextBound, DueTightBound, DueTypesIn, HoldsJob}
+use Rattle.jobs.specs.Jobs.{DueBound, DueCheckIn, DueTypesIn, HoldsJob}
+use Rattle.jobs.specs.declared.pickles.BoundOf.{BoundOf}
+use Rattle.jobs.specs.declared.pickles.BoundOf.TheVariants as bound
 use Rattle.jobs.specs.declared.pickles.Question.{Question}
+
+-- the answer of a question about bounds, by the arguments of its job
+bound_holds : (gives : Gives) (word name : List ℕ) (of : BoundOf) {pickle type : List ℕ}
+    (out out' : Option (List ℕ)) (end : End) → word ≡ pickle → name ≡ type →
+    Holds (DueOver gives word (DueBound word name of)) out out' end →
+    Holds (DueOver gives pickle (DueBound pickle type of)) out out' end
+bound_holds gives word name of {pickle = pickle} out out' end is same h =
+    subst (λ n. Holds (DueOver gives pickle (DueBound pickle n of)) out out' end) same
+    (subst (λ w. Holds (DueOver gives w (DueBound w name of)) out out' end) is h)
 
 -- the answer of a question is that of its job
 pub question_holds : (gives : Gives) (why : Bool) (asked : Job) (form : AnswerForm) (word : List ℕ)
@@ -27,17 +38,16 @@ question_holds gives why _ form word _ out out' end (of_types is) h =
 question_holds gives why _ form word _ out out' end (of_parts {pickle = pickle} {depth = depth} given is same) h =
     subst (λ n. Holds (DueOver gives (string_bytes pickle) (λ bytes. DueRun (PartsAs bytes n depth form))) out out' end)
     same (subst (λ w. Holds (DueOver gives w (λ bytes. DueRun (PartsAs bytes given.now depth form))) out out' end) is h)
-question_holds gives why _ form word _ out out' end (of_bound {pickle = pickle} {bits = bits} given is same) h =
-    subst (λ n. Holds (DueOver gives (string_bytes pickle) (DueBound (string_bytes pickle) n bits)) out out' end) same
-    (subst (λ w. Holds (DueOver gives w (DueBound w given.now bits)) out out' end) is h)
-question_holds gives why _ form word _ out out' end (of_tight {pickle = pickle} {bits = bits} given is same) h =
-    subst (λ n. Holds (DueOver gives (string_bytes pickle) (DueTightBound (string_bytes pickle) n bits)) out out' end)
-    same (subst (λ w. Holds (DueOver gives w (DueTightBound w given.now bits)) out out' end) is h)
+question_holds gives why _ form word _ out out' end (of_bound {bits = bits} given is same) h =
+    bound_holds gives word given.now (bound.Plain bits) out out' end is same h
+question_holds gives why _ form word _ out out' end (of_tight {bits = bits} given is same) h =
+    bound_holds gives word given.now (bound.Tight bits) out out' end is same h
+question_holds gives why _ form word _ out out' end (of_memory {bits = bits} given is same) h =
+    bound_holds gives word given.now (bound.Memory bits) out out' end is same h
 question_holds gives why _ form word _ out out' end
-    (of_text {pickle = pickle} {bits = bits} {mode = mode} {style = style} given is same) h =
-    subst (λ n. Holds (DueOver gives (string_bytes pickle) (DueTextBound (string_bytes pickle) n bits style mode))
-    out out' end) same
-    (subst (λ w. Holds (DueOver gives w (DueTextBound w given.now bits style mode)) out out' end) is h)
+    (of_text {bits = bits} {mode = mode} {style = style} given is same) h =
+    bound_holds gives word given.now (bound.Text (record { bits = bits; style = style; mode = mode })) out out' end is
+    same h
 
 -- the list of formats is the one job that is left
 pub only_formats : (asked : Job) → IsOverFiles asked
@@ -54,6 +64,7 @@ only_formats (job.Identify files) over map request dump identify = absurd (ident
 only_formats job.Formats over map request dump identify = refl
 only_formats (job.Bound pickle name bits) over map request dump identify = absurd over
 only_formats (job.TightBound pickle name bits) over map request dump identify = absurd over
+only_formats (job.MemoryBound pickle name bits) over map request dump identify = absurd over
 only_formats (job.BoundText pickle name bits mode style) over map request dump identify = absurd over
 only_formats (job.Check pickle) over map request dump identify = absurd over
 only_formats (job.Types pickle) over map request dump identify = absurd over

@@ -9,7 +9,7 @@ use Rattle.jobs.specs.Aims.{of_type, settled_terms}
 use Rattle.jobs.specs.Asides.{TellsRequest, TellsSettled, tells_request, tells_settled}
 use Rattle.jobs.specs.Chosen.{ChosenType, chosen, first_order}
 use Rattle.jobs.specs.Due.{End}
-use Rattle.jobs.specs.Given.{IsAskedAbout, of_bound, of_check, of_parts, of_text, of_tight, of_types}
+use Rattle.jobs.specs.Given.{IsAskedAbout, of_bound, of_check, of_memory, of_parts, of_text, of_tight, of_types}
 use Rattle.jobs.specs.Gives.{Gives}
 use Rattle.jobs.specs.Reasons.{ExplainsWord, word_of}
 use Rattle.jobs.specs.declared.pickles.Question.{Question}
@@ -40,6 +40,8 @@ question_explains gives why reasons _ form word _ end (of_parts given is named) 
 question_explains gives why reasons _ form word _ end (of_bound given is named) h =
     subst (λ w. ExplainsWord gives (Some w) why reasons end) is h
 question_explains gives why reasons _ form word _ end (of_tight given is named) h =
+    subst (λ w. ExplainsWord gives (Some w) why reasons end) is h
+question_explains gives why reasons _ form word _ end (of_memory given is named) h =
     subst (λ w. ExplainsWord gives (Some w) why reasons end) is h
 question_explains gives why reasons _ form word _ end (of_text given is named) h =
     subst (λ w. ExplainsWord gives (Some w) why reasons end) is h

@@ -140,6 +140,7 @@ TellsJob gives why (job.Identify asked) form = TellsFormats gives why asked form
 TellsJob gives why (job.Map at order limit mode pickle name file) form = λ text. ⊥
 TellsJob gives why (job.Bound pickle name bits) form = λ text. ⊥
 TellsJob gives why (job.TightBound pickle name bits) form = λ text. ⊥
+TellsJob gives why (job.MemoryBound pickle name bits) form = λ text. ⊥
 TellsJob gives why (job.BoundText pickle name bits mode style) form = λ text. ⊥
 TellsJob gives why (job.Check pickle) form = λ text. ⊥
 TellsJob gives why (job.Types pickle) form = λ text. ⊥

@@ -16,13 +16,14 @@ use Rattle.jobs.specs.Due.{DueRun, End, Holds}
 use Rattle.jobs.specs.FaultNames.{list_failure}
 use Rattle.jobs.specs.Gives.{Gives}
 use Rattle.jobs.specs.Files.{Every}
-use Rattle.jobs.specs.Jobs.{DueBound, DueCheckIn, DueIfAny, DueList, DueMapping, DueTextBound, DueTightBound, DueTypesIn, DueWords, HoldsDump}
+use Rattle.jobs.specs.Jobs.{DueBound, DueCheckIn, DueIfAny, DueList, DueMapping, DueTypesIn, DueWords, HoldsDump}
 use Rattle.jobs.specs.Spaces.{DueSpace, MayShow}
 use Rattle.jobs.specs.declared.dumps.Range.{Range}
 use Rattle.jobs.specs.declared.ending.Ending.{Ending}
 use Rattle.jobs.specs.declared.ending.Ending.TheVariants.{Run, Silent}
 use Rattle.jobs.specs.declared.fault.FileFault.TheVariants as fault
 use Rattle.jobs.specs.declared.names.ListFault.{ListFault}
+use Rattle.jobs.specs.declared.pickles.BoundOf.TheVariants as bound
 use Rattle.jobs.specs.declared.pickles.Question.{Question}
 use Rattle.jobs.specs.declared.pickles.Question.TheVariants as about
 use Rattle.part_lists.specs.PartRuns.{PartsAs}
@@ -47,10 +48,7 @@ abbrev pub DueAnswer : (why : Bool) → (word : List ℕ) → Question → (pick
 DueAnswer why word (about.Check form) pickle = DueCheckIn why form pickle
 DueAnswer why word (about.Types form) pickle = DueTypesIn why form pickle
 DueAnswer why word (about.Parts name depth form) pickle = DueRun (PartsAs pickle name.now depth form)
-DueAnswer why word (about.Bound name bits) pickle = DueBound word name.now bits pickle
-DueAnswer why word (about.TightBound name bits) pickle = DueTightBound word name.now bits pickle
-DueAnswer why word (about.BoundText name texts) pickle =
-    DueTextBound word name.now texts.bits texts.style texts.mode pickle
+DueAnswer why word (about.Bound name of) pickle = DueBound word name.now of pickle
 
 -- what is due of a request whose terms are settled, once its pickle says which type is mapped
 abbrev pub DueSettled : Gives → (why : Bool) → Request → (pickle : List ℕ) →
@@ -70,14 +68,17 @@ pub data IsAskedAbout (form : AnswerForm) (word : List ℕ) : Job → Question �
       → IsAskedAbout form word (job.Parts pickle name depth) (about.Parts given depth form)
   of_bound : {pickle name : String Global} {bits : ℕ} (given : Bor (List ℕ)) → word ≡ string_bytes pickle
       → given.now ≡ string_bytes name
-      → IsAskedAbout form word (job.Bound pickle name bits) (about.Bound given bits)
+      → IsAskedAbout form word (job.Bound pickle name bits) (about.Bound given (bound.Plain bits))
   of_tight : {pickle name : String Global} {bits : ℕ} (given : Bor (List ℕ)) → word ≡ string_bytes pickle
       → given.now ≡ string_bytes name
-      → IsAskedAbout form word (job.TightBound pickle name bits) (about.TightBound given bits)
+      → IsAskedAbout form word (job.TightBound pickle name bits) (about.Bound given (bound.Tight bits))
+  of_memory : {pickle name : String Global} {bits : ℕ} (given : Bor (List ℕ)) → word ≡ string_bytes pickle
+      → given.now ≡ string_bytes name
+      → IsAskedAbout form word (job.MemoryBound pickle name bits) (about.Bound given (bound.Memory bits))
   of_text : {pickle name : String Global} {bits : ℕ} {mode : Option Mode} {style : Style} (given : Bor (List ℕ))
       → word ≡ string_bytes pickle → given.now ≡ string_bytes name
       → IsAskedAbout form word (job.BoundText pickle name bits mode style)
-      (about.BoundText given (record { bits = bits; style = style; mode = mode }))
+      (about.Bound given (bound.Text (record { bits = bits; style = style; mode = mode })))
 
 -- the jobs that have none
 abbrev pub IsOverFiles : Job → Type 0
@@ -88,6 +89,7 @@ IsOverFiles (job.Dump from size ruler file) = Unit {0}
 IsOverFiles job.Formats = Unit {0}
 IsOverFiles (job.Bound pickle name bits) = ⊥
 IsOverFiles (job.TightBound pickle name bits) = ⊥
+IsOverFiles (job.MemoryBound pickle name bits) = ⊥
 IsOverFiles (job.BoundText pickle name bits mode style) = ⊥
 IsOverFiles (job.Check pickle) = ⊥
 IsOverFiles (job.Types pickle) = ⊥

@@ -46,7 +46,7 @@ use Rattle.type_parts.specs.CanHave.{can_have_requested}
 use Rattle.run_parts.specs.Accepted.{Refuses}
 use Rattle.run_parts.specs.DumpText.{dump_text}
 use Rattle.run_parts.specs.Outcomes.{outcome_members, outcome_saying, outcome_status}
-use Rattle.run_parts.specs.Told.{Text}
+use Rattle.run_parts.specs.Told.{Saying, Text}
 use Rattle.run_parts.specs.TypesText.{TypesAs}
 use Rattle.run_parts.specs.declared.accept.Refusal.{Refusal}
 use Rattle.run_parts.specs.declared.dump.DumpFault.TheVariants as dump
@@ -58,6 +58,9 @@ use Rattle.run_parts.specs.declared.status.Status.{Status}
 use Rattle.run_parts.specs.declared.status.Status.TheVariants.{Done, Refused}
 use Rattle.text_bounds.specs.TextRuns.{TextBoundsAs}
 use Rattle.tight_bounds.specs.TightRuns.{TightBoundsAs}
+use Rattle.memory_bounds.specs.MemoryRuns.{MemoryBoundAs}
+use Rattle.jobs.specs.declared.pickles.BoundOf.{BoundOf}
+use Rattle.jobs.specs.declared.pickles.BoundOf.TheVariants as bound
 use Rattle.text_output.specs.declared.mode.Mode.{Mode}
 use Rattle.text_output.specs.declared.style.Style.{Style}
 use Rattle.spool.specs.Window.{seen}
@@ -135,21 +138,17 @@ pub data DueIfAny {A : Type 0} (Due : A → (lines : List (List ℕ)) → Option
   usage_due : DueIfAny Due None [] (Some (Ok (Silent Refused)))
   usage_unwritten : DueIfAny Due None [] (Some (Ok (Run (outcome.Failed failure.Memory))))
 
--- of bounds of a type over so many bits, of tighter ones, and of the bound of its text, by the arguments for the pickle
--- and for the type
-abbrev pub DueBound : (word name : List ℕ) (bits : ℕ) → (pickle : List ℕ) →
-    (lines : List (List ℕ)) → Option End → Type 0
-DueBound word name bits pickle = DueIfAny (λ type. DueRun (BoundsAs pickle type bits)) (bound_type word name pickle)
+-- what a run prints that is requested to print such bounds of a type of a pickle
+abbrev pub BoundsOf : (pickle type : List ℕ) → BoundOf → Saying → Type 0
+BoundsOf pickle type (bound.Plain bits) = BoundsAs pickle type bits
+BoundsOf pickle type (bound.Tight bits) = TightBoundsAs pickle type bits
+BoundsOf pickle type (bound.Memory bits) = MemoryBoundAs pickle type bits
+BoundsOf pickle type (bound.Text texts) = TextBoundsAs pickle type texts.bits texts.style texts.mode
 
-abbrev pub DueTightBound : (word name : List ℕ) (bits : ℕ) → (pickle : List ℕ) →
+-- of bounds of a type, by the arguments for the pickle and for the type
+abbrev pub DueBound : (word name : List ℕ) → BoundOf → (pickle : List ℕ) →
     (lines : List (List ℕ)) → Option End → Type 0
-DueTightBound word name bits pickle =
-    DueIfAny (λ type. DueRun (TightBoundsAs pickle type bits)) (bound_type word name pickle)
-
-abbrev pub DueTextBound : (word name : List ℕ) (bits : ℕ) → Style → Option Mode → (pickle : List ℕ) →
-    (lines : List (List ℕ)) → Option End → Type 0
-DueTextBound word name bits style mode pickle =
-    DueIfAny (λ type. DueRun (TextBoundsAs pickle type bits style mode)) (bound_type word name pickle)
+DueBound word name of pickle = DueIfAny (λ type. DueRun (BoundsOf pickle type of)) (bound_type word name pickle)
 
 -- Of files: the lines of all of them, and the greatest exit status. A failure may stop them, and so does an output that
 -- fails.
@@ -237,11 +236,14 @@ module _ (gives : Gives) (why : Bool) where
       (DueFile (plain_request (string_bytes name) at order limit mode no_terms) (string_bytes file))
   DueJob (job.Request request) form = DueRequest request
   DueJob (job.Bound pickle name bits) form =
-      DueOver gives (string_bytes pickle) (DueBound (string_bytes pickle) (string_bytes name) bits)
+      DueOver gives (string_bytes pickle) (DueBound (string_bytes pickle) (string_bytes name) (bound.Plain bits))
   DueJob (job.TightBound pickle name bits) form =
-      DueOver gives (string_bytes pickle) (DueTightBound (string_bytes pickle) (string_bytes name) bits)
-  DueJob (job.BoundText pickle name bits mode style) form =
-      DueOver gives (string_bytes pickle) (DueTextBound (string_bytes pickle) (string_bytes name) bits style mode)
+      DueOver gives (string_bytes pickle) (DueBound (string_bytes pickle) (string_bytes name) (bound.Tight bits))
+  DueJob (job.MemoryBound pickle name bits) form =
+      DueOver gives (string_bytes pickle) (DueBound (string_bytes pickle) (string_bytes name) (bound.Memory bits))
+  DueJob (job.BoundText pickle name bits mode style) form = DueOver gives (string_bytes pickle)
+      (DueBound (string_bytes pickle) (string_bytes name)
+      (bound.Text (record { bits = bits; style = style; mode = mode })))
   DueJob (job.Check pickle) form = DueOver gives (string_bytes pickle) (DueCheckIn why form)
   DueJob (job.Types pickle) form = DueOver gives (string_bytes pickle) (DueTypesIn why form)
   DueJob (job.Parts pickle name depth) form =

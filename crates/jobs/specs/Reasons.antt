@@ -71,6 +71,7 @@ word_of (job.Map at order limit mode pickle name file) = Some (string_bytes pick
 word_of (job.Request request) = pickle_of request.subject
 word_of (job.Bound pickle name bits) = Some (string_bytes pickle)
 word_of (job.TightBound pickle name bits) = Some (string_bytes pickle)
+word_of (job.MemoryBound pickle name bits) = Some (string_bytes pickle)
 word_of (job.BoundText pickle name bits mode style) = Some (string_bytes pickle)
 word_of (job.Check pickle) = Some (string_bytes pickle)
 word_of (job.Types pickle) = Some (string_bytes pickle)

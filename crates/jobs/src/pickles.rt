@@ -2,9 +2,10 @@
 ghost use Rattle.std.specs.Prelude.{◌≡◌, IfNone, IfSome, Ok, Some};
 ghost use Rattle.jobs.specs.Due.{DueOver, Holds};
 ghost use Rattle.jobs.specs.Given.{DueAnswer, IsAskedAbout, IsOverFiles};
-ghost use Rattle.jobs.specs.Jobs.{DueBound, DueTextBound, DueTightBound};
+ghost use Rattle.jobs.specs.Jobs.{BoundsOf, DueBound};
 ghost use Rattle.jobs.specs.Reasons.{Explains, ExplainsWord};
 ghost use Rattle.jobs.specs.declared.ending.Ending.TheVariants.{Run};
+ghost use Rattle.run_parts.specs.Outcomes.{EndsAs};
 
 use crate::answers::{check_in_json, types_in_json};
 use crate::by_head::bound_type;
@@ -14,6 +15,7 @@ use crate::opener::{NamedPickle, Opener};
 use crate::usage::refuse;
 use crate::why::{Why, explain, warn};
 use command_line::answer_form::AnswerForm;
+use memory_bounds::run::memory_outcome;
 use part_lists::run::parts_outcome;
 use poke_batch::outcome::Outcome;
 use poke_batch::run::{bound_outcome, check_outcome};
@@ -38,21 +40,24 @@ pub enum Question<'a> {
         depth: Option<u64>,
         form: AnswerForm,
     },
-    /// The bounds of a mapping of a type over so many bits.
+    /// Bounds of a mapping of a type.
     Bound {
         name: &'a [u8],
-        bits: u64,
+        of: BoundOf,
     },
-    /// The same bounds, and tighter ones.
-    TightBound {
-        name: &'a [u8],
-        bits: u64,
-    },
-    /// The bounds, and the most bytes of the printed value.
-    BoundText {
-        name: &'a [u8],
-        texts: Texts,
-    },
+}
+
+/// Which bounds of a mapping are requested.
+#[derive(Clone, Copy)]
+pub enum BoundOf {
+    /// Those on steps and slots, over so many bits.
+    Plain(u64),
+    /// The same, and tighter ones.
+    Tight(u64),
+    /// Those on steps and slots, and the most bytes of what is stored.
+    Memory(u64),
+    /// Those on steps and slots, and the most bytes of the printed value.
+    Text(Texts),
 }
 
 /// The question of a job that reads a pickle alone, and the argument that names the pickle.
@@ -77,11 +82,18 @@ pub fn question_of(asked: &Asked) -> Option<(&str, Question<'_>)>
         }
         Job::Bound { pickle, name, bits } => {
             let name = name.as_bytes();
-            Some((pickle, Question::Bound { name, bits: *bits }))
+            let of = BoundOf::Plain(*bits);
+            Some((pickle, Question::Bound { name, of }))
         }
         Job::TightBound { pickle, name, bits } => {
             let name = name.as_bytes();
-            Some((pickle, Question::TightBound { name, bits: *bits }))
+            let of = BoundOf::Tight(*bits);
+            Some((pickle, Question::Bound { name, of }))
+        }
+        Job::MemoryBound { pickle, name, bits } => {
+            let name = name.as_bytes();
+            let of = BoundOf::Memory(*bits);
+            Some((pickle, Question::Bound { name, of }))
         }
         Job::BoundText {
             pickle,
@@ -91,12 +103,12 @@ pub fn question_of(asked: &Asked) -> Option<(&str, Question<'_>)>
             style,
         } => {
             let name = name.as_bytes();
-            let texts = Texts {
+            let of = BoundOf::Text(Texts {
                 bits: *bits,
                 style: *style,
                 mode: *mode,
-            };
-            Some((pickle, Question::BoundText { name, texts }))
+            });
+            Some((pickle, Question::Bound { name, of }))
         }
         Job::Map { .. } | Job::Request(_) | Job::Identify(_) | Job::Dump { .. } | Job::Formats =>
             None,
@@ -150,82 +162,48 @@ fn answer<O: Write>(
             let outcome = parts_outcome(alloc, &pickle.bytes, name, depth, form, out);
             end_in_words(alloc, outcome, pickle, name, why)
         }
-        Question::Bound { name, bits } => answer_bound(alloc, pickle, word, name, bits, out, why),
-        Question::TightBound { name, bits } => {
-            answer_tight_bound(alloc, pickle, word, name, bits, out, why)
-        }
-        Question::BoundText { name, texts } => {
-            answer_text_bound(alloc, pickle, word, name, texts, out, why)
-        }
+        Question::Bound { name, of } => answer_bound(alloc, pickle, word, name, of, out, why),
     }
 }
 
-// Prints the bounds of a mapping of a type over so many bits.
+// Prints bounds of a mapping of a type.
 fn answer_bound<O: Write>(
     alloc: Global,
     pickle: &NamedPickle,
     word: &str,
     name: &[u8],
-    bits: u64,
+    of: BoundOf,
     out: &mut O,
     why: &mut Why<'_>,
 ) -> Ending
-    ensures holds { Holds (DueBound word.now name.now bits pickle.now.bytes.items)
+    ensures holds { Holds (DueBound word.now name.now of pickle.now.bytes.items)
         (O.contents out.old) (O.contents out.new) (Ok result) }
     ensures says { Explains (λ source. source ≡ pickle.now) why.old.asked why.new.reasons.now (Ok result) }
 {
     match bound_type(word, name, &pickle.bytes) {
         Ok(name) => {
-            let outcome = bound_outcome(alloc, &pickle.bytes, name, bits, out);
+            let outcome = outcome_of(alloc, &pickle.bytes, name, of, out);
             end_in_words(alloc, outcome, pickle, name, why)
         }
         Err(missing) => refuse(why, word, missing),
     }
 }
 
-// Prints the same bounds, and tighter ones.
-fn answer_tight_bound<O: Write>(
+// The run that prints bounds of a type of a pickle.
+fn outcome_of<O: Write>(
     alloc: Global,
-    pickle: &NamedPickle,
-    word: &str,
+    pickle: &[u8],
     name: &[u8],
-    bits: u64,
+    of: BoundOf,
     out: &mut O,
-    why: &mut Why<'_>,
-) -> Ending
-    ensures holds { Holds (DueTightBound word.now name.now bits pickle.now.bytes.items)
-        (O.contents out.old) (O.contents out.new) (Ok result) }
-    ensures says { Explains (λ source. source ≡ pickle.now) why.old.asked why.new.reasons.now (Ok result) }
+) -> Outcome
+    ensures { EndsAs (BoundsOf pickle.now name.now of) result (O.contents out.old) (O.contents out.new) }
 {
-    match bound_type(word, name, &pickle.bytes) {
-        Ok(name) => {
-            let outcome = tight_outcome(alloc, &pickle.bytes, name, bits, out);
-            end_in_words(alloc, outcome, pickle, name, why)
-        }
-        Err(missing) => refuse(why, word, missing),
-    }
-}
-
-// Prints the bounds, and the most bytes of the printed value.
-fn answer_text_bound<O: Write>(
-    alloc: Global,
-    pickle: &NamedPickle,
-    word: &str,
-    name: &[u8],
-    texts: Texts,
-    out: &mut O,
-    why: &mut Why<'_>,
-) -> Ending
-    ensures holds { Holds (DueTextBound word.now name.now texts.bits texts.style texts.mode pickle.now.bytes.items)
-        (O.contents out.old) (O.contents out.new) (Ok result) }
-    ensures says { Explains (λ source. source ≡ pickle.now) why.old.asked why.new.reasons.now (Ok result) }
-{
-    match bound_type(word, name, &pickle.bytes) {
-        Ok(name) => {
-            let outcome = bound_text_outcome(alloc, &pickle.bytes, name, texts, out);
-            end_in_words(alloc, outcome, pickle, name, why)
-        }
-        Err(missing) => refuse(why, word, missing),
+    match of {
+        BoundOf::Plain(bits) => bound_outcome(alloc, pickle, name, bits, out),
+        BoundOf::Tight(bits) => tight_outcome(alloc, pickle, name, bits, out),
+        BoundOf::Memory(bits) => memory_outcome(alloc, pickle, name, bits, out),
+        BoundOf::Text(texts) => bound_text_outcome(alloc, pickle, name, texts, out),
     }
 }
 

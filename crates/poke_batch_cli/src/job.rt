@@ -216,6 +216,7 @@ fn pickle_of(job: &Job) -> Option<&str> {
         Job::Map { pickle, .. }
         | Job::Bound { pickle, .. }
         | Job::TightBound { pickle, .. }
+        | Job::MemoryBound { pickle, .. }
         | Job::BoundText { pickle, .. }
         | Job::Check { pickle }
         | Job::Types { pickle }

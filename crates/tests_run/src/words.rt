@@ -25,6 +25,7 @@ bound --text --numbers hex --chars text p T 25 ==> BoundText { pickle: "p", name
 bound --text --elements 3 p T 25 ==> BoundText { pickle: "p", name: "T", bits: 25, mode: None, style: Style { numbers: Decimal, chars: Numbers, elements: Some(3) } }
 bound --text --elements all p T 25 ==> BoundText { pickle: "p", name: "T", bits: 25, mode: None, style: Style { numbers: Decimal, chars: Numbers, elements: None } }
 bound --tight p T 25 ==> TightBound { pickle: "p", name: "T", bits: 25 }
+bound --memory p T 26 ==> MemoryBound { pickle: "p", name: "T", bits: 26 }
 dump f ==> Dump { from: 0, size: 128, ruler: true, file: "f" }
 dump - ==> Dump { from: 0, size: 128, ruler: true, file: "-" }
 dump --from 2#4 --size=16#b --no-ruler f ==> Dump { from: 1, size: 2, ruler: false, file: "f" }

@@ -11,7 +11,7 @@ use Rattle.pickle_types.specs.declared.node.Part.{Part}
 use Rattle.pickle_types.specs.declared.node.Node.{Node}
 use Rattle.pickle_types.specs.Bounds.{IsBound}
 use Rattle.pickle_types.specs.Holds.{is_none}
-use Rattle.pickle_types.specs.Types.{Term, Parts, PokeType, FieldThen, NoFields, PartThen, NoParts}
+use Rattle.pickle_types.specs.Types.{Term, Fields, Parts, PokeType, FieldThen, NoFields, PartThen, NoParts}
 use Rattle.pickle_types.specs.Table.{type_of, open_shape, open_fields, open_parts, name_of, optional_term, IsTable, FieldsBelow, PartsBelow, NamesBelow}
 use Rattle.pickle_types.proofs.Tables.{opens}
 use Rattle.tight_bounds.specs.declared.type_grains.TypeGrains.{TypeGrains}

@@ -515,10 +515,11 @@ const FORMATS: &[Argument] = &[
 
 /// The options of printed values and answers.
 const STYLE: &[Argument] = &[
-    // Also print how many bytes the printed value has at most.
+    // Also print how many bytes the printed value has at most. It excludes `--memory`.
     Argument {
         of: &["bound"],
         name: "text",
+        tie: Tie::Apart("memory"),
         help: "Print the most bytes of the printed value too",
         ..FLAG
     },
@@ -528,6 +529,14 @@ const STYLE: &[Argument] = &[
         name: "tight",
         tie: Tie::Apart("text"),
         help: "Print tighter bounds on the steps and slots too",
+        ..FLAG
+    },
+    // Also print how many bytes the stored values take at most, as `--memory` of `map` counts them. It excludes `--tight`.
+    Argument {
+        of: &["bound"],
+        name: "memory",
+        tie: Tie::Apart("tight"),
+        help: "Print the most bytes that stored values take too",
         ..FLAG
     },
     // How the value is printed. `flat` prints one line. `tree` prints a line for each part of the value, indented.

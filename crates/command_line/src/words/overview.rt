@@ -84,6 +84,7 @@ Options of identify:
 Options of bound:
   --text           print the most bytes of the printed value too
   --tight          print tighter bounds on the steps and slots too
+  --memory         print the most bytes that stored values take too
   --mode MODE      with --text, in this mode alone (flat, tree, json or lines) [default: in any]
   --numbers FORM   with --text, for numbers in this form (decimal, hex or digits) [default: decimal]
   --chars FORM     with --text, for arrays of char in this form (numbers or text) [default: numbers]

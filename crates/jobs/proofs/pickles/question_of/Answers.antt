@@ -1,4 +1,4 @@
-use Rattle.jobs.specs.Given.{of_bound, of_check, of_parts, of_text, of_tight, of_types}
+use Rattle.jobs.specs.Given.{of_bound, of_check, of_memory, of_parts, of_text, of_tight, of_types}
 use Rattle.jobs.proofs.pickles.question_of.Goals as goal
 
 pub returns-in-Check-clause-some : goal.returns-in-Check-clause-some
@@ -17,6 +17,10 @@ returns-in-Bound-clause-some c =
 pub returns-in-TightBound-clause-some : goal.returns-in-TightBound-clause-some
 returns-in-TightBound-clause-some c =
     rw c.in-TightBound.is (of_tight _ c.deref-in-TightBound.ensures c.as_bytes-name-in-TightBound.ensures.value)
+
+pub returns-in-MemoryBound-clause-some : goal.returns-in-MemoryBound-clause-some
+returns-in-MemoryBound-clause-some c =
+    rw c.in-MemoryBound.is (of_memory _ c.deref-in-MemoryBound.ensures c.as_bytes-name-in-MemoryBound.ensures.value)
 
 pub returns-in-BoundText-clause-some : goal.returns-in-BoundText-clause-some
 returns-in-BoundText-clause-some c =

@@ -1,0 +1,3 @@
+mod Least
+mod Laid
+mod Refused

@@ -1,0 +1,41 @@
+use Rattle.std.proofs.Common.{◌≡◌, ◌+◌, ◌-◌, drop, length, subst, sym, arith}
+use Rattle.pickle_types.specs.Table.{type_of, open_fields}
+use Rattle.tight_bounds.proofs.Known.{holds_at, field_known, no_fields_left, one_field_more}
+use Rattle.memory_bounds.specs.Held.{AreCapacities, AreFieldCapacities}
+use Rattle.memory_bounds.proofs.nodes.fields_capacity.Goals as goal
+
+pub loop-at-init : goal.loop-at-init
+loop-at-init c = record {
+  within = omega arith;
+  so_far = no_fields_left (type_of c.args.nodes.now)
+      (λ xs. AreFieldCapacities c.no_fields-all.result xs c.args.bits) c.args.fields.now
+      (c.no_fields-all.ensures c.args.bits);
+}
+
+pub loop-at-preserved : goal.loop-at-preserved
+loop-at-preserved c =
+    let m = c.args.bits in
+    let types = type_of c.args.nodes.now in
+    let known = c.args.known.now in
+    let at : c.loop-at.at - 1 + 1 ≡ c.loop-at.at = omega arith in
+    let found = c.index-fields-at.result in
+    let inside = field_known (length known) c.args.fields.now (c.loop-at.at - 1) found c.requires.below (omega arith)
+    c.index-fields-at.is in
+    let own = holds_at (λ a i. AreCapacities a (types i) m) known found.node _ c.requires.known.each inside in
+    record {
+      within = omega arith;
+      so_far = one_field_more types (λ xs. AreFieldCapacities c.field_and_rest-all.result xs m)
+          c.args.fields.now (c.loop-at.at - 1)
+          found (omega arith) c.index-fields-at.is
+          (c.field_and_rest-all.ensures _ _ own
+          (subst (λ i. AreFieldCapacities c.loop-at.all (open_fields types (drop i c.args.fields.now)) m) (sym at)
+          c.loop-at.invariant.so_far));
+    }
+
+pub returns : goal.returns
+returns c =
+    let none : c.loop-at.at ≡ 0 = omega (arith, c.loop-at-test.false) in
+    subst (λ i.
+    AreFieldCapacities c.loop-at.all (open_fields (type_of c.args.nodes.now) (drop i c.args.fields.now)) c.args.bits)
+    none
+    c.loop-at.invariant.so_far
