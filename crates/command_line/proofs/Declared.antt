@@ -1,5 +1,5 @@
 -- The arguments and commands of the program without ties.
-use Rattle.std.proofs.Common.{◌≡◌, ◌∙◌, ◌||◌, ◌+◌, ◌<◌, ℕ, Bool, true, false, List, [], ◌∷◌, ◌++◌, length, take, get_or, Result, Ok, Err, IfOk, refl, sym, ap, ap₂, subst, append_assoc, append-nil}
+use Rattle.std.proofs.Common.{◌≡◌, ◌∙◌, ◌||◌, ◌+◌, ◌<◌, ℕ, Bool, true, false, List, Option, [], ◌∷◌, ◌++◌, length, take, get_or, Result, Ok, Err, IfOk, refl, sym, ap, ap₂, subst, append_assoc, append-nil}
 use Rattle.std.proofs.lemmas.List.{map-append, take_more}
 use Rattle.clap.specs.Walk.{Rule, Text}
 use Rattle.clap.specs.Simple.{App, new_app, new_shape, with_rule, with_subcommand}
@@ -8,7 +8,7 @@ use Rattle.clap.specs.declared.Arg.{Arg}
 use Rattle.clap.specs.declared.Command.{Command}
 use Rattle.command_line.specs.declared.words.arguments.Argument.{Argument}
 use Rattle.command_line.specs.declared.words.commands.Verb.{Verb}
-use Rattle.command_line.specs.Commands.{Row, AreRows, IsArg, IsApp, IsTable, before_if, command_of, format_options, has, mapping_options, other_options, positionals, row_of, rules_of, rule_of_argument, style_options, verb_names, with_commands, with_rules}
+use Rattle.command_line.specs.Commands.{Row, AreRows, IsArg, IsApp, IsTable, before_if, command_of, format_options, has, listed, mapping_options, other_options, positionals, row_of, rules_of, rule_of_argument, style_options, verb_names, with_commands, with_rules}
 
 -- two groups of rows, one after the other
 both_are : (group more : List Argument) (rows others : List Row) → AreRows group rows → AreRows more others
@@ -117,28 +117,29 @@ pub commanded : (name : Text) (table : List Argument) (made : Command)
 commanded name table made is =
     let P : App → Type 0 = λ app. IsApp app made in subst P (rules_after name [] (rules_of name table)) is
 
-with_commands_append : (app : App) (names more : List Text) (table : List Argument)
-    → with_commands app (names ++ more) table ≡ with_commands (with_commands app names table) more table
-with_commands_append app [] more table = refl
-with_commands_append app (name ∷ names) more table =
-    with_commands_append (with_subcommand app (command_of name table).top) names more table
+with_commands_append : (app : App) (names more : List Text) (only : Option Text) (table : List Argument)
+    → with_commands app (names ++ more) only table ≡ with_commands (with_commands app names only table) more only table
+with_commands_append app [] more only table = refl
+with_commands_append app (name ∷ names) more only table =
+    with_commands_append (with_subcommand app (command_of name (listed only name table)).top) names more only table
 
-commands_more : (verbs : List Verb) (table : List Argument) (i : ℕ) (default : Verb) (app : App) → i < length verbs
-    → with_commands app (verb_names (take (i + 1) verbs)) table
-    ≡ with_subcommand (with_commands app (verb_names (take i verbs)) table)
-    (command_of (get_or verbs i default).name.now table).top
-commands_more verbs table i default app lt =
-    ap (λ some. with_commands app (verb_names some) table) (take_more verbs i default lt)
-    ∙ ap (λ names. with_commands app names table)
+commands_more : (verbs : List Verb) (only : Option Text) (table : List Argument) (i : ℕ) (default : Verb) (app : App)
+    → i < length verbs
+    → with_commands app (verb_names (take (i + 1) verbs)) only table
+    ≡ with_subcommand (with_commands app (verb_names (take i verbs)) only table)
+    (command_of (get_or verbs i default).name.now (listed only (get_or verbs i default).name.now table)).top
+commands_more verbs only table i default app lt =
+    ap (λ some. with_commands app (verb_names some) only table) (take_more verbs i default lt)
+    ∙ ap (λ names. with_commands app names only table)
     (map-append (λ (verb : Verb). verb.name.now) (take i verbs) (get_or verbs i default ∷ []))
-    ∙ with_commands_append app (verb_names (take i verbs)) ((get_or verbs i default).name.now ∷ []) table
+    ∙ with_commands_append app (verb_names (take i verbs)) ((get_or verbs i default).name.now ∷ []) only table
 
 -- one command more of those of the code
-pub command_added : (verbs : List Verb) (table : List Argument) (i : ℕ) (default : Verb) (old sub new : Command)
-    (app : App) → i < length verbs → AddsSubcommand old sub new
-    → IsApp (with_commands app (verb_names (take i verbs)) table) old
-    → IsApp (command_of (get_or verbs i default).name.now table) sub
-    → IsApp (with_commands app (verb_names (take (i + 1) verbs)) table) new
-command_added verbs table i default old sub new app lt adds is more =
+pub command_added : (verbs : List Verb) (only : Option Text) (table : List Argument) (i : ℕ) (default : Verb)
+    (old sub new : Command) (app : App) → i < length verbs → AddsSubcommand old sub new
+    → IsApp (with_commands app (verb_names (take i verbs)) only table) old
+    → IsApp (command_of (get_or verbs i default).name.now (listed only (get_or verbs i default).name.now table)) sub
+    → IsApp (with_commands app (verb_names (take (i + 1) verbs)) only table) new
+command_added verbs only table i default old sub new app lt adds is more =
     let P : App → Type 0 = λ made. IsApp made new in
-    subst P (sym (commands_more verbs table i default app lt)) (joined old sub new _ _ adds is more)
+    subst P (sym (commands_more verbs only table i default app lt)) (joined old sub new _ _ adds is more)

@@ -1,4 +1,5 @@
 pub mod Declared
+pub mod OneCommand
 pub mod SimpleProgram
 pub mod Parsed
 pub mod Entered

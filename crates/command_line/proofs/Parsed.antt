@@ -1,5 +1,6 @@
 -- What the parser finds for a program that is simple.
-use Rattle.std.proofs.Common.{◌≡◌, ◌∙◌, true, ℕ, List, [], Result, Ok, Err, IfOk, IfErr, sym, ap, subst}
+use Rattle.std.proofs.Common.{◌≡◌, ◌∙◌, true, ℕ, List, [], Option, Result, Ok, Err, IfOk, IfErr, IfSome, sym, ap, subst}
+use Rattle.clap.specs.Walk.{Text}
 use Rattle.clap.specs.Simple.{App, HasMatchesOf, app_of, is_simple, subcommand_of, subcommand_rows_of}
 use Rattle.clap.specs.Faults.{fault_of, is_simple_and_free}
 use Rattle.clap.specs.Kinds.{FailsBy, HasKind}
@@ -8,8 +9,9 @@ use Rattle.clap.specs.declared.Command.{Command}
 use Rattle.clap.specs.declared.Error.{Error}
 use Rattle.std.proofs.lemmas.Result.{IfOk-weaker, IfErr-weaker}
 use Rattle.command_line.specs.declared.words.arguments.Argument.{Argument}
-use Rattle.command_line.specs.Commands.{IsTable, IsApp, the_program}
-use Rattle.command_line.proofs.SimpleProgram.{is_simple_program, is_free_program}
+use Rattle.command_line.specs.Commands.{EntersCommand, IsTable, IsApp, program_with, the_program}
+use Rattle.command_line.proofs.OneCommand.{ReadAlike, reads_alike}
+use Rattle.command_line.proofs.SimpleProgram.{is_simple_with}
 use Rattle.command_line.specs.Commanded.{Finds, Fails}
 
 taken_by : (r : Result ArgMatches Error) (app program : App) (line : List (List ℕ)) → app ≡ program
@@ -29,19 +31,24 @@ failed_by (Ok m) app program line same free fails = tt
 failed_by (Err e) app program line same free fails =
     subst (λ a. HasKind (fault_of a line) e) same (fails (ap is_simple_and_free same ∙ free))
 
-pub finds : (r : Result ArgMatches Error) (command : Command) (table : List Argument) (line : List (List ℕ))
-    → IsTable table → IsApp (the_program table) command
+pub finds : (r : Result ArgMatches Error) (command : Command) (only : Option Text) (table : List Argument)
+    (line : List Text) → IsTable table → IfSome only (EntersCommand line) → IsApp (program_with only table) command
     → IfOk r (HasMatchesOf (app_of command) line)
     → (is_simple_and_free (app_of command) ≡ true → FailsBy (fault_of (app_of command) line) r)
     → IfOk r (Finds line)
-finds r command table line listed is found fails = IfOk-weaker r _ _
-    (λ m h. record { table = table; listed = listed; taken = h.0; found = h.1 })
-    (taken_by r (app_of command) (the_program table) line is.reads (is_simple_program table listed)
-    (is_free_program table listed) found fails)
+finds r command only table line listed enters is found fails =
+    let alike : ReadAlike (the_program table) (program_with only table) line = reads_alike only table line enters in
+    let simple = is_simple_with only table line listed enters in
+    IfOk-weaker r _ _
+    (λ m h. record { table = table; listed = listed; taken = alike.fails ∙ h.0; found = h.1 ∙ sym alike.enters })
+    (taken_by r (app_of command) (program_with only table) line is.reads simple.0 simple.1 found fails)
 
-pub fails : (r : Result ArgMatches Error) (command : Command) (table : List Argument) (line : List (List ℕ))
-    → IsTable table → IsApp (the_program table) command
+pub fails : (r : Result ArgMatches Error) (command : Command) (only : Option Text) (table : List Argument)
+    (line : List Text) → IsTable table → IfSome only (EntersCommand line) → IsApp (program_with only table) command
     → (is_simple_and_free (app_of command) ≡ true → FailsBy (fault_of (app_of command) line) r) → IfErr r (Fails line)
-fails r command table line listed is failing = IfErr-weaker r _ _
-    (λ e h. record { table = table; listed = listed; kind = h })
-    (failed_by r (app_of command) (the_program table) line is.reads (is_free_program table listed) failing)
+fails r command only table line listed enters is failing =
+    let alike : ReadAlike (the_program table) (program_with only table) line = reads_alike only table line enters in
+    let simple = is_simple_with only table line listed enters in
+    IfErr-weaker r _ _
+    (λ e h. record { table = table; listed = listed; kind = subst (λ kinds. HasKind kinds e) (sym alike.fails) h })
+    (failed_by r (app_of command) (program_with only table) line is.reads simple.1 failing)

@@ -1,7 +1,7 @@
 -- The commands and their arguments, without help texts, and how the parser reads them: without the ties between
 -- arguments.
 use Rattle.std.specs.Borrow.{Bor}
-use Rattle.std.specs.Prelude.{◌≡◌, true, false, Bool, ℕ, List, [], ◌∷◌, ◌++◌, map, Option, Some, None, codes, option_map}
+use Rattle.std.specs.Prelude.{◌≡◌, true, false, Bool, ℕ, List, [], ◌∷◌, ◌++◌, map, Option, Some, None, codes, option_map, if◌then◌else◌}
 use Rattle.std.specs.List.{list_any}
 use Rattle.std.specs.Str.{bytes_eq}
 use Rattle.clap.specs.Walk.{Rule, Text, rule_of, texts}
@@ -379,10 +379,16 @@ commands = codes "map" ∷ codes "show" ∷ codes "each" ∷ codes "records" ∷
 abbrev pub verb_names : List Verb → List Text
 verb_names verbs = map (λ verb. verb.name.now) verbs
 
+-- the arguments that a command has in a program in which only one command, if it is named, has arguments
+abbrev pub listed : (only : Option Text) → (command : Text) → List Argument → List Argument
+listed None command table = table
+listed (Some name) command table = if bytes_eq name command then table else []
+
 -- a program with the commands of these names, one after the other
-abbrev pub with_commands : App → (names : List Text) → List Argument → App
-with_commands app [] table = app
-with_commands app (name ∷ names) table = with_commands (with_subcommand app (command_of name table).top) names table
+abbrev pub with_commands : App → (names : List Text) → (only : Option Text) → List Argument → App
+with_commands app [] only table = app
+with_commands app (name ∷ names) only table =
+    with_commands (with_subcommand app (command_of name (listed only name table)).top) names only table
 
 -- a program whose commands have these rules, and of which one command must be given
 abbrev pub program_of : (rules_of : (command : Text) → List Rule) → App
@@ -394,6 +400,17 @@ program_of rules_of = record {
 -- the program of a table
 abbrev pub the_program : List Argument → App
 the_program table = program_of (λ command. rules_of command table)
+
+-- the same, in which only one command, if it is named, has arguments
+abbrev pub program_with : (only : Option Text) → List Argument → App
+program_with only table = program_of (λ command. rules_of command (listed only command table))
+
+-- the word after the program's name is a command
+pub record EntersCommand (line : List Text) (name : Text) : Type 0 where
+  pub program : Text
+  pub rest : List Text
+  pub is : line ≡ program ∷ name ∷ rest
+  pub known : list_any (λ command. bytes_eq command name) commands ≡ true
 
 -- what is built has the arguments of a rule or of a command, and none that reaches into other commands
 pub record IsArg (rule : Rule) (arg : Arg) : Type 0 where

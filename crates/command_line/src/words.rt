@@ -13,9 +13,10 @@ mod style;
 mod ties;
 mod usage;
 
-ghost use Rattle.std.specs.Prelude.{◌≡◌, ◌≢◌, ◌⊎◌, ℕ, List, [], Option, Some, codes, map, string_bytes, unwrap_or, None, MatchResult, IfOk, IfErr, OnOk, true, false};
+ghost use Rattle.std.specs.Prelude.{◌≡◌, ◌≢◌, ◌⊎◌, ℕ, List, [], Option, Some, codes, map, string_bytes, unwrap_or, None, MatchResult, IfOk, IfErr, IfSome, OnOk, true, false};
 ghost use Rattle.clap.specs.Matches.{found_of, first_value};
 ghost use Rattle.command_line.specs.Commanded.{Finds, Fails, AsksOf, AnswersIn, IsAskedBy, IsJobAskedBy, IsRefused, IsUnread, IsMisread, IsMisplaced, FailsTo, has_no_size};
+ghost use Rattle.command_line.specs.Commands.{EntersCommand};
 ghost use Rattle.command_line.specs.Ties.{keeps_ties};
 ghost use Rattle.command_line.specs.Misread.{FailsFor, IsNoRaw, MisreadRequest, Misread, Misplaced};
 ghost use Rattle.command_line.specs.Lines.{command_line};
@@ -43,7 +44,7 @@ use bit_space::Order;
 use bytes::{bits_if_any, bits_of, byte_of, bytes_in, window_of};
 use clap::ArgMatches;
 use clap::error::ErrorKind;
-use commands::{ATTEMPT_LIMIT, PROGRAM, SHOWN_LEVELS, program};
+use commands::{ATTEMPT_LIMIT, PROGRAM, SHOWN_LEVELS, is_command, program};
 pub use commands::{Verb, verbs};
 use found::{after_type, flag_of, number_if_any, number_of, type_word, word, word_if_any, word_of};
 use line::{command_line, without_help_of_help};
@@ -247,7 +248,20 @@ fn matches_of<'a>(alloc: Global, line: &'a [String]) -> Result<ArgMatches<'a>, c
     ensures finds { IfOk result (Finds (map string_bytes line.entry.now)) }
     ensures fails { IfErr result (Fails (map string_bytes line.entry.now)) }
 {
-    program(alloc, arguments(), Ties::Without)?.try_get_matches_from(line)
+    let program = program(alloc, arguments(), command_in(line), Ties::Without)?;
+    program.try_get_matches_from(line)
+}
+
+// The command that the first word after the program's name is, if it is one. The parser then looks at the arguments of
+// no other command.
+fn command_in<'a>(line: &'a [String]) -> Option<&'a str>
+    ensures { IfSome result (λ name. EntersCommand (map string_bytes line.entry.now) name.now) }
+{
+    let word = line.get(1)?.as_str();
+    match is_command(word) {
+        true => Some(word),
+        false => None,
+    }
 }
 
 // The job of the command that was found.
@@ -375,7 +389,7 @@ fn word_fault(alloc: Global, error: &clap::Error, words: &[String]) -> Result<Wo
 // The text of help for arguments, by the program with ties.
 fn help_of(alloc: Global, error: &clap::Error, words: &[String]) -> Result<String, AllocError> {
     let named = after_name(alloc, words)?;
-    match program(alloc, arguments(), Ties::With)?.try_get_matches_from(named.as_slice()) {
+    match program(alloc, arguments(), None, Ties::With)?.try_get_matches_from(named.as_slice()) {
         Ok(_matches) => text_of(alloc, error),
         Err(tied) => text_of(alloc, &tied),
     }
@@ -387,7 +401,7 @@ fn help_of(alloc: Global, error: &clap::Error, words: &[String]) -> Result<Strin
 fn usage_of(alloc: Global, words: &[String], ties: Ties) -> Result<String, AllocError> {
     let shown = shown_words(alloc, words)?;
     let named = after_name(alloc, shown.as_slice())?;
-    match program(alloc, arguments(), ties)?.try_get_matches_from(named.as_slice()) {
+    match program(alloc, arguments(), None, ties)?.try_get_matches_from(named.as_slice()) {
         Ok(_matches) if has_option(words, "--inside") => String::from_str(alloc, NO_HEAD),
         Ok(_matches) if has_option(words, "--resume") => String::from_str(alloc, NO_LIST),
         Ok(_matches) => String::from_str(alloc, WRONG_WORD),

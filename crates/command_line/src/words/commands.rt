@@ -1,8 +1,10 @@
 //! The commands, and the texts of their help.
-ghost use Rattle.std.specs.Prelude.{◌≡◌, IfOk};
+ghost use Rattle.std.specs.Prelude.{◌≡◌, IfOk, [], if◌then◌else◌, option_map};
+ghost use Rattle.std.specs.List.{list_any};
+ghost use Rattle.std.specs.Str.{bytes_eq};
 ghost use Rattle.clap.specs.Simple.{new_app};
 ghost use Rattle.clap.specs.Simple.{App};
-ghost use Rattle.command_line.specs.Commands.{IsApp, command_of, commands, table_of, the_program, verb_names, with_commands, without_commands};
+ghost use Rattle.command_line.specs.Commands.{IsApp, command_of, commands, listed, program_with, table_of, verb_names, with_commands, without_commands};
 
 use crate::words::arguments::Groups;
 use crate::words::overview::PROGRAM_HELP;
@@ -44,6 +46,15 @@ pub struct Verb {
     /// What follows its arguments in the long help.
     pub help: &'static str,
 }
+
+/// A table without arguments.
+const NO_ARGUMENTS: Groups = Groups {
+    mapping: &[],
+    formats: &[],
+    style: &[],
+    others: &[],
+    positionals: &[],
+};
 
 /// The commands, in the order in which help lists them.
 const VERBS: &[Verb] = &[
@@ -286,11 +297,32 @@ pub fn verbs() -> &'static [Verb]
     VERBS
 }
 
-/// The program with its commands.
-pub fn program<'a>(alloc: Global, table: Groups, ties: Ties) -> Result<Command<'a>, AllocError>
-    ensures { IfOk result (λ program. ties ≡ Ties.Without → IsApp (the_program (table_of table)) program) }
+/// Whether a word is the name of a command.
+pub fn is_command(word: &str) -> bool
+    ensures { result ≡ list_any (λ name. bytes_eq name word.now) commands }
 {
-    with_verbs(alloc, without_commands(alloc), verbs(), table, ties)
+    has_name(verbs(), word)
+}
+
+// Whether one of the commands has a name.
+fn has_name(verbs: &[Verb], name: &str) -> bool
+    ensures { result ≡ list_any (λ verb. bytes_eq verb.name.now name.now) verbs.now }
+{
+    verbs.iter().any(|verb| verb.name == name)
+}
+
+/// The program with its commands. If one of them is named, only that one gets its arguments: to make those of all takes
+/// longer than to map a short file.
+pub fn program<'a>(
+    alloc: Global,
+    table: Groups,
+    only: Option<&str>,
+    ties: Ties,
+) -> Result<Command<'a>, AllocError>
+    ensures { IfOk result (λ program. ties ≡ Ties.Without →
+        IsApp (program_with (option_map (λ name. name.now) only.entry) (table_of table)) program) }
+{
+    with_verbs(alloc, without_commands(alloc), verbs(), table, only, ties)
 }
 
 // The program with more commands.
@@ -299,14 +331,18 @@ fn with_verbs<'a>(
     program: Command<'a>,
     verbs: &'static [Verb],
     table: Groups,
+    only: Option<&str>,
     ties: Ties,
 ) -> Result<Command<'a>, AllocError>
     ensures { IfOk result (λ made. (app : App) → ties ≡ Ties.Without → IsApp app program.entry
-        → IsApp (with_commands app (verb_names verbs.entry.now) (table_of table)) made) }
+        →
+        IsApp
+        (with_commands app (verb_names verbs.entry.now) (option_map (λ name. name.now) only.entry) (table_of table))
+        made) }
 {
     let mut program = program;
     for verb in verbs {
-        program = program.subcommand(command(alloc, *verb, table, ties)?)?;
+        program = program.subcommand(command(alloc, *verb, table, only, ties)?)?;
     }
     Ok(program)
 }
@@ -322,16 +358,36 @@ fn without_commands<'a>(alloc: Global) -> Command<'a>
         .subcommand_required(true)
 }
 
+// A command, with its arguments if no other command alone has some.
 fn command<'a>(
     alloc: Global,
     verb: Verb,
     table: Groups,
+    only: Option<&str>,
     ties: Ties,
 ) -> Result<Command<'a>, AllocError>
-    ensures { IfOk result (λ command. ties ≡ Ties.Without →
-        IsApp (command_of verb.name.now (table_of table)) command) }
+    ensures { IfOk result (λ command. ties ≡ Ties.Without → IsApp (command_of verb.name.now
+        (listed (option_map (λ name. name.now) only.entry) verb.name.now (table_of table))) command) }
 {
+    let table = listed(only, verb.name, table);
     with_arguments(alloc, new_command(alloc, verb), verb.name, table, ties)
+}
+
+// The arguments that a command has, which are none if another command alone has some.
+fn listed(only: Option<&str>, command: &str, table: Groups) -> Groups
+    ensures { table_of result ≡ listed (option_map (λ name. name.now) only.entry) command.now (table_of table) }
+{
+    match only {
+        Some(name) => listed_if(name == command, table),
+        None => table,
+    }
+}
+
+// The arguments of a table, or none.
+fn listed_if(kept: bool, table: Groups) -> Groups
+    ensures { table_of result ≡ (if kept then table_of table else []) }
+{
+    if kept { table } else { NO_ARGUMENTS }
 }
 
 // A command without arguments.
