@@ -1,17 +1,16 @@
 -- The program in which one command alone has its arguments reads the words that begin with that command as the whole
 -- program does.
-use Rattle.std.proofs.Common.{◌≡◌, ◌∙◌, ◌||◌, ℕ, Bool, true, false, List, [], ◌∷◌, Option, Some, None, IfSome, String, is_some, codes, map, option_map, slice_get, string_bytes, refl, sym, ap, ap₂, subst}
+use Rattle.std.proofs.Common.{◌≡◌, ◌∙◌, ◌||◌, Bool, true, false, List, [], ◌∷◌, Option, Some, None, IfSome, String, is_some, codes, map, option_map, slice_get, string_bytes, refl, sym, ap, ap₂, subst}
 use Rattle.std.proofs.lemmas.Slice.Eq.{bytes_eq-Decides}
 use Rattle.std.specs.List.{fold, list_any}
 use Rattle.std.specs.Str.{bytes_eq}
-use Rattle.clap.specs.Walk.{Names, Row, Rule, Text, Walk, nothing_held, stop_after, walk, walk_from, walked}
-use Rattle.clap.specs.Simple.{App, argument_words, built, entered, is_simple, names_of, subcommand_of}
-use Rattle.clap.specs.Faults.{built_fault, entered_fault, fault_of, is_simple_and_free, level_fault}
-use Rattle.clap.specs.Kinds.{Kinds}
+use Rattle.clap.specs.Walk.{Names, Rule, Text, Walk, nothing_held, stop_after, walk, walk_from, walked}
+use Rattle.clap.specs.Simple.{App, argument_words, built, entered, names_of, subcommand_of}
+use Rattle.clap.specs.Faults.{entered_fault, fault_of, level_fault}
 use Rattle.clap.proofs.OnLiterals.{clap_on_literals}
 use Rattle.clap.proofs.WalkLemmas.{walk_stopped}
 use Rattle.command_line.specs.declared.words.arguments.Argument.{Argument}
-use Rattle.command_line.specs.Commands.{EntersCommand, IsTable, commands, program_with, the_program}
+use Rattle.command_line.specs.Commands.{EntersCommand, commands, program_with, the_program}
 
 -- both programs read these words alike
 pub record ReadAlike (a b : App) (words : List Text) : Type 0 where

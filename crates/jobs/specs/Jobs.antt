@@ -61,8 +61,6 @@ use Rattle.tight_bounds.specs.TightRuns.{TightBoundsAs}
 use Rattle.memory_bounds.specs.MemoryRuns.{MemoryBoundAs}
 use Rattle.jobs.specs.declared.pickles.BoundOf.{BoundOf}
 use Rattle.jobs.specs.declared.pickles.BoundOf.TheVariants as bound
-use Rattle.text_output.specs.declared.mode.Mode.{Mode}
-use Rattle.text_output.specs.declared.style.Style.{Style}
 use Rattle.spool.specs.Window.{seen}
 
 -- lines that explain an outcome, as a member of the object that reports it, if there are any

@@ -1,5 +1,4 @@
 -- What is due of a task with a file: its records, the bytes of a part, or the places of values.
-use Rattle.std.specs.Borrow.{Bor}
 use Rattle.std.specs.Prelude.{◌≡◌, ◌<◌, ◌≤◌, ◌*◌, ◌-◌, ℕ, Bool, true, false, if◌then◌else◌, List, [], ◌∷◌, max, Option, Some, None, is_some, Ok, Err, String, string_bytes}
 use Rattle.std.specs.declared.alloc.Global.{Global}
 use Rattle.bit_space.specs.SpaceView.{HasRisen, SpaceView}

@@ -3,7 +3,7 @@ use Rattle.std.proofs.Common.{◌≡◌, ℕ, zero, suc, ◌+◌, inl, inr, Bool
 use Rattle.std.specs.Prelude.{slice_get}
 use Rattle.std.proofs.lemmas.Bool.{cases_Bool}
 use Rattle.std.proofs.lemmas.Slice.Eq.{bytes_eq-Decides}
-use Rattle.pickle_tree.specs.Tree.{TreeReference, FieldParts, FormTree, FieldTrees, DeclarationTree}
+use Rattle.pickle_tree.specs.Tree.{TreeReference, FormTree, FieldTrees, DeclarationTree}
 use Rattle.pickle_tree.specs.Tree as tree
 use Rattle.pickle_types.specs.declared.check.enclosing.Enclosing.{Enclosing}
 use Rattle.pickle_types.specs.Types.{PokeType, IntegerOf, OffsetOf, StringOf, ArrayOf, StructOf, IntegralOf, UnionOf, Fields, NoFields, FieldThen, Parts, NoParts, PartThen}

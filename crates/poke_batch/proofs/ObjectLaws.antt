@@ -29,7 +29,7 @@ use Rattle.text_output.specs.declared.mode.Mode.TheVariants.{Json}
 use Rattle.value_text.specs.Json.{no_blank, one_blank, line_feed, ReadsValue, ReadsEntry, ReadsEntries, last_entry, number_value, string_value, object, Reads, json}
 use Rattle.value_text.specs.JsonText.{json_string}
 use Rattle.value_text.specs.JsonValue as value
-use Rattle.value_text.specs.JsonValue.{JsonList, EntryThen, NoEntries, whole_number}
+use Rattle.value_text.specs.JsonValue.{EntryThen, whole_number}
 use Rattle.value_text.specs.SmallParts.{AreBytes, HasSmallParts, HasFewMembers}
 use Rattle.value_text.specs.ValueText.{is_plain, escape_text}
 use Rattle.value_text.specs.Styled.{with_chars}

@@ -8,7 +8,7 @@ use Rattle.pickle_syntax.specs.declared.lexer.bytes.Class.TheVariants as class
 use Rattle.pickle_tree.specs.declared.tree.Unit.{Unit as PokeUnit}
 use Rattle.pickle_syntax.specs.Bytes.{is_in}
 use Rattle.pickle_syntax.specs.Tokens.{Token, Reserved, Named, Opens, Numeral, Character, Text, AttributeOf, Mark}
-use Rattle.pickle_tree.specs.Tree.{Tree, TreeReference, Int, Uint, Called, FieldParts, FormTree, Plain, StringForm, OffsetForm, ArrayForm, StructForm, IntegralForm, UnionForm, FieldTrees, DeclarationTree}
+use Rattle.pickle_tree.specs.Tree.{TreeReference, FieldParts, FormTree, Plain, StringForm, OffsetForm, ArrayForm, StructForm, IntegralForm, UnionForm, FieldTrees, DeclarationTree}
 use Rattle.pickle_tree.specs.Tree as tree
 use Rattle.pickle_syntax.specs.Show.{show_optional, show_part, show_name, show_order, show_pinned, show_parts, show_reference, show_form, show_fields, show_declaration, show_pickle}
 use Rattle.pickle_tree.specs.Limits.{standard, field_count, IsFormWithin, AreFieldsWithin, AreDeclarationsWithin}

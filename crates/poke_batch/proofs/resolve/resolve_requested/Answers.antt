@@ -1,4 +1,4 @@
-use Rattle.poke_batch.specs.RunsUnder.{lacks_part, lacks_type}
+use Rattle.poke_batch.specs.RunsUnder.{lacks_part}
 use Rattle.poke_batch.proofs.resolve.resolve_requested.Goals as goal
 
 -- src/resolve.rt
