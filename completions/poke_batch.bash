@@ -8,8 +8,8 @@ _poke_batch_options_of() {
         map) echo '--at --byte --length --inside --endian --limit --whole --max-output --memory --slots --get --spool --progress --rows --header --absent --mode --numbers --chars --elements --faults --why --help' ;;
         show) echo '--at --byte --length --inside --endian --limit --whole --max-output --memory --slots --get --spool --progress --absent --numbers --chars --elements --depth --sizes --bytes --color --help' ;;
         each) echo '--at --byte --length --inside --endian --limit --whole --max-output --memory --slots --get --spool --progress --absent --mode --numbers --chars --elements --faults --why --flush --files0-from --help' ;;
-        records) echo '--at --byte --length --endian --limit --slots --get --spool --progress --header --absent --count --omit --any-end --report-end --of --resume --mode --numbers --chars --elements --faults --why --flush --help' ;;
-        find) echo '--at --byte --length --endian --slots --get --spool --progress --absent --step --header --apart --count --attempt-limit --limit --mode --numbers --chars --elements --faults --why --flush --help' ;;
+        records) echo '--at --byte --length --endian --limit --memory --slots --get --spool --progress --header --absent --count --omit --any-end --report-end --of --resume --mode --numbers --chars --elements --faults --why --flush --help' ;;
+        find) echo '--at --byte --length --endian --memory --slots --get --spool --progress --absent --step --header --apart --count --attempt-limit --limit --mode --numbers --chars --elements --faults --why --flush --help' ;;
         identify) echo '--spool --progress --all --in --byte --length --mode --faults --why --flush --files0-from --help' ;;
         bound) echo '--text --tight --memory --mode --numbers --chars --elements --why --help' ;;
         check) echo '--mode --why --help' ;;

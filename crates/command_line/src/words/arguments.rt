@@ -243,15 +243,29 @@ const MAPPING: &[Argument] = &[
         ..OPTION
     },
     // The stored values take at most BYTES bytes, the values of attempts included. A mapping whose values would take more
-    // ends with `fault Storage`. The page on operators says [what is counted](OPERATORS.md#memory). It excludes `--slots`.
+    // ends with `fault Storage`. `records` stores one record at a time, after what is before the list. The page on operators
+    // says [what is counted](OPERATORS.md#memory). It excludes `--slots`.
     Argument {
-        of: &["map", "show", "each"],
+        of: &["map", "show", "each", "records"],
         name: "memory",
         value: "BYTES",
         accepts: Accepts::Number,
         tie: Tie::Apart("slots"),
         is_rare: true,
         help: "The most bytes that stored values may take [default: any number]",
+        ..OPTION
+    },
+    // The stored values of the attempt at one start take at most BYTES bytes. An attempt whose values would take more is
+    // given up, as by `--attempt-limit`. The page on operators says [what is counted](OPERATORS.md#memory). It excludes
+    // `--slots`.
+    Argument {
+        of: &["find"],
+        name: "memory",
+        value: "BYTES",
+        accepts: Accepts::Number,
+        tie: Tie::Apart("slots"),
+        is_rare: true,
+        help: "The most bytes that stored values of one attempt may take [default: any number]",
         ..OPTION
     },
     // Reserve N slots of each kind before the mapping, which then allocates no more memory for values. A slot

@@ -11,10 +11,12 @@ OFFSET is a number, # and a unit: b for bits, B for bytes, or a number of bits, 
 Options of map, show, each and records:
   --at OFFSET      where the value begins in FILE [default: 0#b]
   --byte N         the byte where the value begins, as 446, 0x1be or, from the end of FILE, -512 [default: 0]
+  --memory BYTES   the most bytes that stored values may take [default: any number]
 
 Options of find:
   --at OFFSET      where the search begins in FILE [default: 0#b]
   --byte N         the byte where the search begins, as 446, 0x1be or, from the end of FILE, -512 [default: 0]
+  --memory BYTES   the most bytes that stored values of one attempt may take [default: any number]
   --get PATH       print a part of the value after its place and size: . or steps of .name, .place, [place]
                    [default: none]
   --step OFFSET    how far each start is from the one before [default: 1#B]
@@ -43,7 +45,6 @@ Options of map, show and each:
                    [default: 1000000000]
   --whole          accept only a value that ends where FILE does [default: any end]
   --max-output N   the most bytes of the printed value [default: any length]
-  --memory BYTES   the most bytes that stored values may take [default: any number]
 
 Options of records:
   --limit N        the most steps of all records together [default: 1000000000, or 256 a byte if that is more]
