@@ -1,10 +1,11 @@
 -- What a store holds after the mapping of a record.
-use Rattle.std.proofs.Common.{◌≡◌, ◌∙◌, ◌<◌, ◌-◌, ◌*◌, ◌^◌, ℕ, List, Option, Some, Ok, sym, subst, arith}
+use Rattle.std.proofs.Common.{◌≡◌, ◌∙◌, ◌<◌, ◌-◌, ◌*◌, ◌^◌, ℕ, List, Option, Some, None, Ok, sym, subst, arith}
 use Rattle.std.proofs.lemmas.Option.{same_Some}
 use Rattle.bit_space.specs.Bits.{bits_of}
 use Rattle.bit_space.specs.SpaceView.{SpaceView}
 use Rattle.bit_space.specs.declared.meter.Meter.{Meter}
 use Rattle.bit_space.specs.declared.order.Order.{Order}
+use Rattle.command_line.specs.declared.terms.Terms.{Terms}
 use Rattle.mapping_plans.proofs.Fitting.{fits_inside}
 use Rattle.pickle_map.specs.Mapped.{FaultMeans, Gives}
 use Rattle.pickle_meaning.specs.Answer.{Answer}
@@ -12,12 +13,23 @@ use Rattle.pickle_meaning.specs.Values.{Value, no_values, value_at}
 use Rattle.pickle_meaning.specs.declared.faults.MapFaultKind.{MapFaultKind}
 use Rattle.pickle_types.specs.Types.{PokeType}
 use Rattle.pickle_types.specs.declared.node.Node.{Node}
+use Rattle.poke_batch.specs.RunsUnder.{IsStoreOf, IsStoreUnder, IsStoreWeighing}
 use Rattle.poke_batch.specs.TypeRuns.{run_type}
 use Rattle.poke_batch.specs.declared.type_run.TypeRun.{TypeRun}
 use Rattle.poke_batch.proofs.Mappings.{root_given}
 use Rattle.poke_batch.proofs.UnderTerms.{fits_start, starts_before_end}
 use Rattle.records.specs.Next.{HoldsValue, IsHeld}
 use Rattle.value_store.specs.Slots.{Held, levels}
+
+-- a store under terms is one of the most slots, or one of the most bytes
+pub of_slots : (terms : Terms) (store : Held) → IsStoreUnder terms.most_slots terms.most_bytes store
+    → terms.most_bytes ≡ None → IsStoreOf terms.most_slots store
+of_slots terms store is free = subst (λ (bytes : Option ℕ). IsStoreUnder terms.most_slots bytes store) free is
+
+pub of_weight : (terms : Terms) (store : Held) → IsStoreUnder terms.most_slots terms.most_bytes store → (most : ℕ)
+    → terms.most_bytes ≡ Some most → IsStoreWeighing most store
+of_weight terms store is most given =
+    subst (λ (bytes : Option ℕ). IsStoreUnder terms.most_slots bytes store) given is
 
 -- the answer of a mapping whose meter took no step before, in so many steps
 pub value_meant : (type : PokeType) (order : Order) (start limit steps : ℕ) (meter meter' : Meter)

@@ -21,7 +21,7 @@ use Rattle.pickle_types.specs.Types.{PokeType}
 use Rattle.pickle_types.specs.declared.table.Table.{Table}
 use Rattle.pickle_types.specs.declared.table.TypeId.{TypeId}
 use Rattle.poke_batch.specs.Runs.{IsAsked}
-use Rattle.poke_batch.specs.RunsUnder.{MapsUnder, end_saying}
+use Rattle.poke_batch.specs.RunsUnder.{AreLightUnder, MapsUnder, WeighsAtMost, end_under_saying}
 use Rattle.poke_batch.specs.TypeRuns.{run_type}
 use Rattle.poke_batch.specs.declared.type_run.TypeRun.{TypeRun}
 use Rattle.records.specs.Next.{EndsHere, EndsHereBy, GoesOn, GoesOnBy, HasFault, HoldsValue, IsNotPut, IsUntold, PutsDue, PutsHeld, cut_off, has_outcome, is_cut, is_empty, is_unput, is_untold, lacks_memory, no_more, omits, puts}
@@ -45,6 +45,15 @@ same_type : (run next : TypeRun) (at : Progress) → IsRunAt run at next → run
 same_type run next at h =
     ap (λ (t : Bor Table). type_named t.now next.id) h.table
     ∙ ap (λ (id : TypeId). type_named run.table.now id) h.id
+
+-- what is stored weighed as much when a list began
+pub light_since : {first before : SpaceView} {terms : Terms} {type : PokeType} {ask : Ask} → Keeps first before
+    → AreLightUnder terms type ask before → AreLightUnder terms type ask first
+light_since {first} {before} {terms} {type} {ask} since h = record {
+  light = λ most given bytes known.
+      subst (λ (len : ℕ). WeighsAtMost most type ask (8 * len) bytes) since.len
+      (h.light most given bytes (since.bytes ∙ known));
+}
 
 module _ (run next : TypeRun) (listing : Listing) (first before : SpaceView) (at : Progress)
     (is_next : IsRunAt run at next)
@@ -70,6 +79,12 @@ module _ (run next : TypeRun) (listing : Listing) (first before : SpaceView) (at
         (subst (λ (ty : PokeType). Fits (8 * first.len) ty no_values next.ask.now.start h.value)
         (same_type run next at is_next)
         (subst (λ (len : ℕ). Fits (8 * len) (run_type next) no_values next.ask.now.start h.value) since.len h.fits));
+    light =
+        subst (λ (terms : Bor Terms). AreLightUnder terms.now (run_type run) (ask_at at run.ask.now) first)
+        is_next.terms
+        (subst (λ (ask : Ask). AreLightUnder next.terms.now (run_type run) ask first) is_next.ask
+        (subst (λ (ty : PokeType). AreLightUnder next.terms.now ty next.ask.now first) (same_type run next at is_next)
+        (light_since since h.light)));
   }
 
   -- what a mapping says that has a fault
@@ -85,9 +100,9 @@ module _ (run next : TypeRun) (listing : Listing) (first before : SpaceView) (at
     until = view_kept done;
     says =
         subst (λ (terms : Bor Terms). MapsUnder pickle (ask_at at run.ask.now) terms.now before done
-        (end_saying terms.now.most_slots at.place why.kind why.at)) is_next.terms
+        (end_under_saying terms.now.most_slots terms.now.most_bytes at.place why.kind why.at)) is_next.terms
         (subst (λ (ask : Ask). MapsUnder pickle ask next.terms.now before done
-        (end_saying next.terms.now.most_slots ask.start why.kind why.at)) is_next.ask
+        (end_under_saying next.terms.now.most_slots next.terms.now.most_bytes ask.start why.kind why.at)) is_next.ask
         (has.says pickle
         (subst (λ (ask : Ask). IsAsked pickle ask.name.now (run_type next)) (sym is_next.ask)
         (subst (λ (ty : PokeType). IsAsked pickle run.ask.now.name.now ty) (sym (same_type run next at is_next))
@@ -99,7 +114,8 @@ pub ends_faulty : (pickle : List ℕ) (run : TypeRun) (listing : Listing) (first
     (why : MapFault) (ended : Outcome) → goes_on listing at (8 * first.len) ≡ true
     → Stops pickle run first last at why.kind why.at → (ends_array why.kind ≡ true → ended ≡ left_at listing at.place)
     → (ends_array why.kind ≡ false
-    → outcome_saying ended ≡ end_saying run.terms.now.most_slots at.place why.kind why.at)
+    → outcome_saying ended
+    ≡ end_under_saying run.terms.now.most_slots run.terms.now.most_bytes at.place why.kind why.at)
     → EndsList pickle run listing first last at ended
 ends_faulty pickle run listing first last at why ended on stop drops says = by_kind (ends_array why.kind) refl
   where
@@ -229,7 +245,8 @@ module _ (run : TypeRun) (listing : Listing) (first : SpaceView) (at : Progress)
       → (pickle : List ℕ) → IsAsked pickle run.ask.now.name.now (run_type run) → (ended : Outcome)
       → (ends_array why.kind ≡ true → ended ≡ left_at listing at.place)
       → (ends_array why.kind ≡ false
-      → outcome_saying ended ≡ end_saying run.terms.now.most_slots at.place why.kind why.at)
+      → outcome_saying ended
+      ≡ end_under_saying run.terms.now.most_slots run.terms.now.most_bytes at.place why.kind why.at)
       → EndsList pickle run listing first done at ended
   next_faulty {next} {before} {done} {why} h is_next since mapping paid on pickle asked ended drops says =
       let still = on_since listing at first before since on in

@@ -1,5 +1,5 @@
 -- What the functions that map and write one record do.
-use Rattle.std.specs.Prelude.{◌≡◌, ◌≢◌, ◌<◌, ◌≤◌, ◌*◌, ◌^◌, ℕ, true, false, List, [], ◌∷◌, Option, Some, Ok}
+use Rattle.std.specs.Prelude.{◌≡◌, ◌≢◌, ◌<◌, ◌≤◌, ◌*◌, ◌^◌, ℕ, true, false, List, [], ◌∷◌, Option, Some, None, Ok}
 use Rattle.std.specs.List.{concat}
 use Rattle.std.specs.Io.KnownBytes.{Appends, Keeps as KeepsBytes}
 use Rattle.bit_space.specs.Bits.{bits_of}
@@ -17,7 +17,7 @@ use Rattle.pickle_types.specs.TypeTable.{nodes_of}
 use Rattle.pickle_types.specs.Types.{PokeType}
 use Rattle.poke_batch.specs.FileLine.{in_memory}
 use Rattle.poke_batch.specs.Runs.{IsAsked}
-use Rattle.poke_batch.specs.RunsUnder.{AreTooFew, IsStoreOf, MapsUnder, end_saying}
+use Rattle.poke_batch.specs.RunsUnder.{AreLightUnder, AreTooFew, AreTooHeavy, IsStoreUnder, MapsUnder, end_under_saying}
 use Rattle.poke_batch.specs.TypeRuns.{run_type}
 use Rattle.poke_batch.specs.declared.type_run.TypeRun.{TypeRun}
 use Rattle.records.specs.Records.{IsRecord, is_written}
@@ -32,16 +32,16 @@ use Rattle.run_parts.specs.declared.outcome.Outcome.{Outcome}
 use Rattle.run_parts.specs.declared.outcome.Outcome.TheVariants as outcome
 use Rattle.value_store.specs.Slots.{Held, levels}
 
--- what is stored serves a run: its store is of the most slots, and what was found of the table's types is right
+-- what is stored serves a run: its store is one under its terms, and what was found of the table's types is right
 pub record IsReady (run : TypeRun) (kept : Kept) : Type 0 where
-  pub store : IsStoreOf run.terms.now.most_slots kept.store
+  pub store : IsStoreUnder run.terms.now.most_slots run.terms.now.most_bytes kept.store
   pub found : AreFound (nodes_of run.table.now) kept.findings
 
 -- the one value that a store holds
 abbrev pub held_value : TypeRun → Held → Option Value
 held_value run store = value_at (levels (nodes_of run.table.now) store) 0 0
 
--- a store holds the value of a run, which took so many steps
+-- a store holds the value of a run, which took so many steps, and never weighed more than the terms allow
 pub record HoldsValue (run : TypeRun) (space : SpaceView) (store : Held) (steps : ℕ) : Type 0 where
   pub value : Value
   pub there : held_value run store ≡ Some value
@@ -50,6 +50,7 @@ pub record HoldsValue (run : TypeRun) (space : SpaceView) (store : Held) (steps 
   pub means : (bytes : List ℕ) → space.bytes ≡ Some bytes →
       Answer (bits_of bytes) (run_type run) run.ask.now.order run.ask.now.start run.ask.now.limit (Ok value) steps made
   pub fits : Fits (8 * space.len) (run_type run) no_values run.ask.now.start value
+  pub light : AreLightUnder run.terms.now (run_type run) run.ask.now space
 
 -- a value begins where a run does, and ends at a bit that a file can have
 pub record IsPlaced (run : TypeRun) (value : Value) : Type 0 where
@@ -67,7 +68,7 @@ pub record IsHeld (run : TypeRun) (store : Held) : Type 0 where
 pub record HasFault (run : TypeRun) (begun done : SpaceView) (why : MapFault) : Type 0 where
   pub says : (pickle : List ℕ) → IsAsked pickle run.ask.now.name.now (run_type run)
       → MapsUnder pickle run.ask.now run.terms.now begun done
-      (end_saying run.terms.now.most_slots run.ask.now.start why.kind why.at)
+      (end_under_saying run.terms.now.most_slots run.terms.now.most_bytes run.ask.now.start why.kind why.at)
 
 -- so many slots of each kind are fewer than a mapping's bound, and too few for what it stores, if the bytes are known
 pub record LacksSlots (most : ℕ) (type : PokeType) (ask : Ask) (space : SpaceView) : Type 0 where
@@ -77,7 +78,7 @@ pub record LacksSlots (most : ℕ) (type : PokeType) (ask : Ask) (space : SpaceV
 -- A run was stopped after so many steps. Where the bytes are known, its fault is what the type means there, or what
 -- broke it off. Whatever the space gives, it is the fault of a run on the numbers that were read. A fault that ends a
 -- run is at its start. Limit: all steps were taken, which are fewer than the type's bound. Device: a read failed.
--- Memory: a store of the most slots has too few.
+-- Memory: a store of the most slots has too few, and one of the most bytes takes too little.
 pub record IsStopped (run : TypeRun) (begun done : SpaceView) (stopped : Stopped) : Type 0 where
   pub few : stopped.steps ≤ run.ask.now.limit
   pub made : ℕ
@@ -89,8 +90,10 @@ pub record IsStopped (run : TypeRun) (begun done : SpaceView) (stopped : Stopped
   pub limit : stopped.fault.kind ≡ fault.Limit → stopped.steps ≡ run.ask.now.limit
   pub costs : stopped.fault.kind ≡ fault.Limit → run.ask.now.limit < cost (run_type run) (8 * begun.len)
   pub device : stopped.fault.kind ≡ fault.Device → HasRisen begun.failures done.failures
-  pub slots : stopped.fault.kind ≡ fault.Memory → (most : ℕ) → run.terms.now.most_slots ≡ Some most →
-      LacksSlots most (run_type run) run.ask.now begun
+  pub slots : stopped.fault.kind ≡ fault.Memory → run.terms.now.most_bytes ≡ None → (most : ℕ)
+      → run.terms.now.most_slots ≡ Some most → LacksSlots most (run_type run) run.ask.now begun
+  pub heavy : stopped.fault.kind ≡ fault.Memory → (most : ℕ) → run.terms.now.most_bytes ≡ Some most →
+      AreTooHeavy most (run_type run) run.ask.now begun
   pub place : EndsRun stopped.fault.kind → stopped.fault.at ≡ run.ask.now.start
 
 -- memory didn't suffice

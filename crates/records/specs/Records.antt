@@ -6,6 +6,7 @@ use Rattle.command_line.specs.declared.ask.Ask.{Ask}
 use Rattle.pickle_meaning.specs.Answer.{Answer}
 use Rattle.pickle_meaning.specs.Fits.{Fits}
 use Rattle.pickle_meaning.specs.Values.{Value, end_of, no_values}
+use Rattle.poke_batch.specs.RunsUnder.{AreLightUnder}
 use Rattle.poke_batch.specs.TypeRuns.{run_type}
 use Rattle.poke_batch.specs.declared.type_run.TypeRun.{TypeRun}
 use Rattle.records.specs.declared.listing.Listing.{Listing}
@@ -61,8 +62,8 @@ separator listing mode before = if starts_apart listing mode before then 10 ∷ 
 
 -- ---- the records
 
--- From here on the type means a value, in so many steps within those that are left. Where the file's bytes aren't
--- known, the value fits the type.
+-- From here on the type means a value, in so many steps within those that are left, and what its mapping stores never
+-- weighs more than the terms allow. Where the file's bytes aren't known, the value fits the type.
 pub record IsRecord (run : TypeRun) (space : SpaceView) (at : Progress) (value : Value) (steps : ℕ) : Type 0 where
   pub due : at.place < 8 * space.len
   pub paid : 0 < at.left
@@ -71,3 +72,4 @@ pub record IsRecord (run : TypeRun) (space : SpaceView) (at : Progress) (value :
   pub means : (bytes : List ℕ) → space.bytes ≡ Some bytes →
       Answer (bits_of bytes) (run_type run) run.ask.now.order at.place (at.left - 1) (Ok value) steps made
   pub fits : Fits (8 * space.len) (run_type run) no_values at.place value
+  pub light : AreLightUnder run.terms.now (run_type run) (ask_at at run.ask.now) space

@@ -8,7 +8,7 @@ use Rattle.pickle_meaning.specs.Values.{Value, end_of}
 use Rattle.pickle_meaning.specs.declared.faults.MapFaultKind.{MapFaultKind}
 use Rattle.pickle_meaning.specs.declared.faults.MapFaultKind.TheVariants as fault
 use Rattle.poke_batch.specs.FileLine.{in_memory}
-use Rattle.poke_batch.specs.RunsUnder.{MapsUnder, end_saying}
+use Rattle.poke_batch.specs.RunsUnder.{MapsUnder, end_under_saying}
 use Rattle.poke_batch.specs.TypeRuns.{TellsValue}
 use Rattle.poke_batch.specs.declared.type_run.TypeRun.{TypeRun}
 use Rattle.records.specs.Records.{IsRecord, ask_at, after, first_of, goes_on, is_counted, is_written, separator}
@@ -91,7 +91,7 @@ pub record Stops (pickle : List ℕ) (run : TypeRun) (first last : SpaceView) (a
   pub during : Keeps begun done
   pub until : Keeps done last
   pub says : MapsUnder pickle (ask_at at run.ask.now) run.terms.now begun done
-      (end_saying run.terms.now.most_slots at.place kind place)
+      (end_under_saying run.terms.now.most_slots run.terms.now.most_bytes at.place kind place)
 
 -- how a list ends at a value that is the next record: it has no bits, or isn't printed under the terms
 pub data BreaksAt (IsNext : Progress → Value → (steps : ℕ) → Type 0) (run : TypeRun) (listing : Listing)
@@ -113,7 +113,8 @@ pub data Breaks (pickle : List ℕ) (run : TypeRun) (listing : Listing) (first l
       Breaks pickle run listing first last at (left_at listing at.place)
   stopped : {kind : MapFaultKind} {place : ℕ} {ended : Outcome} → ends_array kind ≡ false
       → Stops pickle run first last at kind place
-      → outcome_saying ended ≡ end_saying run.terms.now.most_slots at.place kind place
+      → outcome_saying ended
+      ≡ end_under_saying run.terms.now.most_slots run.terms.now.most_bytes at.place kind place
       → Breaks pickle run listing first last at ended
   at_value : {ended : Outcome} → BreaksAt (IsRecord run first) run listing first last at ended →
       Breaks pickle run listing first last at ended

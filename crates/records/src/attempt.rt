@@ -10,7 +10,7 @@ use pickle_map::mapper::findings::Findings;
 use pickle_map::mapper::map_with;
 use pickle_map::mapper::watch::Unwatched;
 use pickle_map::{MapFault, MapFaultKind, Store};
-use poke_batch::run::store_of;
+use poke_batch::run::store_under;
 use poke_batch::type_run::TypeRun;
 use run_parts::outcome::Outcome;
 
@@ -31,7 +31,7 @@ impl Kept {
         ensures { IfOk result (IsReady run.now) }
     {
         Ok(Kept {
-            store: store_of(run.alloc, run.terms.most_slots)?,
+            store: store_under(run.alloc, run.terms)?,
             findings: Findings::new(),
             text: Vec::new(run.alloc),
         })

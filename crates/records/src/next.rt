@@ -6,7 +6,7 @@ ghost use Rattle.bit_space.specs.SpaceView.{Keeps, SpaceView};
 ghost use Rattle.pickle_meaning.specs.Clauses.{ends_array};
 ghost use Rattle.pickle_meaning.specs.Values.{Value, end_of, start_of};
 ghost use Rattle.poke_batch.specs.Runs.{IsAsked};
-ghost use Rattle.poke_batch.specs.RunsUnder.{end_saying};
+ghost use Rattle.poke_batch.specs.RunsUnder.{end_under_saying};
 ghost use Rattle.poke_batch.specs.TypeRuns.{run_type};
 ghost use Rattle.records.specs.Next.{EndsHere, GoesOn, IsHeld, IsNoMemory, IsNotPut, IsPlaced, IsPut, IsReady, IsUnput, IsUntold, PutsHeld, held_value};
 ghost use Rattle.records.specs.Records.{goes_on};
@@ -19,9 +19,10 @@ use crate::attempt::{Kept, attempt, fault_at};
 use crate::listing::{Listing, Progress};
 use crate::put_whole::put_whole;
 use bit_space::Space;
+use command_line::terms::Terms;
 use pickle_map::{MapFault, MapFaultKind, Store, ValueRef};
 use poke_batch::each::in_memory;
-use poke_batch::run::end_outcome;
+use poke_batch::run::end_under;
 use poke_batch::type_run::TypeRun;
 use poke_batch::write::WriteFault;
 use run_parts::outcome::{Failure, Outcome};
@@ -77,20 +78,21 @@ pub fn next_record<S: Space, O: Write>(
                 left: at.left - 1 - steps,
             })
         }
-        Err(stopped) => Err(list_end(stopped.fault, run.terms.most_slots, listing, at.place)),
+        Err(stopped) => Err(list_end(stopped.fault, run.terms, listing, at.place)),
     }
 }
 
 // How a list ends whose next record has a fault.
-fn list_end(fault: MapFault, most: Option<u64>, listing: Listing, place: u64) -> Outcome
+fn list_end(fault: MapFault, terms: &Terms, listing: Listing, place: u64) -> Outcome
     ensures dropped { ends_array fault.kind ≡ true → result ≡ left_at listing place }
     ensures stopped { ends_array fault.kind ≡ false →
-        outcome_saying result ≡ end_saying most place fault.kind fault.at }
+        outcome_saying result
+        ≡ end_under_saying terms.now.most_slots terms.now.most_bytes place fault.kind fault.at }
 {
     if ends_array(fault.kind) {
         left_at(listing, place)
     } else {
-        end_outcome(fault, most, place)
+        end_under(fault, terms, place)
     }
 }
 

@@ -3,4 +3,4 @@ use Rattle.records.proofs.attempt.Kept.new.Goals as goal
 
 pub returns : goal.returns
 returns c =
-    record { store = c.in_ok-store_of.ensures; found = c.new.ensures (nodes_of c.args.run.now.table.now) }
+    record { store = c.in_ok-store_under.ensures; found = c.new.ensures (nodes_of c.args.run.now.table.now) }
