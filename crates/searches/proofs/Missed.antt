@@ -23,6 +23,7 @@ use Rattle.poke_batch.specs.TypeRuns.{run_type}
 use Rattle.poke_batch.specs.declared.type_run.TypeRun.{TypeRun}
 use Rattle.pickle_meaning.specs.Fits.{Fits}
 use Rattle.pickle_types.specs.Bounds.{cost}
+use Rattle.records.proofs.Nexts.{light_since}
 use Rattle.records.specs.Next.{HoldsValue, IsStopped}
 use Rattle.records.specs.declared.attempt.Stopped.{Stopped}
 use Rattle.bit_space.proofs.Failures.{risen_later}
@@ -31,7 +32,7 @@ use Rattle.first_numbers.specs.Held.{HoldsTests}
 use Rattle.first_numbers.specs.Reads.{IsMissed}
 use Rattle.first_numbers.specs.Screens.{IsMiss}
 use Rattle.first_numbers.specs.declared.sieve.Miss.{Miss}
-use Rattle.searches.proofs.Trials.{lacks_since, runs_since}
+use Rattle.searches.proofs.Trials.{heavy_since, lacks_since, runs_since}
 use Rattle.value_store.specs.Slots.{Held}
 use Rattle.value_store.specs.Moves.{State, no_state}
 use Rattle.value_store.specs.Slots.{root_marks}
@@ -193,6 +194,7 @@ stopped_there run begun done f k whole is le fails few =
       costs = goes_past fault.Limit tt;
       device = goes_past fault.Device tt;
       slots = goes_past fault.Memory tt;
+      heavy = goes_past fault.Memory tt;
       place = λ ends. absurd ends;
     }
 
@@ -251,6 +253,7 @@ holds_since run first begun store (Ok steps) since h = record {
   made = h.made;
   means = λ bytes known. h.means bytes (since.bytes ∙ known);
   fits = subst (λ (len : ℕ). Fits (8 * len) (run_type run) no_values run.ask.now.start h.value) since.len h.fits;
+  light = light_since since h.light;
 }
 holds_since run first begun store (Err e) since h = tt
 
@@ -267,6 +270,7 @@ stopped_since run first begun done (Err stop) since during h = record {
   costs = λ e. subst (λ (len : ℕ). run.ask.now.limit < cost (run_type run) (8 * len)) since.len (h.costs e);
   device = λ e.
       risen_later first.failures begun.failures done.failures since.failures during.failures (h.device e);
-  slots = λ e most is. lacks_since since (h.slots e most is);
+  slots = λ e free most is. lacks_since since (h.slots e free most is);
+  heavy = λ e most is. heavy_since since (h.heavy e most is);
   place = h.place;
 }

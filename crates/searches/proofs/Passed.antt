@@ -35,7 +35,7 @@ module _ (run : TypeRun) (search : Search) (first before : SpaceView) (since : K
     (whole : IsWhole before) where
   one_start : (at : Reach) (miss : Miss) → miss.steps ≤ allowed search at.left
       → IsMiss (run_type run) before run.ask.now.order at.place search.attempt_limit miss → (next : Reach)
-      → after_stop search at fault.Constraint miss.steps (8 * before.len) ≡ Some next
+      → after_stop search run.terms.now.most_bytes at fault.Constraint miss.steps (8 * before.len) ≡ Some next
       → Tries run search first at next []
   one_start at miss few is next goes =
       let stop : Stopped =
@@ -44,7 +44,8 @@ module _ (run : TypeRun) (search : Search) (first before : SpaceView) (since : K
       misses
       (is_miss run mine search first before at (record { table = refl; id = refl; terms = refl; ask = refl }) since
       before stop (miss_there mine before before miss stop whole (allowed_too few is) refl))
-      (subst (λ (len : ℕ). after_stop search at fault.Constraint miss.steps (8 * len) ≡ Some next) since.len goes)
+      (subst (λ (len : ℕ).
+      after_stop search run.terms.now.most_bytes at fault.Constraint miss.steps (8 * len) ≡ Some next) since.len goes)
 
   -- the search goes on where a start before was in the file
   still_goes : (at : Reach) (place left : ℕ) → goes_on search at (8 * before.len) ≡ true → place < 8 * before.len →

@@ -83,7 +83,7 @@ known_few hunt at order ask is None h = tt
 pub goes_known : (hunt : Hunt) (first last : SpaceView) (k : ℕ) (at : Reach) (places text : List ℕ) (sought : Sought)
     (stop : Stopped) (next : Option Reach) → is_due hunt.search at (slice_index places k) ≡ true →
     IsNth hunt.list.now k sought → HasMiss hunt first last at sought sought.signature stop →
-    next ≡ past_stop hunt.search at stop.fault.kind stop.steps →
+    next ≡ past_stop hunt.search hunt.terms.now.most_bytes at stop.fault.kind stop.steps →
     IfSome next (GoesNext hunt first k at places places text text)
 goes_known hunt first last k at places text sought stop (Some next) is_on nth miss is = record {
   more = [];
@@ -95,7 +95,7 @@ goes_known hunt first last k at places text sought stop None is_on nth miss is =
 module _ (hunt : Hunt) (first last : SpaceView) (at : Reach) (sought : Sought) where
   -- an attempt was stopped, and the search goes on
   pub goes_unmeant : (stop : Stopped) → HasMiss hunt first last at sought sought.id stop
-      → (result : Result Tried Outcome) → IfOk result (GoesWithout hunt.search at stop)
+      → (result : Result Tried Outcome) → IfOk result (GoesWithout hunt.search hunt.terms.now.most_bytes at stop)
       → IfOk result (TriesValue hunt first at sought)
   goes_unmeant stop miss (Ok tried) goes =
       subst (λ (end : Option ℕ). TriesValue hunt first at sought (record { reach = tried.reach; end = end }))
@@ -103,7 +103,7 @@ module _ (hunt : Hunt) (first last : SpaceView) (at : Reach) (sought : Sought) w
   goes_unmeant stop miss (Err ended) goes = tt
 
   pub goes_unsigned : (stop : Stopped) → HasMiss hunt first last at sought sought.signature stop
-      → (result : Result Tried Outcome) → IfOk result (GoesWithout hunt.search at stop)
+      → (result : Result Tried Outcome) → IfOk result (GoesWithout hunt.search hunt.terms.now.most_bytes at stop)
       → IfOk result (TriesType hunt first at sought)
   goes_unsigned stop miss (Ok tried) goes =
       subst (λ (end : Option ℕ). TriesType hunt first at sought (record { reach = tried.reach; end = end }))
@@ -112,7 +112,7 @@ module _ (hunt : Hunt) (first last : SpaceView) (at : Reach) (sought : Sought) w
 
   -- it was stopped, and the search ends
   pub stops_at : (id : TypeId) (stop : Stopped) → HasMiss hunt first last at sought id stop
-      → (result : Result Tried Outcome) → IfErr result (StopsHunt hunt.terms.now.most_slots hunt.search at stop)
+      → (result : Result Tried Outcome) → IfErr result (StopsHunt hunt.terms.now hunt.search at stop)
       → IfErr result (StopsAt hunt first last at sought id)
   stops_at id stop miss (Ok tried) ends = tt
   stops_at id stop miss (Err ended) ends = record {

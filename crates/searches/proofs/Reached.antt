@@ -14,7 +14,7 @@ use Rattle.pickle_meaning.specs.declared.faults.MapFaultKind.{MapFaultKind}
 use Rattle.pickle_meaning.specs.declared.faults.MapFaultKind.TheVariants as fault
 use Rattle.poke_batch.specs.declared.type_run.TypeRun.{TypeRun}
 use Rattle.run_parts.specs.declared.outcome.Outcome.{Outcome}
-use Rattle.searches.specs.Starts.{IsFew, after_none, after_stop, first_of, given_count, given_more, goes_on, is_counted, natural_end, next_start, start_after, way_over}
+use Rattle.searches.specs.Starts.{IsFew, after_given, after_none, after_stop, first_of, given_count, given_more, goes_on, is_counted, natural_end, next_start, start_after, way_over}
 use Rattle.searches.specs.Trial.{EndsHere, GoesOn, cut_off, no_more}
 use Rattle.searches.specs.Written.{Searches, Tries, WritesSearch, finds, finished, misses, no_starts, one_more, output_fails, writes_all}
 use Rattle.searches.specs.declared.search.GivenUp.{GivenUp}
@@ -81,26 +81,30 @@ module _ (search : Search) (at : Reach) (bits : ℕ) (some : 0 < search.step) (w
     more_given None place = omega arith
     more_given (Some given) place = omega arith
 
-    pub stop_moves : (kind : MapFaultKind) (steps : ℕ) (next : Reach)
-        → after_stop search at kind steps bits ≡ Some next → HasMoved at bits next
-    stop_moves fault.Limit steps next is = by_test (nat_lt at.left search.attempt_limit) is
+    given_moves : (steps : ℕ) (next : Reach) → Some (after_given search at steps bits) ≡ Some next →
+        HasMoved at bits next
+    given_moves steps next is =
+        none_moves steps (Some (given_more at.given_up at.place)) next (more_given at.given_up at.place) is
+
+    pub stop_moves : (bytes : Option ℕ) (kind : MapFaultKind) (steps : ℕ) (next : Reach)
+        → after_stop search bytes at kind steps bits ≡ Some next → HasMoved at bits next
+    stop_moves bytes fault.Limit steps next is = by_test (nat_lt at.left search.attempt_limit) is
       where
-        by_test : (b : Bool)
-            → (if b then None else Some (after_none search at (Some (given_more at.given_up at.place)) steps bits))
-            ≡ Some next → HasMoved at bits next
+        by_test : (b : Bool) → (if b then None else Some (after_given search at steps bits)) ≡ Some next
+            → HasMoved at bits next
         by_test true is = absurd (none-some _ is)
-        by_test false is =
-            none_moves steps (Some (given_more at.given_up at.place)) next (more_given at.given_up at.place) is
-    stop_moves fault.Device steps next is = absurd (none-some _ is)
-    stop_moves fault.Memory steps next is = absurd (none-some _ is)
-    stop_moves fault.End steps next is = none_moves steps at.given_up next (omega arith) is
-    stop_moves fault.Constraint steps next is = none_moves steps at.given_up next (omega arith) is
-    stop_moves fault.Bounds steps next is = none_moves steps at.given_up next (omega arith) is
-    stop_moves fault.NoBits steps next is = none_moves steps at.given_up next (omega arith) is
-    stop_moves fault.Zero steps next is = none_moves steps at.given_up next (omega arith) is
-    stop_moves fault.Overflow steps next is = none_moves steps at.given_up next (omega arith) is
-    stop_moves fault.Absent steps next is = none_moves steps at.given_up next (omega arith) is
-    stop_moves fault.Index steps next is = none_moves steps at.given_up next (omega arith) is
+        by_test false is = given_moves steps next is
+    stop_moves bytes fault.Device steps next is = absurd (none-some _ is)
+    stop_moves None fault.Memory steps next is = absurd (none-some _ is)
+    stop_moves (Some most) fault.Memory steps next is = given_moves steps next is
+    stop_moves bytes fault.End steps next is = none_moves steps at.given_up next (omega arith) is
+    stop_moves bytes fault.Constraint steps next is = none_moves steps at.given_up next (omega arith) is
+    stop_moves bytes fault.Bounds steps next is = none_moves steps at.given_up next (omega arith) is
+    stop_moves bytes fault.NoBits steps next is = none_moves steps at.given_up next (omega arith) is
+    stop_moves bytes fault.Zero steps next is = none_moves steps at.given_up next (omega arith) is
+    stop_moves bytes fault.Overflow steps next is = none_moves steps at.given_up next (omega arith) is
+    stop_moves bytes fault.Absent steps next is = none_moves steps at.given_up next (omega arith) is
+    stop_moves bytes fault.Index steps next is = none_moves steps at.given_up next (omega arith) is
 
 module _ (run : TypeRun) (search : Search) (first : SpaceView) where
   -- so far the search is, and its lines are written
@@ -136,7 +140,7 @@ module _ (run : TypeRun) (search : Search) (first : SpaceView) where
         inside = moved.1;
       }
   tries_move at next _ some few inside (misses {kind = kind} {steps = steps} miss is) =
-      stop_moves search at (8 * first.len) some few inside kind steps next is
+      stop_moves search at (8 * first.len) some few inside run.terms.now.most_bytes kind steps next is
 
   pub has_moved : (at next : Reach) (out out' : Option (List ℕ)) → 0 < search.step → IsFew at
       → GoesOn run search first at out out' next → HasMoved at (8 * first.len) next

@@ -26,11 +26,12 @@ use Rattle.pickle_types.specs.declared.table.Table.{Table}
 use Rattle.pickle_types.specs.declared.table.TypeId.{TypeId}
 use Rattle.poke_batch.specs.TypeRuns.{run_type}
 use Rattle.poke_batch.specs.declared.type_run.TypeRun.{TypeRun}
-use Rattle.records.proofs.Nexts.{view_kept}
+use Rattle.poke_batch.specs.RunsUnder.{AreLightUnder, AreTooHeavy, WeighsAtMost}
+use Rattle.records.proofs.Nexts.{light_since, view_kept}
 use Rattle.records.specs.Next.{HoldsValue, IsStopped, LacksSlots}
 use Rattle.records.specs.declared.attempt.Stopped.{Stopped}
 use Rattle.run_parts.specs.declared.outcome.Outcome.{Outcome}
-use Rattle.searches.specs.Starts.{IsHit, IsMiss, after_stop, after_value, goes_on}
+use Rattle.searches.specs.Starts.{IsHit, IsMiss, after_stop, after_value, ask_at, goes_on}
 use Rattle.searches.specs.Trial.{EndsHere, GoesOn, IsUnput, PutsHeld, StopsSearch, cut_off, is_cut, lacks_line, no_more}
 use Rattle.searches.specs.Written.{IsRunAt, Meanwhile, breaks, finds, misses, stopped, unwritten}
 use Rattle.searches.specs.declared.search.Reach.{Reach}
@@ -76,6 +77,14 @@ lacks_since {first} {before} {most} {type} {ask} since h = record {
   };
 }
 
+pub heavy_since : {first before : SpaceView} {most : ℕ} {type : PokeType} {ask : Ask} → Keeps first before
+    → AreTooHeavy most type ask before → AreTooHeavy most type ask first
+heavy_since {first} {before} {most} {type} {ask} since h = record {
+  lack = λ bytes known.
+      subst (λ (len : ℕ). WeighsAtMost most type ask (8 * len) bytes → ⊥) since.len
+      (h.lack bytes (since.bytes ∙ known));
+}
+
 module _ (run next : TypeRun) (search : Search) (first before : SpaceView) (at : Reach)
     (is_next : IsRunAt run search at next) (since : Keeps first before) where
   -- the value that a store holds is that of the next attempt
@@ -97,6 +106,12 @@ module _ (run next : TypeRun) (search : Search) (first before : SpaceView) (at :
         (subst (λ (ty : PokeType). Fits (8 * first.len) ty no_values next.ask.now.start h.value)
         (same_type run next search at is_next)
         (subst (λ (len : ℕ). Fits (8 * len) (run_type next) no_values next.ask.now.start h.value) since.len h.fits));
+    light =
+        subst (λ (terms : Bor Terms). AreLightUnder terms.now (run_type run) (ask_at search at run.ask.now) first)
+        is_next.terms
+        (subst (λ (ask : Ask). AreLightUnder next.terms.now (run_type run) ask first) is_next.ask
+        (subst (λ (ty : PokeType). AreLightUnder next.terms.now ty next.ask.now first)
+        (same_type run next search at is_next) (light_since since h.light)));
   }
 
   -- what stopped a run stopped the next attempt
@@ -126,11 +141,17 @@ module _ (run next : TypeRun) (search : Search) (first before : SpaceView) (at :
         subst (λ (ask : Ask). ask.limit < cost (run_type run) (8 * first.len)) is_next.ask
         (subst (λ (ty : PokeType). next.ask.now.limit < cost ty (8 * first.len)) (same_type run next search at is_next)
         (subst (λ (len : ℕ). next.ask.now.limit < cost (run_type next) (8 * len)) since.len (h.costs kind)));
-    slots = λ kind most given.
+    slots = λ kind free most given.
         subst (λ (ask : Ask). LacksSlots most (run_type run) ask first) is_next.ask
         (subst (λ (ty : PokeType). LacksSlots most ty next.ask.now first) (same_type run next search at is_next)
         (lacks_since since
-        (h.slots kind most (ap (λ (terms : Bor Terms). terms.now.most_slots) is_next.terms ∙ given))));
+        (h.slots kind (ap (λ (terms : Bor Terms). terms.now.most_bytes) is_next.terms ∙ free) most
+        (ap (λ (terms : Bor Terms). terms.now.most_slots) is_next.terms ∙ given))));
+    heavy = λ kind most given.
+        subst (λ (ask : Ask). AreTooHeavy most (run_type run) ask first) is_next.ask
+        (subst (λ (ty : PokeType). AreTooHeavy most ty next.ask.now first) (same_type run next search at is_next)
+        (heavy_since since
+        (h.heavy kind most (ap (λ (terms : Bor Terms). terms.now.most_bytes) is_next.terms ∙ given))));
     limit = λ kind. subst (λ (ask : Ask). stop.steps ≡ ask.limit) is_next.ask (h.limit kind);
     here = λ ends. subst (λ (ask : Ask). stop.fault.at ≡ ask.start) is_next.ask (h.place ends);
   }
@@ -192,13 +213,15 @@ module _ (run : TypeRun) (search : Search) (first : SpaceView) (at : Reach) wher
   pub passes : {next : TypeRun} {before done : SpaceView} {stop : Stopped} → IsStopped next before done stop
       → IsRunAt run search at next → Keeps first before → goes_on search at (8 * before.len) ≡ true
       → (bits : ℕ) → bits ≡ 8 * before.len → (out : Option (List ℕ)) (result : Result Reach Outcome)
-      → IfOk result (λ next. after_stop search at stop.fault.kind stop.steps bits ≡ Some next)
+      → IfOk result (λ next.
+      after_stop search run.terms.now.most_bytes at stop.fault.kind stop.steps bits ≡ Some next)
       → IfOk result (GoesOn run search first at out out)
   passes {next} {before} {done} {stop} h is_next since on bits same out (Ok reach) goes = record {
     more = [];
     on = on_since search at first before since on;
     tries = misses (is_miss run next search first before at is_next since done stop h)
-        (subst (λ (bits : ℕ). after_stop search at stop.fault.kind stop.steps bits ≡ Some reach)
+        (subst (λ (bits : ℕ).
+        after_stop search run.terms.now.most_bytes at stop.fault.kind stop.steps bits ≡ Some reach)
         (same ∙ ap (λ (len : ℕ). 8 * len) since.len) goes);
     takes = Appends-nil out;
   }
@@ -208,14 +231,14 @@ module _ (run : TypeRun) (search : Search) (first : SpaceView) (at : Reach) wher
   pub ends_stopped : {next : TypeRun} {before done : SpaceView} {stop : Stopped} → IsStopped next before done stop
       → IsRunAt run search at next → Keeps first before → Keeps before done → goes_on search at (8 * before.len) ≡ true
       → (bits : ℕ) → bits ≡ 8 * before.len → (out : Option (List ℕ)) (result : Result Reach Outcome)
-      → IfErr result (StopsSearch run.terms.now.most_slots search at stop bits)
+      → IfErr result (StopsSearch run.terms.now search at stop bits)
       → IfErr result (EndsHere run search first done at out out)
   ends_stopped {next} {before} {done} {stop} h is_next since during on bits same out (Ok reach) ends = tt
   ends_stopped {next} {before} {done} {stop} h is_next since during on bits same out (Err ended) ends =
       no_more
       (breaks (on_since search at first before since on)
       (stopped (is_miss run next search first before at is_next since done stop h)
-      (subst (λ (bits : ℕ). after_stop search at stop.fault.kind stop.steps bits ≡ None)
+      (subst (λ (bits : ℕ). after_stop search run.terms.now.most_bytes at stop.fault.kind stop.steps bits ≡ None)
       (same ∙ ap (λ (len : ℕ). 8 * len) since.len) ends.is_end)
       (λ kind. risen_later first.failures before.failures done.failures since.failures during.failures (h.device kind))
       ends.says))

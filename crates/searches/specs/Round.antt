@@ -3,6 +3,7 @@ use Rattle.std.specs.Prelude.{◌≡◌, ◌<◌, ◌≤◌, ◌*◌, ◌++◌, 
 use Rattle.std.specs.List.{All}
 use Rattle.std.specs.Io.KnownBytes.{Appends, Keeps as KeepsBytes}
 use Rattle.bit_space.specs.SpaceView.{HasRisen, SpaceView}
+use Rattle.command_line.specs.declared.terms.Terms.{Terms}
 use Rattle.pickle_map.specs.Findings.{AreFound}
 use Rattle.pickle_map.specs.declared.mapper.findings.Findings.{Findings}
 use Rattle.pickle_meaning.specs.Values.{Value, end_of}
@@ -12,7 +13,7 @@ use Rattle.first_numbers.specs.declared.sieve.Sieve.{Sieve}
 use Rattle.pickle_types.specs.TypeTable.{nodes_of, type_named}
 use Rattle.pickle_types.specs.declared.node.Node.{Node}
 use Rattle.pickle_types.specs.declared.table.TypeId.{TypeId}
-use Rattle.poke_batch.specs.RunsUnder.{IsStoreOf, end_saying}
+use Rattle.poke_batch.specs.RunsUnder.{IsStoreUnder, end_saying}
 use Rattle.poke_batch.specs.declared.type_run.TypeRun.{TypeRun}
 use Rattle.records.specs.declared.attempt.Stopped.{Stopped}
 use Rattle.run_parts.specs.Outcomes.{outcome_saying}
@@ -54,7 +55,7 @@ pub record AreSieves (list : List Sought) (space : SpaceView) (all : List Sieve)
 
 -- what is stored serves a search, in a space
 pub record IsStocked (hunt : Hunt) (space : SpaceView) (stock : Stock) : Type 0 where
-  pub store : IsStoreOf hunt.terms.now.most_slots stock.kept.store
+  pub store : IsStoreUnder hunt.terms.now.most_slots hunt.terms.now.most_bytes stock.kept.store
   pub sieves : AreSieves hunt.list.now space stock.sieves.items
   pub places : length stock.places.items ≡ length hunt.list.now
   pub findings : AreFindings hunt.list.now stock.findings.items
@@ -78,13 +79,14 @@ pub record HasMiss (hunt : Hunt) (space last : SpaceView) (at : Reach) (sought :
   pub device : stop.fault.kind ≡ fault.Device → HasRisen space.failures last.failures
 
 -- the search goes on after an attempt that was stopped, or ends
-pub record GoesWithout (search : Search) (at : Reach) (stop : Stopped) (tried : Tried) : Type 0 where
-  pub on : past_stop search at stop.fault.kind stop.steps ≡ Some tried.reach
-  pub none : tried.end ≡ None
+pub record GoesWithout (search : Search) (bytes : Option ℕ) (at : Reach) (stop : Stopped) (tried : Tried) : Type 0
+  where
+    pub on : past_stop search bytes at stop.fault.kind stop.steps ≡ Some tried.reach
+    pub none : tried.end ≡ None
 
-pub record StopsHunt (most : Option ℕ) (search : Search) (at : Reach) (stop : Stopped) (ended : Outcome) : Type 0 where
-  pub ends : past_stop search at stop.fault.kind stop.steps ≡ None
-  pub says : outcome_saying ended ≡ end_saying most at.place stop.fault.kind stop.fault.at
+pub record StopsHunt (terms : Terms) (search : Search) (at : Reach) (stop : Stopped) (ended : Outcome) : Type 0 where
+  pub ends : past_stop search terms.most_bytes at stop.fault.kind stop.steps ≡ None
+  pub says : outcome_saying ended ≡ end_saying terms.most_slots at.place stop.fault.kind stop.fault.at
 
 -- one type was tried, or passed over, and the line of its value is gathered
 pub record GoesNext (hunt : Hunt) (space : SpaceView) (k : ℕ) (at : Reach) (places after text text' : List ℕ)

@@ -1,5 +1,5 @@
 -- The attempts at the types that are looked for, and what each leaves of a search.
-use Rattle.std.specs.Prelude.{◌≡◌, ◌+◌, ◌-◌, ◌^◌, ℕ, Bool, not, ◌&&◌, nat_le, nat_lt, min, if◌then◌else◌, Option, Some, None}
+use Rattle.std.specs.Prelude.{◌≡◌, ◌+◌, ◌-◌, ◌^◌, ℕ, Bool, not, ◌&&◌, nat_le, nat_lt, min, if◌then◌else◌, Option, Some, None, is_some}
 use Rattle.bit_space.specs.SpaceView.{HasRisen, SpaceView}
 use Rattle.bit_space.specs.declared.order.Order.{Order}
 use Rattle.command_line.specs.declared.ask.Ask.{Ask}
@@ -44,15 +44,18 @@ abbrev pub past_none : Reach → Option GivenUp → (steps : ℕ) → Reach
 past_none at given_up steps =
     record { place = at.place; found = at.found; left = at.left - steps; given_up = given_up }
 
--- After an attempt that was stopped, if the search goes on. It is given up where its own limit stopped it. Where the
--- search's limit did, or the device or an allocation failed, the search ends.
-abbrev pub past_stop : Search → Reach → MapFaultKind → (steps : ℕ) → Option Reach
-past_stop search at fault.Limit steps =
-    if nat_lt at.left search.attempt_limit then None
-    else Some (past_none at (Some (give_up at.given_up at.place)) steps)
-past_stop search at fault.Device steps = None
-past_stop search at fault.Memory steps = None
-past_stop search at kind steps = Some (past_none at at.given_up steps)
+abbrev pub past_given : Reach → (steps : ℕ) → Reach
+past_given at steps = past_none at (Some (give_up at.given_up at.place)) steps
+
+-- After an attempt that was stopped, if the search goes on. It is given up where its own limit stopped it, or under a
+-- most of bytes the weight of its values. Where the search's limit did, or the device or an allocation failed, the
+-- search ends.
+abbrev pub past_stop : Search → (bytes : Option ℕ) → Reach → MapFaultKind → (steps : ℕ) → Option Reach
+past_stop search bytes at fault.Limit steps =
+    if nat_lt at.left search.attempt_limit then None else Some (past_given at steps)
+past_stop search bytes at fault.Device steps = None
+past_stop search bytes at fault.Memory steps = if is_some bytes then Some (past_given at steps) else None
+past_stop search bytes at kind steps = Some (past_none at at.given_up steps)
 
 -- all types were tried at the start `place`, in a file of so many bits
 abbrev pub moved : Search → (place : ℕ) → Reach → (bits : ℕ) → Reach
@@ -94,7 +97,8 @@ pub record Misses (hunt : Hunt) (space : SpaceView) (at : Reach) (sought : Sough
 -- The type is tried where its signature has a value, with the steps that this left, and the search goes on.
 pub data TriesValue (hunt : Hunt) (space : SpaceView) (at : Reach) (sought : Sought) : Tried → Type 0 where
   unmeant : {kind : MapFaultKind} {place steps : ℕ} {next : Reach}
-      → Misses hunt space at sought sought.id kind place steps → past_stop hunt.search at kind steps ≡ Some next
+      → Misses hunt space at sought sought.id kind place steps
+      → past_stop hunt.search hunt.terms.now.most_bytes at kind steps ≡ Some next
       → TriesValue hunt space at sought (record { reach = next; end = None })
   meant : {value : Value} {steps : ℕ} → Hits hunt space at sought sought.id value steps →
       TriesValue hunt space at sought (record { reach = past_value at steps; end = Some (end_of value) })
@@ -102,7 +106,8 @@ pub data TriesValue (hunt : Hunt) (space : SpaceView) (at : Reach) (sought : Sou
 -- Both types are tried at a start, and the search goes on. The second is tried only where the first has a value.
 pub data TriesType (hunt : Hunt) (space : SpaceView) (at : Reach) (sought : Sought) : Tried → Type 0 where
   unsigned : {kind : MapFaultKind} {place steps : ℕ} {next : Reach}
-      → Misses hunt space at sought sought.signature kind place steps → past_stop hunt.search at kind steps ≡ Some next
+      → Misses hunt space at sought sought.signature kind place steps
+      → past_stop hunt.search hunt.terms.now.most_bytes at kind steps ≡ Some next
       → TriesType hunt space at sought (record { reach = next; end = None })
   signed : {value : Value} {steps : ℕ} {tried : Tried} → Hits hunt space at sought sought.signature value steps
       → TriesValue hunt space (spent at steps) sought tried → TriesType hunt space at sought tried
@@ -114,7 +119,7 @@ pub record StopsAt (hunt : Hunt) (space last : SpaceView) (at : Reach) (sought :
   pub place : ℕ
   pub steps : ℕ
   pub miss : Misses hunt space at sought id kind place steps
-  pub ends : past_stop hunt.search at kind steps ≡ None
+  pub ends : past_stop hunt.search hunt.terms.now.most_bytes at kind steps ≡ None
   pub device : kind ≡ fault.Device → HasRisen space.failures last.failures
   pub says : outcome_saying ended ≡ end_saying hunt.terms.now.most_slots at.place kind place
 

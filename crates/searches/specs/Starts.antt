@@ -1,5 +1,5 @@
 -- The starts of a search: which are tried, with how many steps, and where the next one is.
-use Rattle.std.specs.Prelude.{◌≡◌, ◌<◌, ◌≤◌, ◌+◌, ◌-◌, ◌*◌, ◌/◌, ◌%◌, ℕ, Bool, true, false, not, ◌&&◌, ◌==◌, nat_le, nat_lt, min, if◌then◌else◌, List, Option, Some, None, Ok}
+use Rattle.std.specs.Prelude.{◌≡◌, ◌<◌, ◌≤◌, ◌+◌, ◌-◌, ◌*◌, ◌/◌, ◌%◌, ℕ, Bool, true, false, not, ◌&&◌, ◌==◌, nat_le, nat_lt, min, if◌then◌else◌, List, Option, Some, None, is_some, Ok}
 use Rattle.bit_space.specs.Bits.{bits_of}
 use Rattle.bit_space.specs.SpaceView.{SpaceView}
 use Rattle.command_line.specs.declared.ask.Ask.{Ask}
@@ -10,6 +10,7 @@ use Rattle.pickle_meaning.specs.Values.{Value, no_values}
 use Rattle.pickle_meaning.specs.declared.faults.MapFaultKind.{MapFaultKind}
 use Rattle.pickle_meaning.specs.declared.faults.MapFaultKind.TheVariants as fault
 use Rattle.pickle_types.specs.Bounds.{cost}
+use Rattle.poke_batch.specs.RunsUnder.{AreLightUnder, AreTooHeavy}
 use Rattle.poke_batch.specs.TypeRuns.{run_type}
 use Rattle.poke_batch.specs.declared.type_run.TypeRun.{TypeRun}
 use Rattle.records.specs.Next.{LacksSlots}
@@ -97,15 +98,19 @@ after_none search at given_up steps bits = record {
   given_up = given_up;
 }
 
--- After an attempt that was stopped, if the search goes on. It is given up where its own limit stopped it. Where the
--- search's limit did, or the device or an allocation failed, the search ends.
-abbrev pub after_stop : Search → Reach → MapFaultKind → (steps bits : ℕ) → Option Reach
-after_stop search at fault.Limit steps bits =
-    if nat_lt at.left search.attempt_limit then None
-    else Some (after_none search at (Some (given_more at.given_up at.place)) steps bits)
-after_stop search at fault.Device steps bits = None
-after_stop search at fault.Memory steps bits = None
-after_stop search at kind steps bits = Some (after_none search at at.given_up steps bits)
+abbrev pub after_given : Search → Reach → (steps bits : ℕ) → Reach
+after_given search at steps bits = after_none search at (Some (given_more at.given_up at.place)) steps bits
+
+-- After an attempt that was stopped, if the search goes on. It is given up where its own limit stopped it, or under a
+-- most of bytes the weight of its values. Where the search's limit did, or the device or an allocation failed, the
+-- search ends.
+abbrev pub after_stop : Search → (bytes : Option ℕ) → Reach → MapFaultKind → (steps bits : ℕ) → Option Reach
+after_stop search bytes at fault.Limit steps bits =
+    if nat_lt at.left search.attempt_limit then None else Some (after_given search at steps bits)
+after_stop search bytes at fault.Device steps bits = None
+after_stop search bytes at fault.Memory steps bits =
+    if is_some bytes then Some (after_given search at steps bits) else None
+after_stop search bytes at kind steps bits = Some (after_none search at at.given_up steps bits)
 
 -- how a search ends that doesn't go on
 abbrev pub end_with : Option GivenUp → (is_missed : Bool) → Outcome
@@ -118,8 +123,8 @@ natural_end search at = end_with at.given_up ((at.found == 0) && not (is_counted
 
 -- ---- the attempts
 
--- From here on the type means a value, in so many steps within those that are allowed. Where the file's bytes aren't
--- known, the value fits the type.
+-- From here on the type means a value, in so many steps within those that are allowed, and what its mapping stores
+-- never weighs more than the terms allow. Where the file's bytes aren't known, the value fits the type.
 pub record IsHit (run : TypeRun) (search : Search) (space : SpaceView) (at : Reach) (value : Value) (steps : ℕ) :
     Type 0 where
   pub few : steps ≤ allowed search at.left
@@ -127,10 +132,11 @@ pub record IsHit (run : TypeRun) (search : Search) (space : SpaceView) (at : Rea
   pub means : (bytes : List ℕ) → space.bytes ≡ Some bytes →
       Answer (bits_of bytes) (run_type run) run.ask.now.order at.place (allowed search at.left) (Ok value) steps made
   pub fits : Fits (8 * space.len) (run_type run) no_values at.place value
+  pub light : AreLightUnder run.terms.now (run_type run) (ask_at search at run.ask.now) space
 
 -- From here on the attempt is stopped after so many steps, with a fault that the type means there, or by one that ends
--- a run. Limit: all steps that are allowed were taken. Memory: a store of the most slots has too few. Whatever the
--- space gives, it is the fault of a run on the numbers that were read.
+-- a run. Limit: all steps that are allowed were taken. Memory: a store of the most slots has too few, and one of the
+-- most bytes takes too little. Whatever the space gives, it is the fault of a run on the numbers that were read.
 pub record IsMiss (run : TypeRun) (search : Search) (space : SpaceView) (at : Reach) (kind : MapFaultKind)
     (place steps : ℕ) : Type 0 where
   pub few : steps ≤ allowed search at.left
@@ -141,6 +147,8 @@ pub record IsMiss (run : TypeRun) (search : Search) (space : SpaceView) (at : Re
   pub runs : RunsToFault space (run_type run) run.ask.now.order at.place (allowed search at.left) kind place
   pub limit : kind ≡ fault.Limit → steps ≡ allowed search at.left
   pub costs : kind ≡ fault.Limit → allowed search at.left < cost (run_type run) (8 * space.len)
-  pub slots : kind ≡ fault.Memory → (most : ℕ) → run.terms.now.most_slots ≡ Some most →
-      LacksSlots most (run_type run) (ask_at search at run.ask.now) space
+  pub slots : kind ≡ fault.Memory → run.terms.now.most_bytes ≡ None → (most : ℕ)
+      → run.terms.now.most_slots ≡ Some most → LacksSlots most (run_type run) (ask_at search at run.ask.now) space
+  pub heavy : kind ≡ fault.Memory → (most : ℕ) → run.terms.now.most_bytes ≡ Some most →
+      AreTooHeavy most (run_type run) (ask_at search at run.ask.now) space
   pub here : EndsRun kind → place ≡ at.place

@@ -3,6 +3,7 @@ use Rattle.std.specs.Prelude.{◌≡◌, ◌<◌, ◌≤◌, ◌*◌, ℕ, true,
 use Rattle.std.specs.List.{concat}
 use Rattle.std.specs.Io.KnownBytes.{Appends, Keeps as KeepsBytes}
 use Rattle.bit_space.specs.SpaceView.{SpaceView}
+use Rattle.command_line.specs.declared.terms.Terms.{Terms}
 use Rattle.pickle_meaning.specs.Values.{Value, end_of}
 use Rattle.poke_batch.specs.RunsUnder.{end_saying}
 use Rattle.poke_batch.specs.declared.type_run.TypeRun.{TypeRun}
@@ -40,10 +41,10 @@ pub record PutsHeld (run : TypeRun) (begun done : SpaceView) (value : Value) (ou
   pub put : IsPut run begun done value (Appends out out')
 
 -- an attempt was stopped, and the search ends so
-pub record StopsSearch (most : Option ℕ) (search : Search) (at : Reach) (stop : Stopped) (bits : ℕ) (ended : Outcome) :
+pub record StopsSearch (terms : Terms) (search : Search) (at : Reach) (stop : Stopped) (bits : ℕ) (ended : Outcome) :
     Type 0 where
-  pub is_end : after_stop search at stop.fault.kind stop.steps bits ≡ None
-  pub says : outcome_saying ended ≡ end_saying most at.place stop.fault.kind stop.fault.at
+  pub is_end : after_stop search terms.most_bytes at stop.fault.kind stop.steps bits ≡ None
+  pub says : outcome_saying ended ≡ end_saying terms.most_slots at.place stop.fault.kind stop.fault.at
 
 -- one more start was tried, and what is due of it written; the search is now so far
 pub record GoesOn (run : TypeRun) (search : Search) (first : SpaceView) (at : Reach) (out out' : Option (List ℕ))

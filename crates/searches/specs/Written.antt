@@ -73,7 +73,8 @@ pub data Tries (run : TypeRun) (search : Search) (first : SpaceView) (at : Reach
       → WritesHit run search first at value line
       → Tries run search first at (after_value search at (end_of value) steps (8 * first.len)) (line ∷ [])
   misses : {kind : MapFaultKind} {place steps : ℕ} {next : Reach} → IsMiss run search first at kind place steps
-      → after_stop search at kind steps (8 * first.len) ≡ Some next → Tries run search first at next []
+      → after_stop search run.terms.now.most_bytes at kind steps (8 * first.len) ≡ Some next
+      → Tries run search first at next []
 
 -- the search goes on so far, with these lines
 pub data Searches (run : TypeRun) (search : Search) (first : SpaceView) : Reach → (lines : List (List ℕ)) →
@@ -87,7 +88,7 @@ pub data Searches (run : TypeRun) (search : Search) (first : SpaceView) : Reach 
 -- that has no line.
 pub data Breaks (run : TypeRun) (search : Search) (first last : SpaceView) (at : Reach) : Outcome → Type 0 where
   stopped : {kind : MapFaultKind} {place steps : ℕ} {ended : Outcome} → IsMiss run search first at kind place steps
-      → after_stop search at kind steps (8 * first.len) ≡ None
+      → after_stop search run.terms.now.most_bytes at kind steps (8 * first.len) ≡ None
       → (kind ≡ fault.Device → HasRisen first.failures last.failures)
       → outcome_saying ended ≡ end_saying run.terms.now.most_slots at.place kind place
       → Breaks run search first last at ended

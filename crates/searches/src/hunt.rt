@@ -85,16 +85,23 @@ impl Search {
         !self.is_counted(at.found) && place <= at.place
     }
 
-    /// How far a search is after an attempt that was stopped after so many steps, still at this start. `None` ends the
-    /// search.
-    pub(crate) fn past_stop(&self, at: Reach, kind: MapFaultKind, steps: u64) -> Option<Reach>
+    /// How far a search is after an attempt that was stopped after so many steps, still at this start. With `most_bytes`
+    /// one whose values weigh too much is given up. `None` ends the search.
+    pub(crate) fn past_stop(
+        &self,
+        most_bytes: Option<u64>,
+        at: Reach,
+        kind: MapFaultKind,
+        steps: u64,
+    ) -> Option<Reach>
         requires { steps ≤ at.left }
-        ensures { result ≡ past_stop self.now at kind steps }
+        ensures { result ≡ past_stop self.now most_bytes at kind steps }
     {
         let given_up = match kind {
-            MapFaultKind::Device | MapFaultKind::Memory => return None,
+            MapFaultKind::Device => return None,
+            MapFaultKind::Memory if most_bytes.is_none() => return None,
             MapFaultKind::Limit if self.attempt_limit > at.left => return None,
-            MapFaultKind::Limit => Some(give_up(at.given_up, at.place)),
+            MapFaultKind::Memory | MapFaultKind::Limit => Some(give_up(at.given_up, at.place)),
             _ => at.given_up,
         };
         Some(Reach {

@@ -5,7 +5,7 @@ ghost use Rattle.bit_space.specs.SpaceView.{IsWhole, Keeps, SpaceView};
 ghost use Rattle.pickle_map.specs.Findings.{AreFound};
 ghost use Rattle.pickle_meaning.specs.Values.{Value};
 ghost use Rattle.pickle_types.specs.TypeTable.{IsInTable, nodes_of};
-ghost use Rattle.poke_batch.specs.RunsUnder.{IsStoreOf};
+ghost use Rattle.poke_batch.specs.RunsUnder.{IsStoreUnder};
 ghost use Rattle.records.specs.Next.{HoldsValue, IsHeld, IsPlaced, IsStopped, held_value};
 ghost use Rattle.searches.specs.Round.{HasEnd, HasHit, HasMiss, IsSieveOf};
 ghost use Rattle.value_store.specs.Refs.{value_shown};
@@ -43,9 +43,9 @@ pub fn probe<S: Space>(
     space: &mut S,
 ) -> Result<Hit, Stopped>
     requires known { IsInTable sought.now.table.now id }
-    requires ready { IsStoreOf hunt.now.terms.now.most_slots kept.old.store }
+    requires ready { IsStoreUnder hunt.now.terms.now.most_slots hunt.now.terms.now.most_bytes kept.old.store }
     requires found { AreFound (nodes_of sought.now.table.now) findings.old }
-    ensures ready { IsStoreOf hunt.now.terms.now.most_slots kept.new.store }
+    ensures ready { IsStoreUnder hunt.now.terms.now.most_slots hunt.now.terms.now.most_bytes kept.new.store }
     ensures found { AreFound (nodes_of sought.now.table.now) findings.new }
     ensures ok { (first : SpaceView) → Keeps first (S.view space.old) →
         IfOk result (HasHit hunt.now first at sought.now id) }
@@ -132,9 +132,9 @@ fn attempt_with<S: Space>(
     findings: &mut Findings,
     space: &mut S,
 ) -> Result<u64, Stopped>
-    requires ready { IsStoreOf run.now.terms.now.most_slots kept.old.store }
+    requires ready { IsStoreUnder run.now.terms.now.most_slots run.now.terms.now.most_bytes kept.old.store }
     requires found { AreFound (nodes_of run.now.table.now) findings.old }
-    ensures ready { IsStoreOf run.now.terms.now.most_slots kept.new.store }
+    ensures ready { IsStoreUnder run.now.terms.now.most_slots run.now.terms.now.most_bytes kept.new.store }
     ensures found { AreFound (nodes_of run.now.table.now) findings.new }
     ensures ok { IfOk result (HoldsValue run.now (S.view space.old) kept.new.store) }
     ensures err { IfErr result (IsStopped run.now (S.view space.old) (S.view space.new)) }

@@ -5,7 +5,7 @@ ghost use Rattle.std.specs.Io.KnownBytes.{Appends};
 ghost use Rattle.bit_space.specs.SpaceView.{IsWhole, Keeps, SpaceView};
 ghost use Rattle.pickle_map.specs.Findings.{AreFound};
 ghost use Rattle.pickle_types.specs.TypeTable.{nodes_of};
-ghost use Rattle.poke_batch.specs.RunsUnder.{IsStoreOf};
+ghost use Rattle.poke_batch.specs.RunsUnder.{IsStoreUnder};
 ghost use Rattle.run_parts.specs.Told.{AppendsUpTo};
 ghost use Rattle.searches.specs.Round.{AreSieves, EndsRound, GoesNext, GoesRound, GoesWithout, IsSieveOf, IsStocked, StopsHunt};
 ghost use Rattle.searches.specs.Rounds.{EndsStart, EndsType, TriesAll, places_after};
@@ -18,6 +18,7 @@ use crate::probe::{known_skip, probe, skip};
 use crate::search::{Reach, Search};
 use crate::sought::Sought;
 use bit_space::Space;
+use command_line::terms::Terms;
 use first_numbers::sieve::Sieve;
 use pickle_map::mapper::findings::Findings;
 use poke_batch::run::end_outcome;
@@ -123,7 +124,7 @@ fn pass_next(hunt: &Hunt<'_>, k: usize, at: Reach, stock: &Stock<'_>) -> Option<
         return Some(at);
     }
     let stopped = known_skip(hunt, &hunt.list[k], &stock.sieves[k], at)?;
-    hunt.search.past_stop(at, stopped.fault.kind, stopped.steps)
+    hunt.search.past_stop(hunt.terms.most_bytes, at, stopped.fault.kind, stopped.steps)
 }
 
 // Tries one type of the list at a start, or passes over it, and gathers the line of its value.
@@ -214,11 +215,11 @@ fn try_type<S: Space>(
     findings: &mut Findings,
     space: &mut S,
 ) -> Result<Tried, Outcome>
-    requires ready { IsStoreOf hunt.now.terms.now.most_slots kept.old.store }
+    requires ready { IsStoreUnder hunt.now.terms.now.most_slots hunt.now.terms.now.most_bytes kept.old.store }
     requires found { AreFound (nodes_of sought.now.table.now) findings.old }
     requires sieve { IsSieveOf sought.now (S.view space.old) sieve.old }
     ensures sieve { IsSieveOf sought.now (S.view space.new) sieve.new }
-    ensures ready { IsStoreOf hunt.now.terms.now.most_slots kept.new.store }
+    ensures ready { IsStoreUnder hunt.now.terms.now.most_slots hunt.now.terms.now.most_bytes kept.new.store }
     ensures found { AreFound (nodes_of sought.now.table.now) findings.new }
     ensures ok { (first : SpaceView) → Keeps first (S.view space.old) →
         IfOk result (TriesType hunt.now first at sought.now) }
@@ -228,11 +229,11 @@ fn try_type<S: Space>(
     ensures keeps { Keeps (S.view space.old) (S.view space.new) }
 {
     if let Some(stopped) = skip(hunt, sought, sieve, at, space) {
-        return go_without(hunt.search, hunt.terms.most_slots, at, stopped);
+        return go_without(hunt.search, hunt.terms, at, stopped);
     }
     match probe(hunt, sought, sought.signature, at, kept, findings, space) {
         Ok(hit) => try_value(hunt, sought, at.spend(hit.steps), kept, findings, space),
-        Err(stopped) => go_without(hunt.search, hunt.terms.most_slots, at, stopped),
+        Err(stopped) => go_without(hunt.search, hunt.terms, at, stopped),
     }
 }
 
@@ -245,9 +246,9 @@ fn try_value<S: Space>(
     findings: &mut Findings,
     space: &mut S,
 ) -> Result<Tried, Outcome>
-    requires ready { IsStoreOf hunt.now.terms.now.most_slots kept.old.store }
+    requires ready { IsStoreUnder hunt.now.terms.now.most_slots hunt.now.terms.now.most_bytes kept.old.store }
     requires found { AreFound (nodes_of sought.now.table.now) findings.old }
-    ensures ready { IsStoreOf hunt.now.terms.now.most_slots kept.new.store }
+    ensures ready { IsStoreUnder hunt.now.terms.now.most_slots hunt.now.terms.now.most_bytes kept.new.store }
     ensures found { AreFound (nodes_of sought.now.table.now) findings.new }
     ensures ok { (first : SpaceView) → Keeps first (S.view space.old) →
         IfOk result (TriesValue hunt.now first at sought.now) }
@@ -261,23 +262,18 @@ fn try_value<S: Space>(
             reach: at.past_value(hit.steps),
             end: Some(hit.end),
         }),
-        Err(stopped) => go_without(hunt.search, hunt.terms.most_slots, at, stopped),
+        Err(stopped) => go_without(hunt.search, hunt.terms, at, stopped),
     }
 }
 
 // How far a search is after an attempt that was stopped, or how it ends.
-fn go_without(
-    search: Search,
-    most: Option<u64>,
-    at: Reach,
-    stopped: Stopped,
-) -> Result<Tried, Outcome>
+fn go_without(search: Search, terms: &Terms, at: Reach, stopped: Stopped) -> Result<Tried, Outcome>
     requires { stopped.steps ≤ at.left }
-    ensures ok { IfOk result (GoesWithout search at stopped) }
-    ensures err { IfErr result (StopsHunt most search at stopped) }
+    ensures ok { IfOk result (GoesWithout search terms.now.most_bytes at stopped) }
+    ensures err { IfErr result (StopsHunt terms.now search at stopped) }
 {
-    match search.past_stop(at, stopped.fault.kind, stopped.steps) {
+    match search.past_stop(terms.most_bytes, at, stopped.fault.kind, stopped.steps) {
         Some(reach) => Ok(Tried { reach, end: None }),
-        None => Err(end_outcome(stopped.fault, most, at.place)),
+        None => Err(end_outcome(stopped.fault, terms.most_slots, at.place)),
     }
 }

@@ -24,7 +24,7 @@ pub struct Search {
     pub flush: bool,
 }
 
-/// Attempts that their own limit ended.
+/// Attempts that their own limit ended, or the weight of their values.
 #[derive(Clone, Copy, Debug, Drop, PartialEq, Eq)]
 pub struct GivenUp {
     /// The bit at which the first of them began.
@@ -139,9 +139,11 @@ impl Search {
         }
     }
 
-    /// How far a search is after an attempt that was stopped after so many steps. `None` ends the search.
+    /// How far a search is after an attempt that was stopped after so many steps. With `most_bytes` one whose values
+    /// weigh too much is given up. `None` ends the search.
     pub(crate) fn after_stop(
         &self,
+        most_bytes: Option<u64>,
         at: Reach,
         kind: MapFaultKind,
         steps: u64,
@@ -150,12 +152,13 @@ impl Search {
         requires steps { steps ≤ at.left }
         requires few { IsFew at }
         requires inside { at.place < bits }
-        ensures { result ≡ after_stop self.now at kind steps bits }
+        ensures { result ≡ after_stop self.now most_bytes at kind steps bits }
     {
         let given_up = match kind {
-            MapFaultKind::Device | MapFaultKind::Memory => return None,
+            MapFaultKind::Device => return None,
+            MapFaultKind::Memory if most_bytes.is_none() => return None,
             MapFaultKind::Limit if self.attempt_limit > at.left => return None,
-            MapFaultKind::Limit => Some(given_more(at.given_up, at.place)),
+            MapFaultKind::Memory | MapFaultKind::Limit => Some(given_more(at.given_up, at.place)),
             _ => at.given_up,
         };
         Some(Reach {

@@ -12,6 +12,7 @@ use crate::line::{Texts, write_held};
 use crate::search::{Reach, Search};
 use crate::skips::{attempt, pass_over};
 use bit_space::Space;
+use command_line::terms::Terms;
 use first_numbers::sieve::Sieve;
 use poke_batch::run::end_outcome;
 use poke_batch::type_run::TypeRun;
@@ -90,7 +91,7 @@ fn try_start<S: Space, O: Write>(
             let end = write_held(&next, search.flush, &kept.store, texts, space, out)?;
             Ok(search.after_value(at, end, steps, bits))
         }
-        Err(stopped) => go_past(search, at, stopped, bits, run.terms.most_slots),
+        Err(stopped) => go_past(search, at, stopped, bits, run.terms),
     }
 }
 
@@ -100,16 +101,23 @@ fn go_past(
     at: Reach,
     stopped: Stopped,
     bits: u64,
-    most: Option<u64>,
+    terms: &Terms,
 ) -> Result<Reach, Outcome>
     requires steps { stopped.steps ≤ at.left }
     requires few { IsFew at }
     requires inside { at.place < bits }
-    ensures ok { IfOk result (λ next. after_stop search at stopped.fault.kind stopped.steps bits ≡ Some next) }
-    ensures err { IfErr result (StopsSearch most search at stopped bits) }
+    ensures ok { IfOk result (λ next.
+        after_stop search terms.now.most_bytes at stopped.fault.kind stopped.steps bits ≡ Some next) }
+    ensures err { IfErr result (StopsSearch terms.now search at stopped bits) }
 {
-    match search.after_stop(at, stopped.fault.kind, stopped.steps, bits) {
+    match search.after_stop(
+        terms.most_bytes,
+        at,
+        stopped.fault.kind,
+        stopped.steps,
+        bits,
+    ) {
         Some(next) => Ok(next),
-        None => Err(end_outcome(stopped.fault, most, at.place)),
+        None => Err(end_outcome(stopped.fault, terms.most_slots, at.place)),
     }
 }

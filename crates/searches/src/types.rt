@@ -2,7 +2,7 @@
 
 ghost use Rattle.std.specs.Prelude.{◌≡◌, ◌<◌, length, IfOk};
 ghost use Rattle.bit_space.specs.SpaceView.{Keeps, SpaceView};
-ghost use Rattle.poke_batch.specs.RunsUnder.{IsStoreOf};
+ghost use Rattle.poke_batch.specs.RunsUnder.{IsStoreUnder};
 ghost use Rattle.searches.specs.Round.{AreNew, AreSieves};
 ghost use Rattle.searches.specs.Rounds.{WritesTypes, first_places};
 
@@ -18,7 +18,7 @@ use command_line::terms::Terms;
 use first_numbers::sieve::Sieve;
 use pickle_map::MapFaultKind;
 use pickle_map::mapper::findings::Findings;
-use poke_batch::run::store_of;
+use poke_batch::run::store_under;
 use records::attempt::{Kept, fault_at};
 use run_parts::outcome::{Failure, Outcome};
 use std::alloc::Global;
@@ -91,7 +91,8 @@ fn search_all<S: Space, O: Write>(hunt: &Hunt<'_>, space: &mut S, out: &mut O) -
 
 // Nothing is stored yet, for the types of a search.
 fn new_stock<'a>(hunt: &Hunt<'a>) -> Result<Stock<'a>, Memory>
-    ensures store { IfOk result (λ stock. IsStoreOf hunt.now.terms.now.most_slots stock.kept.store) }
+    ensures store { IfOk result (λ stock.
+        IsStoreUnder hunt.now.terms.now.most_slots hunt.now.terms.now.most_bytes stock.kept.store) }
     ensures places { IfOk result (λ stock. stock.places.items ≡ first_places (length hunt.now.list.now)) }
     ensures findings { IfOk result (λ stock. AreNew (length hunt.now.list.now) stock.findings.items) }
     ensures sieves { IfOk result (λ stock. (space : SpaceView) → AreSieves hunt.now.list.now space stock.sieves.items) }
@@ -99,7 +100,7 @@ fn new_stock<'a>(hunt: &Hunt<'a>) -> Result<Stock<'a>, Memory>
     let alloc = hunt.alloc;
     let count = hunt.list.len();
     let kept = Kept {
-        store: store_of(alloc, hunt.terms.most_slots)?,
+        store: store_under(alloc, hunt.terms)?,
         findings: Findings::new(),
         text: Vec::new(alloc),
     };
