@@ -1,5 +1,6 @@
 pub mod Finding
 pub mod Lists
+pub mod Made
 pub mod ElementTypes
 pub mod Listing
 pub mod Started

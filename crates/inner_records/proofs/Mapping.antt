@@ -16,7 +16,7 @@ use Rattle.pickle_map.specs.declared.mapper.stop.Stop.TheVariants.{Fault, Limit,
 use Rattle.pickle_meaning.specs.Clauses.{FaultAt}
 use Rattle.pickle_meaning.specs.Values.{opened}
 use Rattle.poke_batch.proofs.UnderTerms.{fits_start, starts_before_end}
-use Rattle.poke_batch.specs.RunsUnder.{end_saying}
+use Rattle.poke_batch.specs.RunsUnder.{end_under_saying}
 use Rattle.poke_batch.specs.declared.type_run.TypeRun.{TypeRun}
 use Rattle.records.proofs.Nexts.{ends_not_put, goes}
 use Rattle.records.specs.Next.{EndsHereBy, IsHeld, IsNotPut, PutsHeld}
@@ -73,7 +73,8 @@ pub ends_stopped : (run : TypeRun) (listing : Listing) {first before : SpaceView
     → StopsElement list before last at after stop
     → (stop_ends list.extent stop ≡ true → ended ≡ ended_at list is_last listing at.place (8 * before.len))
     → (stop_ends list.extent stop ≡ false → outcome_saying ended
-    ≡ end_saying run.terms.now.most_slots at.place (fault_of stop at.place).kind (fault_of stop at.place).at)
+    ≡ end_under_saying run.terms.now.most_slots run.terms.now.most_bytes at.place (fault_of stop at.place).kind
+    (fault_of stop at.place).at)
     → EndsElements run listing first last list is_last at ended
 ends_stopped run listing {first} {before} last list is_last at stop after ended since rise on due
     paid stops drops says =

@@ -18,7 +18,7 @@ use Rattle.pickle_types.specs.Table.{type_of}
 use Rattle.pickle_types.specs.TypeTable.{nodes_of}
 use Rattle.pickle_types.specs.Types.{PokeType}
 use Rattle.pickle_types.specs.declared.node.Node.{Node}
-use Rattle.poke_batch.specs.RunsUnder.{end_saying}
+use Rattle.poke_batch.specs.RunsUnder.{end_under_saying}
 use Rattle.poke_batch.specs.TypeRuns.{run_type}
 use Rattle.poke_batch.specs.declared.type_run.TypeRun.{TypeRun}
 use Rattle.run_parts.specs.Outcomes.{outcome_saying}
@@ -83,7 +83,7 @@ module _ {W : Type 0} (run : TypeRun) (path : Path) (old : Mapper W) (node start
     pub stops_there : (limit : ℕ) (stop : Stop) (ended : Outcome) → limit ≡ run.ask.now.limit
         → StopsAt (bytes_in space) (HasRisen space.failures space'.failures)
         (reaches_from (bytes_in space) old stage path) Faulty limit before after stop
-        → outcome_saying ended ≡ end_saying run.terms.now.most_slots run.ask.now.start
+        → outcome_saying ended ≡ end_under_saying run.terms.now.most_slots run.terms.now.most_bytes run.ask.now.start
         (fault_of stop run.ask.now.start).kind (fault_of stop run.ask.now.start).at
         → HasNoList run path space space' ended
     stops_there limit stop ended same h says =

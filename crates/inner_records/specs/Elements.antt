@@ -12,7 +12,7 @@ use Rattle.pickle_meaning.specs.Values.{Value, opened}
 use Rattle.pickle_meaning.specs.declared.extent.Extent.{Extent}
 use Rattle.pickle_meaning.specs.declared.extent.Extent.TheVariants.{Open, Count, Size}
 use Rattle.pickle_meaning.specs.declared.faults.MapFaultKind.TheVariants as fault
-use Rattle.poke_batch.specs.RunsUnder.{end_saying}
+use Rattle.poke_batch.specs.RunsUnder.{end_under_saying}
 use Rattle.poke_batch.specs.declared.type_run.TypeRun.{TypeRun}
 use Rattle.records.specs.Records.{is_counted}
 use Rattle.records.specs.Written.{BreaksAt}
@@ -71,8 +71,8 @@ module _ (run : TypeRun) (listing : Listing) (first last : SpaceView) (list : Li
         → stop_ends list.extent stop ≡ true → Breaks (ended_at list is_last listing at.place (8 * first.len))
     stopped : (stop : Stop) (after : ℕ) {ended : Outcome} → 0 < at.left → StopsElement list first last at after stop
         → stop_ends list.extent stop ≡ false
-        → outcome_saying ended ≡ end_saying run.terms.now.most_slots at.place (fault_of stop at.place).kind
-        (fault_of stop at.place).at
+        → outcome_saying ended ≡ end_under_saying run.terms.now.most_slots run.terms.now.most_bytes at.place
+        (fault_of stop at.place).kind (fault_of stop at.place).at
         → Breaks ended
     at_value : {ended : Outcome} → BreaksAt (IsElement list (bytes_in first)) run listing first last at ended →
         Breaks ended

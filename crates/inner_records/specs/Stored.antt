@@ -1,5 +1,5 @@
 -- What is stored while a list inside a type is mapped.
-use Rattle.std.specs.Prelude.{◌≡◌, ◌*◌, ◌≤◌}
+use Rattle.std.specs.Prelude.{◌≡◌, ◌*◌, ◌≤◌, ℕ, Option, Some, None}
 use Rattle.bit_space.specs.SpaceView.{SpaceView}
 use Rattle.fault_location.specs.Sites.{MayEnter}
 use Rattle.inner_lists.specs.Calls.{listed}
@@ -15,11 +15,16 @@ use Rattle.pickle_meaning.specs.Values.{Levels, outer_of}
 use Rattle.pickle_types.specs.TypeTable.{nodes_of}
 use Rattle.poke_batch.specs.RunsUnder.{IsStoreOf}
 use Rattle.poke_batch.specs.declared.type_run.TypeRun.{TypeRun}
-use Rattle.value_store.specs.Slots.{levels, level_count}
+use Rattle.value_store.specs.Slots.{Held, levels, level_count, weighing}
 
--- what is stored serves a run: its store is of the most slots, and what is known of the table's types is right
+-- what a store was made with for a run under terms: with a most of bytes, that it takes no more
+abbrev pub IsMadeUnder : (slots bytes : Option ℕ) → Held → Type 0
+IsMadeUnder slots None store = IsStoreOf slots store
+IsMadeUnder slots (Some most) store = store.room ≡ weighing most
+
+-- what is stored serves a run: its store is one under its terms, and what is known of the table's types is right
 pub record IsReady (run : TypeRun) (stored : Stored) : Type 0 where
-  pub store : IsStoreOf run.terms.now.most_slots stored.store
+  pub store : IsMadeUnder run.terms.now.most_slots run.terms.now.most_bytes stored.store
   pub kept : AreKept (nodes_of run.table.now) stored.packings
 
 -- the frames around the innermost one

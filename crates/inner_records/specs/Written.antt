@@ -10,7 +10,7 @@ use Rattle.list_laws.specs.Reaches.{Faulty, Found, Lacking, Listed, Reached, Rea
 use Rattle.pickle_map.specs.Mapped.{fault_of}
 use Rattle.pickle_map.specs.declared.mapper.stop.Stop.{Stop}
 use Rattle.pickle_meaning.specs.Values.{no_values}
-use Rattle.poke_batch.specs.RunsUnder.{end_saying}
+use Rattle.poke_batch.specs.RunsUnder.{end_under_saying}
 use Rattle.poke_batch.specs.TypeRuns.{run_type}
 use Rattle.poke_batch.specs.declared.type_run.TypeRun.{TypeRun}
 use Rattle.records.specs.Records.{first_of}
@@ -42,7 +42,7 @@ pub data HasNoList (run : TypeRun) (path : Path) (first last : SpaceView) : Outc
   stopped : (taken : ℕ) (stop : Stop) {ended : Outcome} → taken ≤ run.ask.now.limit
       → StopsAt (bytes_in first) (HasRisen first.failures last.failures) (run_reaches run path (bytes_in first)) Faulty
       run.ask.now.limit 0 taken stop
-      → outcome_saying ended ≡ end_saying run.terms.now.most_slots run.ask.now.start
+      → outcome_saying ended ≡ end_under_saying run.terms.now.most_slots run.terms.now.most_bytes run.ask.now.start
       (fault_of stop run.ask.now.start).kind (fault_of stop run.ask.now.start).at
       → HasNoList run path first last ended
   no_memory : HasNoList run path first last (outcome.Failed failure.Memory)

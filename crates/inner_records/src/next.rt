@@ -9,13 +9,14 @@ ghost use Rattle.list_laws.specs.Meanings.{bytes_in};
 ghost use Rattle.list_laws.specs.Reaches.{Listed};
 ghost use Rattle.pickle_map.specs.Mapped.{fault_of};
 ghost use Rattle.pickle_map.specs.Stops.{stop_ends};
-ghost use Rattle.poke_batch.specs.RunsUnder.{end_saying};
+ghost use Rattle.poke_batch.specs.RunsUnder.{end_under_saying};
 ghost use Rattle.records.specs.Records.{is_counted};
 ghost use Rattle.run_parts.specs.Outcomes.{outcome_saying};
 
 use crate::elements::Elements;
 use crate::stored::Stored;
 use bit_space::{Meter, Space};
+use command_line::terms::Terms;
 use inner_lists::element::map_element;
 use inner_lists::place::ListPlace;
 use pickle_map::MapFaultKind;
@@ -23,7 +24,7 @@ use pickle_map::mapper::fault_of;
 use pickle_map::mapper::state::Mapper;
 use pickle_map::mapper::stop::Stop;
 use pickle_map::mapper::watch::Unwatched;
-use poke_batch::run::end_outcome;
+use poke_batch::run::end_under;
 use poke_batch::type_run::TypeRun;
 use records::attempt::fault_at;
 use records::next::write_held;
@@ -90,7 +91,7 @@ pub fn next_element<S: Space, O: Write>(
         Err(stop) => Err(element_end(
             elements,
             stop,
-            run.terms.most_slots,
+            run.terms,
             listing,
             at.place,
             8 * space.len(),
@@ -131,7 +132,7 @@ fn map_next<S: Space>(
 fn element_end(
     elements: &Elements,
     stop: Stop,
-    most: Option<u64>,
+    terms: &Terms,
     listing: Listing,
     place: u64,
     bits: u64,
@@ -139,11 +140,12 @@ fn element_end(
     ensures dropped { (list : Listed) → list.extent ≡ elements.now.place.extent → list.top ≡ elements.now.place.top →
         stop_ends list.extent stop ≡ true → result ≡ ended_at list elements.now.last listing place bits }
     ensures stopped { stop_ends elements.now.place.extent stop ≡ false → outcome_saying result
-        ≡ end_saying most place (fault_of stop place).kind (fault_of stop place).at }
+        ≡ end_under_saying terms.now.most_slots terms.now.most_bytes place (fault_of stop place).kind
+        (fault_of stop place).at }
 {
     if stop.ends(elements.place.extent) {
         elements.ended_at(listing, place, bits)
     } else {
-        end_outcome(fault_of(stop, place), most, place)
+        end_under(fault_of(stop, place), terms, place)
     }
 }

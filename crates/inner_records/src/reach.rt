@@ -14,7 +14,7 @@ use inner_lists::reach::reach;
 use pickle_map::mapper::fault_of;
 use pickle_map::mapper::state::Mapper;
 use pickle_map::mapper::watch::Unwatched;
-use poke_batch::run::end_outcome;
+use poke_batch::run::end_under;
 use poke_batch::type_run::TypeRun;
 use run_parts::outcome::Outcome;
 
@@ -67,6 +67,6 @@ pub fn start_list<S: Space>(
             left: ask.limit - meter.steps(),
         }),
         Ok(None) => Err(Outcome::NoSuchPart),
-        Err(stop) => Err(end_outcome(fault_of(stop, ask.start), terms.most_slots, ask.start)),
+        Err(stop) => Err(end_under(fault_of(stop, ask.start), terms, ask.start)),
     }
 }

@@ -6,7 +6,7 @@ ghost use Rattle.inner_records.specs.Stored.{IsReady};
 use bit_space::Memory;
 use pickle_map::Store;
 use pickle_map::mapper::packings::Packings;
-use poke_batch::run::store_of;
+use poke_batch::run::store_under;
 use poke_batch::type_run::TypeRun;
 
 /// What is stored while a list is mapped.
@@ -26,7 +26,7 @@ impl Stored {
         ensures { IfOk result (IsReady run.now) }
     {
         Ok(Stored {
-            store: store_of(run.alloc, run.terms.most_slots)?,
+            store: store_under(run.alloc, run.terms)?,
             packings: Packings::new(),
             text: Vec::new(run.alloc),
         })

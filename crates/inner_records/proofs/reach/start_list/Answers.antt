@@ -56,5 +56,5 @@ returns-in-Err-clause-err g c =
     rw⁻¹ c.deref.ensures.value
     (stops_there run c.deref.result.now first c.node.result c.from.result c.node.ensures c.from.ensures nodes none
     (g.S.Space.view c.args.space.now) (g.S.Space.view c.reach.new.space) first.meter.now.steps
-    c.reach.new.mapper.meter.now.steps fresh few first.meter.now.limit c.in-Err.stop c.end_outcome.result limit
-    c.in-Err.ensures.is (rw c.fault_of.ensures at c.end_outcome.ensures))
+    c.reach.new.mapper.meter.now.steps fresh few first.meter.now.limit c.in-Err.stop c.end_under.result limit
+    c.in-Err.ensures.is (rw c.fault_of.ensures at c.end_under.ensures))
