@@ -44,15 +44,20 @@ untold_line lack_memory = if lack_memory then untold else []
 abbrev pub lines_of : Reasons → List ℕ
 lines_of reasons = if reasons.lack_memory then untold else reasons.text.items
 
+-- memory lacks for reasons, and nothing is left of them
+pub record AreLost (reasons : Reasons) : Type 0 where
+  pub text : reasons.text.items ≡ []
+  pub lack : reasons.lack_memory ≡ true
+
 -- reasons that were made, or weren't for want of memory
 abbrev pub IsMade : Result (Vec ℕ Global) AllocError → Reasons → Type 0
 IsMade (Ok text) reasons = (reasons.text ≡ text) × (reasons.lack_memory ≡ false)
-IsMade (Err fault) reasons = reasons.lack_memory ≡ true
+IsMade (Err fault) reasons = AreLost reasons
 
 -- reasons are right, or memory lacks for them
 pub data Says (Right : List ℕ → Type 0) (reasons : Reasons) : Type 0 where
   said : Right reasons.text.items → reasons.lack_memory ≡ false → Says Right reasons
-  unsaid : reasons.lack_memory ≡ true → Says Right reasons
+  unsaid : AreLost reasons → Says Right reasons
 
 -- the reasons of a job over a pickle that ended with a refusal which these explain
 pub record SaysOf (IsPickle : NamedPickle → Type 0) (ended : Outcome) (reasons : Reasons) : Type 0 where

@@ -2,7 +2,7 @@
 ghost use Rattle.std.specs.Prelude.{◌≡◌, [], true, false, IfNone, IfOk, IfSome};
 ghost use Rattle.bit_space.specs.SpaceView.{Keeps};
 ghost use Rattle.fault_report.specs.Why.{TellsWhy, run_of};
-ghost use Rattle.jobs.specs.Reasons.{Explains, Gains, IsExplained, Says, IsMade, SaysNotes, SaysRefusal, lines_of, untold_line};
+ghost use Rattle.jobs.specs.Reasons.{AreLost, Explains, Gains, IsExplained, Says, IsMade, SaysNotes, SaysRefusal, lines_of, untold_line};
 ghost use Rattle.poke_batch.specs.TypeRuns.{run_type};
 
 use crate::ending::Ending;
@@ -72,7 +72,7 @@ impl Reasons {
 
     /// Says that memory lacks for them.
     pub fn lose(&mut self)
-        ensures { self.new.lack_memory ≡ true }
+        ensures { AreLost self.new }
     {
         self.text.clear();
         self.lack_memory = true;

@@ -10,4 +10,4 @@ returns-in-Ok c =
     ∙ ap (λ old. old ++ opening_text c.args.reason.now) c.new-line.ensures.items) c.made.ensures.1)
 
 pub returns-in-Err : goal.returns-in-Err
-returns-in-Err c = is_untold (lacking_lines c.made-in-Err.result c.made-in-Err.ensures)
+returns-in-Err c = is_untold (lacking_lines c.made-in-Err.result c.made-in-Err.ensures.lack)
