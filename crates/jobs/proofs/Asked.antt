@@ -1,5 +1,5 @@
 -- How a job ends, by its kind.
-use Rattle.std.proofs.Common.{◌≡◌, ◌≢◌, ℕ, Bool, List, Option, String, string_bytes, refl, subst}
+use Rattle.std.proofs.Common.{◌≡◌, ◌≢◌, ℕ, Bool, List, Option, Some, None, IfSome, IfNone, String, string_bytes, refl, subst}
 use Rattle.std.specs.declared.alloc.Global.{Global}
 use Rattle.bit_space.specs.declared.order.Order.{Order}
 use Rattle.command_line.specs.declared.identification.Identification.{Identification}
@@ -10,7 +10,7 @@ use Rattle.command_line.specs.declared.words.Job.{Job}
 use Rattle.command_line.specs.declared.words.Job.TheVariants as job
 use Rattle.part_lists.specs.PartRuns.{PartsAs}
 use Rattle.jobs.specs.Due.{DueOver, DueRun, End, Holds}
-use Rattle.jobs.specs.Given.{DueAnswer, IsAskedAbout, IsOverFiles, of_bound, of_check, of_memory, of_parts, of_text, of_tight, of_types}
+use Rattle.jobs.specs.Given.{DueAnswer, HasNoBound, IsAskedAbout, IsOverFiles, of_bound, of_check, of_memory, of_parts, of_text, of_tight, of_types}
 use Rattle.jobs.specs.Gives.{Gives}
 use Rattle.jobs.specs.Jobs.{DueBound, DueCheckIn, DueTypesIn, HoldsJob}
 use Rattle.jobs.specs.declared.pickles.BoundOf.{BoundOf}
@@ -48,6 +48,32 @@ question_holds gives why _ form word _ out out' end
     (of_text {bits = bits} {mode = mode} {style = style} given is same) h =
     bound_holds gives word given.now (bound.Text (record { bits = bits; style = style; mode = mode })) out out' end is
     same h
+
+-- a question about bounds, or none
+pub if_some_more : {A : Type 0} (o : Option A) (P Q : A → Type 0) → ((found : A) → P found → Q found) → IfSome o P
+    → IfSome o Q
+if_some_more None P Q more h = tt
+if_some_more (Some found) P Q more h = more found h
+
+pub if_none_more : {A : Type 0} (o : Option A) (P Q : Type 0) → (P → Q) → IfNone o P → IfNone o Q
+if_none_more None P Q more h = more h
+if_none_more (Some found) P Q more h = tt
+
+pub over_files : (asked : Job) → HasNoBound asked → ((pickle : String Global) → asked ≢ job.Check pickle)
+    → ((pickle : String Global) → asked ≢ job.Types pickle)
+    → ((pickle name : String Global) (depth : Option ℕ) → asked ≢ job.Parts pickle name depth) → IsOverFiles asked
+over_files (job.Map at order limit mode pickle name file) none check types parts = tt
+over_files (job.Request request) none check types parts = tt
+over_files (job.Identify files) none check types parts = tt
+over_files (job.Dump from size ruler file) none check types parts = tt
+over_files job.Formats none check types parts = tt
+over_files (job.Bound pickle name bits) none check types parts = absurd none
+over_files (job.TightBound pickle name bits) none check types parts = absurd none
+over_files (job.MemoryBound pickle name bits) none check types parts = absurd none
+over_files (job.BoundText pickle name bits mode style) none check types parts = absurd none
+over_files (job.Check pickle) none check types parts = absurd (check pickle refl)
+over_files (job.Types pickle) none check types parts = absurd (types pickle refl)
+over_files (job.Parts pickle name depth) none check types parts = absurd (parts pickle name depth refl)
 
 -- the list of formats is the one job that is left
 pub only_formats : (asked : Job) → IsOverFiles asked

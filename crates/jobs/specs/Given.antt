@@ -95,6 +95,14 @@ IsOverFiles (job.Check pickle) = ⊥
 IsOverFiles (job.Types pickle) = ⊥
 IsOverFiles (job.Parts pickle name depth) = ⊥
 
+-- those that request no bounds
+abbrev pub HasNoBound : Job → Type 0
+HasNoBound (job.Bound pickle name bits) = ⊥
+HasNoBound (job.TightBound pickle name bits) = ⊥
+HasNoBound (job.MemoryBound pickle name bits) = ⊥
+HasNoBound (job.BoundText pickle name bits mode style) = ⊥
+HasNoBound other = Unit {0}
+
 -- a run over a space whose view is so afterwards; the view at the run's end has no more failures
 pub record MapsSpace (pickle : List ℕ) (ask : Ask) (terms : Terms) (space space' : SpaceView) (why : Bool)
     (out out' : Option (List ℕ)) (ended : Outcome) : Type 0 where

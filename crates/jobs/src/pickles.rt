@@ -1,7 +1,7 @@
 //! The jobs that read a pickle alone.
 ghost use Rattle.std.specs.Prelude.{◌≡◌, IfNone, IfSome, Ok, Some};
 ghost use Rattle.jobs.specs.Due.{DueOver, Holds};
-ghost use Rattle.jobs.specs.Given.{DueAnswer, IsAskedAbout, IsOverFiles};
+ghost use Rattle.jobs.specs.Given.{DueAnswer, HasNoBound, IsAskedAbout, IsOverFiles};
 ghost use Rattle.jobs.specs.Jobs.{BoundsOf, DueBound};
 ghost use Rattle.jobs.specs.Reasons.{Explains, ExplainsWord};
 ghost use Rattle.jobs.specs.declared.ending.Ending.TheVariants.{Run};
@@ -80,6 +80,16 @@ pub fn question_of(asked: &Asked) -> Option<(&str, Question<'_>)>
             };
             Some((pickle, question))
         }
+        _ => bound_question(&asked.job),
+    }
+}
+
+// The same of a job that requests bounds.
+fn bound_question(job: &Job) -> Option<(&str, Question<'_>)>
+    ensures some { IfSome result (λ found. (form : AnswerForm) → IsAskedAbout form found.0.now job.now found.1) }
+    ensures none { IfNone result (HasNoBound job.now) }
+{
+    match job {
         Job::Bound { pickle, name, bits } => {
             let name = name.as_bytes();
             let of = BoundOf::Plain(*bits);
@@ -110,8 +120,14 @@ pub fn question_of(asked: &Asked) -> Option<(&str, Question<'_>)>
             });
             Some((pickle, Question::Bound { name, of }))
         }
-        Job::Map { .. } | Job::Request(_) | Job::Identify(_) | Job::Dump { .. } | Job::Formats =>
-            None,
+        Job::Map { .. }
+        | Job::Request(_)
+        | Job::Identify(_)
+        | Job::Dump { .. }
+        | Job::Formats
+        | Job::Check { .. }
+        | Job::Types { .. }
+        | Job::Parts { .. } => None,
     }
 }
 
