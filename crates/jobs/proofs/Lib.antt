@@ -17,6 +17,8 @@ mod Readable
 mod Listed
 mod Explained
 mod Told
+mod FilesTold
+pub mod Unasked
 pub mod Recorded
 pub mod Searched
 pub mod Hunts

@@ -1,6 +1,6 @@
 -- What is told of files aside.
 use Rattle.std.proofs.Common.{◌≡◌, ◌≢◌, Bool, true, false, ℕ, List, [], Option, Some, Result, Ok, Err, OnOk, refl, subst, ap, ◌∙◌, if◌then◌else◌}
-use Rattle.std.proofs.KnownBytes.{Keeps-refl, Keeps-trans}
+use Rattle.std.proofs.KnownBytes.{Keeps-trans}
 use Rattle.std.specs.Io.KnownBytes.{Keeps}
 use Rattle.bit_space.specs.SpaceView.{SpaceView}
 use Rattle.command_line.specs.Starts.{start_bit}
@@ -10,6 +10,7 @@ use Rattle.jobs.specs.Files.{Every}
 use Rattle.jobs.specs.Gives.{Gives}
 use Rattle.jobs.specs.Mapped.{Mapped}
 use Rattle.jobs.specs.Reasons.{lines_of, untold}
+use Rattle.jobs.proofs.Holding.{keeps_before}
 use Rattle.jobs.specs.declared.file_run.FileForm.{FileForm}
 use Rattle.jobs.specs.declared.file_run.FileForm.TheVariants.{Line, Object}
 use Rattle.jobs.specs.declared.why.Reasons.{Reasons}
@@ -17,40 +18,33 @@ use Rattle.run_parts.specs.declared.outcome.Outcome.{Outcome}
 use Rattle.spool.specs.Window.{seen}
 use Rattle.text_output.proofs.Parts.{Appends-keeps}
 
--- nothing is told after texts
+-- nothing more is told after a text, or before it
 pub tells_kept : (A : List ℕ → Type 0) (told mid told' : Option (List ℕ)) → Tells A told mid → Keeps mid told' →
     Tells A told told'
 tells_kept A told mid told' (none_told same) keeps = none_told (Keeps-trans told mid told' same keeps)
-tells_kept A told mid told' (one_told first right text) keeps =
-    one_told first right (Appends-keeps _ mid told' _ text keeps)
+tells_kept A told mid told' (one_told {text = text} right appends) keeps =
+    one_told right (Appends-keeps told mid told' text appends keeps)
 
--- texts are told after texts
-pub tells_join : (A : List ℕ → Type 0) (told mid told' : Option (List ℕ)) → Tells A told mid → Tells A mid told' →
-    Tells A told told'
-tells_join A told mid told' first (none_told keeps) = tells_kept A told mid told' first keeps
-tells_join A told mid told' first (one_told {mid = last} more right text) =
-    one_told (tells_join A told mid last first more) right text
-
--- nothing is told before texts
 pub kept_tells : (A : List ℕ → Type 0) (told mid told' : Option (List ℕ)) → Keeps told mid → Tells A mid told' →
     Tells A told told'
-kept_tells A told mid told' keeps more = tells_join A told mid told' (none_told keeps) more
+kept_tells A told mid told' keeps (none_told same) = none_told (Keeps-trans told mid told' keeps same)
+kept_tells A told mid told' keeps (one_told {text = text} right appends) =
+    one_told right (keeps_before told mid told' text keeps appends)
 
--- texts that are right otherwise, too
+-- a text that is right otherwise, too
 pub tells_more : (A B : List ℕ → Type 0) (told told' : Option (List ℕ)) → ((text : List ℕ) → A text → B text)
     → Tells A told told' → Tells B told told'
 tells_more A B told told' more (none_told keeps) = none_told keeps
-tells_more A B told told' more (one_told {mid = mid} {text = text} first right appends) =
-    one_told (tells_more A B told mid more first) (more text right) appends
+tells_more A B told told' more (one_told {text = text} right appends) = one_told (more text right) appends
 
 -- lines that are told, where they explain how the run of a file ended
 some_tell : (name lines : List ℕ) (Explains : List ℕ → Type 0) (told told' : Option (List ℕ))
     → (lines ≢ [] → Explains lines) → TellsSome name lines told told' → Tells (TellsRun name Explains) told told'
 some_tell name lines Explains told told' explains (no_lines none keeps) = none_told keeps
 some_tell name lines Explains told told' explains (all_lines some appends) =
-    one_told (none_told (Keeps-refl told)) (tells_run (explains some)) appends
+    one_told (tells_run some (explains some)) appends
 some_tell name lines Explains told told' explains (lack_memory some appends) =
-    one_told (none_told (Keeps-refl told)) tells_untold appends
+    one_told (tells_untold some (explains some)) appends
 
 pub lines_tell : {T E : Type 0} (name lines : List ℕ) (Explains : List ℕ → Type 0) (told told' : Option (List ℕ))
     (r : Result T E) → (lines ≢ [] → Explains lines) → TellsLines name lines told told' r
@@ -94,9 +88,10 @@ pub opened_tells : (gives : Gives) (every : Every) (name text : List ℕ) (file 
     → gives.is_file name every.spool file → start_bit every.start file.len ≡ Some start
     → sight ≡ seen every.window start file → TellsRun name (every.explains start sight) text
     → TellsName gives every name text
-opened_tells gives every name _ file sight start is from same (tells_run {lines = lines} explains) =
-    tells_run (opened_name start is from (subst (λ view. every.explains start view lines) same explains))
-opened_tells gives every name _ file sight start is from same tells_untold = tells_untold
+opened_tells gives every name _ file sight start is from same (tells_run {lines = lines} some explains) =
+    tells_run some (opened_name start is from (subst (λ view. every.explains start view lines) same explains))
+opened_tells gives every name _ file sight start is from same (tells_untold {lines = lines} some explains) =
+    tells_untold some (opened_name start is from (subst (λ view. every.explains start view lines) same explains))
 
 -- nothing is due of a call's result
 pub nothing_due : {T E : Type 0} (r : Result T E) → OnOk r (Unit {0})

@@ -1,7 +1,7 @@
 //! A type of a pickle, mapped over many files.
 ghost use Rattle.std.specs.Prelude.{◌≡◌, Ok};
 ghost use Rattle.jobs.specs.Aims.{of_mapping};
-ghost use Rattle.jobs.specs.Asides.{Tells, TellsFile};
+ghost use Rattle.jobs.specs.Asides.{TellsFiles};
 ghost use Rattle.jobs.specs.Due.{Holds};
 ghost use Rattle.jobs.specs.Jobs.{DueEach, every_for};
 
@@ -33,7 +33,7 @@ pub fn map_each<P: Opener, A: Aside, O: Write>(
     ensures holds { let due = DueEach (P.gives opener.now) why.old.asked (of_mapping mapping.entry) names.now in
         Holds (due pickle.now.bytes.items) (O.contents out.old) (O.contents out.new) (Ok result) }
     ensures told { let every = every_for why.old.asked (of_mapping mapping.entry) pickle.now.bytes.items in
-        Tells (TellsFile (P.gives opener.now) every) (A.told aside.old) (A.told aside.new) }
+        TellsFiles (P.gives opener.now) every names.now (A.told aside.old) (A.told aside.new) }
 {
     let (table, id) = match resolve(alloc, &pickle.bytes, mapping.name) {
         Ok(found) => found,

@@ -1,6 +1,6 @@
 //! The formats of many files, among the pickles that are installed.
 ghost use Rattle.std.specs.Prelude.{◌≡◌, Ok, map, option_map};
-ghost use Rattle.jobs.specs.Asides.{Tells, TellsFile, TellsFormats};
+ghost use Rattle.jobs.specs.Asides.{TellsFiles, TellsFormats};
 ghost use Rattle.jobs.specs.Due.{Holds};
 ghost use Rattle.jobs.specs.Files.{answer_form};
 ghost use Rattle.jobs.specs.Installed.{HasFormats, installed_pickle};
@@ -36,7 +36,7 @@ pub fn identify_each<P: Opener, O: Write, A: Aside>(
 ) -> Result<Ending, FileFault>
     ensures holds { Holds (DueIdentified (P.gives opener.now) why.old.asked asked.now form)
         (O.contents out.old) (O.contents out.new) result }
-    ensures told { Tells (TellsFormats (P.gives opener.now) why.old.asked asked.now form)
+    ensures told { TellsFormats (P.gives opener.now) why.old.asked asked.now form
         (A.told aside.old) (A.told aside.new) }
 {
     let installed = opener.read_installed(asked.folder.as_deref())?;
@@ -66,7 +66,7 @@ fn identify_among<P: Opener, O: Write, A: Aside>(
         Holds (DueNamed (P.gives opener.now) every asked.now.names)
         (O.contents out.old) (O.contents out.new) (Ok result) }
     ensures told { let every = every_format explains asked.now form formats.now in
-        Tells (TellsFile (P.gives opener.now) every) (A.told aside.old) (A.told aside.new) }
+        TellsFiles (P.gives opener.now) every asked.now.names (A.told aside.old) (A.told aside.new) }
 {
     let identity = Identity {
         formats,

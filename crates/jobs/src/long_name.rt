@@ -1,7 +1,7 @@
 //! A name of a list that is too long to be opened. Its line is written as the name is read, so it needs no memory.
 ghost use Rattle.std.specs.Prelude.{◌≡◌, ◌++◌, [], false, IfOk, OnErr, OnOk};
 ghost use Rattle.std.specs.Io.KnownBytes.{Appends};
-ghost use Rattle.jobs.specs.Asides.{Tells, TellsLong};
+ghost use Rattle.jobs.specs.Asides.{TellsEnded};
 ghost use Rattle.jobs.specs.Every.{every_of};
 ghost use Rattle.jobs.specs.Explained.{IsOpeningLine};
 ghost use Rattle.jobs.specs.Reasons.{lines_of};
@@ -52,7 +52,8 @@ pub fn run_long<L: Read, A: Aside, O: Write>(
         (O.contents out.old) (O.contents out.new)) }
     ensures err { OnErr result (CutsLong (every_of task.entry) start.now (L.remaining list.old)
         (O.contents out.old) (O.contents out.new)) }
-    ensures told { Tells (TellsLong (every_of task.entry) start.now) (A.told aside.old) (A.told aside.new) }
+    ensures told { TellsEnded (every_of task.entry) start.now (L.remaining list.old) (L.remaining list.new)
+        (A.told aside.old) (A.told aside.new) }
 {
     aside.show();
     put_start(task.form, start, out)?;
@@ -130,6 +131,7 @@ fn put_rest<L: Read, O: Write>(
 // The line that says why the file of a long name isn't opened, if that is requested.
 fn long_lines(task: Task<'_>, rest: Rest) -> Reasons
     ensures quiet { task.entry.explains ≡ false → lines_of result ≡ [] }
+    ensures unread { rest ≡ Rest.Unread → lines_of result ≡ [] }
     ensures lines { IsOpeningLine (lines_of result) }
 {
     if !task.explains || rest != Rest::Ended {

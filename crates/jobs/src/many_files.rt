@@ -1,7 +1,7 @@
 //! Many files, whose names are in the arguments or in a list, one after another.
 ghost use Rattle.std.specs.Prelude.{◌≡◌, ◌<◌, Ok, IfErr, IfNone, IfOk, IfSome, OnErr, vec_capacity};
 ghost use Rattle.std.specs.Io.KnownBytes.{IsAtEnd, Keeps};
-ghost use Rattle.jobs.specs.Asides.{Tells, TellsFile};
+ghost use Rattle.jobs.specs.Asides.{Tells, TellsFiles, TellsList, TellsRead, TellsWord, TellsWords};
 ghost use Rattle.jobs.specs.Due.{Holds};
 ghost use Rattle.jobs.specs.Every.{IsReadyFor, IsSet, every_of};
 ghost use Rattle.jobs.specs.Files.{AppendsLine, CutsLine, WritesWord, greater, rank};
@@ -35,7 +35,8 @@ pub fn run_files<P: Opener, A: Aside, O: Write>(
     requires set { IsSet task.work }
     ensures holds { Holds (DueNamed (P.gives opener.now) (every_of task.entry) files.now)
         (O.contents out.old) (O.contents out.new) (Ok result) }
-    ensures told { Tells (TellsFile (P.gives opener.now) (every_of task.entry)) (A.told aside.old) (A.told aside.new) }
+    ensures told { TellsFiles (P.gives opener.now) (every_of task.entry) files.now (A.told aside.old)
+        (A.told aside.new) }
 {
     let ending = run_names(opener, task, files, out, aside);
     aside.clear();
@@ -63,7 +64,8 @@ fn run_names<P: Opener, A: Aside, O: Write>(
     requires set { IsSet task.work }
     ensures holds { Holds (DueNamed (P.gives opener.now) (every_of task.entry) files.now)
         (O.contents out.old) (O.contents out.new) (Ok result) }
-    ensures told { Tells (TellsFile (P.gives opener.now) (every_of task.entry)) (A.told aside.old) (A.told aside.new) }
+    ensures told { TellsFiles (P.gives opener.now) (every_of task.entry) files.now (A.told aside.old)
+        (A.told aside.new) }
 {
     match files {
         FileNames::Words(words) => {
@@ -87,7 +89,8 @@ fn run_words<P: Opener, A: Aside, O: Write>(
     requires set { IsSet task.work }
     ensures holds { HoldsWords (P.gives opener.now) (every_of task.entry) words.now
         (O.contents out.old) (O.contents out.new) result }
-    ensures told { Tells (TellsFile (P.gives opener.now) (every_of task.entry)) (A.told aside.old) (A.told aside.new) }
+    ensures told { TellsWords (P.gives opener.now) (every_of task.entry) words.now (A.told aside.old)
+        (A.told aside.new) }
 {
     let mut kept = store_for(task);
     let mut greatest = Status::Done;
@@ -115,7 +118,8 @@ fn run_word<P: Opener, A: Aside, O: Write>(
         (O.contents out.old) (O.contents out.new)) }
     ensures err { OnErr result (CutsLine (WritesWord (P.gives opener.now) (every_of task.entry) word.now)
         (O.contents out.old) (O.contents out.new)) }
-    ensures told { Tells (TellsFile (P.gives opener.now) (every_of task.entry)) (A.told aside.old) (A.told aside.new) }
+    ensures told { Tells (TellsWord (P.gives opener.now) (every_of task.entry) word.now) (A.told aside.old)
+        (A.told aside.new) }
 {
     match opener.file_name(word) {
         Ok(name) => run_name(opener, task, kept, name.as_bytes(), aside, out),
@@ -134,7 +138,8 @@ fn run_list<P: Opener, L: Read + Drop, A: Aside, O: Write>(
     requires set { IsSet task.work }
     ensures holds { HoldsList (P.gives opener.now) (every_of task.entry) (L.remaining list)
         (O.contents out.old) (O.contents out.new) result }
-    ensures told { Tells (TellsFile (P.gives opener.now) (every_of task.entry)) (A.told aside.old) (A.told aside.new) }
+    ensures told { TellsList (P.gives opener.now) (every_of task.entry) (λ bytes. bytes ≡ L.remaining list)
+        (A.told aside.old) (A.told aside.new) }
 {
     let Ok(mut list) = BufReader::new(task.alloc, list) else {
         return Err(ListFault::Memory);
@@ -181,7 +186,8 @@ fn run_next<P: Opener, L: BufRead, A: Aside, O: Write>(
         (IsAtEnd (L.remaining list.old) × Keeps (O.contents out.old) (O.contents out.new))) }
     ensures err { IfErr result (StopsNext (P.gives opener.now) (every_of task.entry) (L.remaining list.old)
         (O.contents out.old) (O.contents out.new)) }
-    ensures told { Tells (TellsFile (P.gives opener.now) (every_of task.entry)) (A.told aside.old) (A.told aside.new) }
+    ensures told { TellsRead (P.gives opener.now) (every_of task.entry) (L.remaining list.old) (L.remaining list.new)
+        (A.told aside.old) (A.told aside.new) result }
 {
     let next = read_name(list, name)?;
     let bytes = name.as_slice();

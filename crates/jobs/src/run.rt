@@ -2,7 +2,7 @@
 ghost use Rattle.std.specs.Prelude.{◌≡◌, ◌≢◌, Some};
 ghost use Rattle.command_line.specs.Subjects.{pickle_of};
 ghost use Rattle.jobs.specs.Aims.{of_mapping};
-ghost use Rattle.jobs.specs.Asides.{Tells, TellsJob, TellsOver, TellsRequest, TellsSettled};
+ghost use Rattle.jobs.specs.Asides.{TellsJob, TellsOver, TellsRequest, TellsSettled};
 ghost use Rattle.jobs.specs.Due.{DueOver, Holds};
 ghost use Rattle.jobs.specs.Given.{DueSettled, IsOverFiles};
 ghost use Rattle.jobs.specs.Jobs.{DueFile, DueMapping, DueRequest, DueUnnamed, HoldsJob};
@@ -49,7 +49,7 @@ pub fn run_job<P: Opener, O: Write, A: Aside>(
     ensures holds { HoldsJob (P.gives opener.now) why.old.asked asked.old.job asked.old.answer
         (O.contents out.old) (O.contents out.new) result }
     ensures says { ExplainsWord (P.gives opener.now) (word_of asked.old.job) why.old.asked why.new.reasons.now result }
-    ensures told { Tells (TellsJob (P.gives opener.now) why.old.asked asked.old.job asked.old.answer)
+    ensures told { TellsJob (P.gives opener.now) why.old.asked asked.old.job asked.old.answer
         (A.told aside.old) (A.told aside.new) }
 {
     match question_of(asked) {
@@ -71,7 +71,7 @@ fn run_over_files<P: Opener, O: Write, A: Aside>(
     ensures holds { HoldsJob (P.gives opener.now) why.old.asked asked.old.job asked.old.answer
         (O.contents out.old) (O.contents out.new) result }
     ensures says { ExplainsWord (P.gives opener.now) (word_of asked.old.job) why.old.asked why.new.reasons.now result }
-    ensures told { Tells (TellsJob (P.gives opener.now) why.old.asked asked.old.job asked.old.answer)
+    ensures told { TellsJob (P.gives opener.now) why.old.asked asked.old.job asked.old.answer
         (A.told aside.old) (A.told aside.new) }
 {
     match &mut asked.job {
@@ -94,7 +94,7 @@ fn run_plain<P: Opener, O: Write, A: Aside>(
     ensures holds { HoldsJob (P.gives opener.now) why.old.asked asked.now.job asked.now.answer
         (O.contents out.old) (O.contents out.new) result }
     ensures says { ExplainsWord (P.gives opener.now) (word_of asked.now.job) why.old.asked why.new.reasons.now result }
-    ensures told { Tells (TellsJob (P.gives opener.now) why.old.asked asked.now.job asked.now.answer)
+    ensures told { TellsJob (P.gives opener.now) why.old.asked asked.now.job asked.now.answer
         (A.told aside.old) (A.told aside.new) }
 {
     match &asked.job {
@@ -168,7 +168,7 @@ fn run_request<P: Opener, O: Write, A: Aside>(
         (O.contents out.old) (O.contents out.new) result }
     ensures says { ExplainsWord (P.gives opener.now) (pickle_of request.old.subject) why.old.asked why.new.reasons.now
         result }
-    ensures told { Tells (TellsRequest (P.gives opener.now) why.old.asked request.old)
+    ensures told { TellsRequest (P.gives opener.now) why.old.asked request.old
         (A.told aside.old) (A.told aside.new) }
 {
     let Some(word) = request.subject.pickle() else {
@@ -222,7 +222,7 @@ fn run_settled<P: Opener, O: Write, A: Aside>(
     ensures holds { let due = DueSettled (P.gives opener.now) why.old.asked request.now in
         Holds (due pickle.now.bytes.items) (O.contents out.old) (O.contents out.new) result }
     ensures says { Explains (λ source. source ≡ pickle.now) why.old.asked why.new.reasons.now result }
-    ensures told { Tells (TellsSettled (P.gives opener.now) why.old.asked request.now pickle.now.bytes.items)
+    ensures told { TellsSettled (P.gives opener.now) why.old.asked request.now pickle.now.bytes.items
         (A.told aside.old) (A.told aside.new) }
 {
     match choose(&request.subject, &pickle.bytes) {
@@ -258,8 +258,9 @@ fn map_over<P: Opener, O: Write, A: Aside>(
     ensures holds { let due = DueMapping (P.gives opener.now) why.old.asked (of_mapping mapping.entry) over.now in
         Holds (due pickle.now.bytes.items) (O.contents out.old) (O.contents out.new) result }
     ensures says { Explains (λ source. source ≡ pickle.now) why.old.asked why.new.reasons.now result }
-    ensures told { Tells (TellsOver (P.gives opener.now) why.old.asked (of_mapping mapping.entry) pickle.now.bytes.items
-        over.now) (A.told aside.old) (A.told aside.new) }
+    ensures told { TellsOver (P.gives opener.now) why.old.asked (of_mapping mapping.entry)
+        pickle.now.bytes.items over.now
+        (A.told aside.old) (A.told aside.new) }
 {
     let asked = why.asked;
     let ended = map_files(alloc, opener, mapping, pickle, over, out, aside, why);
@@ -281,8 +282,9 @@ fn map_files<P: Opener, O: Write, A: Aside>(
 ) -> Result<Ending, FileFault>
     ensures holds { let due = DueMapping (P.gives opener.now) why.old.asked (of_mapping mapping.entry) over.now in
         Holds (due pickle.now.bytes.items) (O.contents out.old) (O.contents out.new) result }
-    ensures told { Tells (TellsOver (P.gives opener.now) why.old.asked (of_mapping mapping.entry) pickle.now.bytes.items
-        over.now) (A.told aside.old) (A.told aside.new) }
+    ensures told { TellsOver (P.gives opener.now) why.old.asked (of_mapping mapping.entry)
+        pickle.now.bytes.items over.now
+        (A.told aside.old) (A.told aside.new) }
 {
     match work_over(over, mapping.faults) {
         Work::Map(path) => map_file(alloc, opener, mapping, pickle, path, out, why),

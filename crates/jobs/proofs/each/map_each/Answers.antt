@@ -8,9 +8,10 @@ use Rattle.jobs.specs.declared.ending.Ending.TheVariants.{Run}
 use Rattle.jobs.specs.declared.file_run.FileForm.{FileForm}
 use Rattle.jobs.proofs.Holding.{holds_more, if_not_some, no_text}
 use Rattle.poke_batch.specs.RunsUnder.{lacks_part, lacks_type}
-use Rattle.jobs.specs.Asides.{Tells, TellsFile, none_told}
+use Rattle.jobs.specs.Asides.{TellsFiles}
 use Rattle.jobs.specs.Explained.{ExplainsFrom}
 use Rattle.jobs.specs.Mapped.{Mapped}
+use Rattle.jobs.proofs.FilesTold.{no_files_told}
 use Rattle.jobs.proofs.each.map_each.Goals as goal
 
 pub returns-in-Err-clause-holds : goal.returns-in-Err-clause-holds
@@ -48,10 +49,16 @@ returns-clause-holds g c =
     (subst Written c.of.ensures c.run_files.ensures.holds)
 
 pub returns-in-Err-clause-told : goal.returns-in-Err-clause-told
-returns-in-Err-clause-told g c = none_told (Keeps-refl _)
+returns-in-Err-clause-told g c =
+    no_files_told (g.P.Opener.gives c.args.opener.now)
+    (every_for c.args.why.now.asked (of_mapping c.args.mapping) c.args.pickle.now.bytes.items) c.args.names.now _ _
+    (Keeps-refl _)
 
 pub returns-in-Some-clause-told : goal.returns-in-Some-clause-told
-returns-in-Some-clause-told g c = none_told (Keeps-refl _)
+returns-in-Some-clause-told g c =
+    no_files_told (g.P.Opener.gives c.args.opener.now)
+    (every_for c.args.why.now.asked (of_mapping c.args.mapping) c.args.pickle.now.bytes.items) c.args.names.now _ _
+    (Keeps-refl _)
 
 pub returns-clause-told : goal.returns-clause-told
 returns-clause-told g c =
@@ -59,7 +66,7 @@ returns-clause-told g c =
     let mapping = c.args.mapping in
     let mapped : Mapped =
     record { pickle = c.args.pickle.now.bytes.items; aim = aim_of mapping; terms = mapping.terms.now } in
-    let Told : FileForm → Type 0 = λ form. Tells (TellsFile gives (record {
+    let Told : FileForm → Type 0 = λ form. TellsFiles gives (record {
       start = mapping.start;
       window = mapping.window;
       spool = mapping.spool;
@@ -67,5 +74,5 @@ returns-clause-told g c =
       why = c.args.why.now.asked;
       runs = MapsFrom mapped;
       explains = ExplainsFrom mapped c.args.why.now.asked;
-    })) (g.A.Aside.told c.args.aside.now) (g.A.Aside.told c.run_files.new.aside) in
+    }) c.args.names.now (g.A.Aside.told c.args.aside.now) (g.A.Aside.told c.run_files.new.aside) in
     subst Told c.of.ensures c.run_files.ensures.told

@@ -5,8 +5,7 @@ use Rattle.jobs.specs.Installed.{among, not_installed}
 use Rattle.jobs.specs.Jobs.{DueNamed, every_format}
 use Rattle.jobs.proofs.Holding.{holds_more, no_text}
 use Rattle.jobs.proofs.Among.{formatless_holds}
-use Rattle.jobs.specs.Asides.{TellsFile, none_told, tells_formats}
-use Rattle.jobs.proofs.Told.{tells_more}
+use Rattle.jobs.specs.Asides.{no_formats, tells_formats}
 use Rattle.jobs.proofs.identify.identify_each.Goals as goal
 
 pub returns-in_err-installed-clause-holds : goal.returns-in_err-installed-clause-holds
@@ -34,15 +33,12 @@ returns-clause-holds g c =
     c.end_formatless.ensures (Keeps-refl _)
 
 pub returns-in_err-installed-clause-told : goal.returns-in_err-installed-clause-told
-returns-in_err-installed-clause-told g c = none_told (Keeps-refl _)
+returns-in_err-installed-clause-told g c = no_formats (Keeps-refl _)
 
 pub returns-clause-told : goal.returns-clause-told
-returns-clause-told g c = none_told (Keeps-refl _)
+returns-clause-told g c = no_formats (Keeps-refl _)
 
 pub returns-in-Ok-clause-told : goal.returns-in-Ok-clause-told
 returns-in-Ok-clause-told g c =
-    tells_more (TellsFile (g.P.Opener.gives c.args.opener.now)
-    (every_format c.args.why.now.asked c.args.asked.now c.args.form c.in-Ok.formats)) _ _ _
-    (λ text tells. tells_formats (rw c.as_deref.ensures.value at c.in_ok-installed.ensures.ok)
-    (rw c.deref.ensures.value at c.in-Ok.ensures.ok) tells)
-    c.identify_among-ending.ensures.told
+    tells_formats (rw c.as_deref.ensures.value at c.in_ok-installed.ensures.ok)
+    (rw c.deref.ensures.value at c.in-Ok.ensures.ok) c.identify_among-ending.ensures.told

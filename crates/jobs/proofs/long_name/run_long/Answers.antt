@@ -2,8 +2,8 @@ use Rattle.std.proofs.KnownBytes.{Keeps-trans}
 use Rattle.jobs.specs.Every.{every_of}
 use Rattle.jobs.proofs.LongNames.{end_cut, long_unflushed, long_written, rest_cut, start_cut}
 use Rattle.run_parts.proofs.Sayings.{on_err}
-use Rattle.jobs.specs.Asides.{IsUnopened, none_told}
-use Rattle.jobs.proofs.Told.{form_tells, tells_kept, kept_tells, unopened_explains}
+use Rattle.jobs.specs.Asides.{not_ended}
+use Rattle.jobs.proofs.FilesTold.{ended_kept, long_ends}
 use Rattle.jobs.proofs.long_name.run_long.Goals as goal
 
 pub returns-in_err-put_start-clause-err : goal.returns-in_err-put_start-clause-err
@@ -72,44 +72,46 @@ returns-clause-ok g c =
     }
 
 pub returns-in_err-put_start-clause-told : goal.returns-in_err-put_start-clause-told
-returns-in_err-put_start-clause-told g c = none_told c.show.ensures
+returns-in_err-put_start-clause-told g c = not_ended c.show.ensures
 
 pub returns-in_err-rest-clause-told : goal.returns-in_err-rest-clause-told
-returns-in_err-rest-clause-told g c = none_told c.show.ensures
+returns-in_err-rest-clause-told g c = not_ended c.show.ensures
 
 pub returns-in_err-put_end-clause-told : goal.returns-in_err-put_end-clause-told
-returns-in_err-put_end-clause-told g c = none_told c.show.ensures
+returns-in_err-put_end-clause-told g c = not_ended c.show.ensures
 
 pub returns-in_err-tell_reasons-clause-told : goal.returns-in_err-tell_reasons-clause-told
 returns-in_err-tell_reasons-clause-told g c =
-    kept_tells _ _ _ _ c.show.ensures
-    (form_tells c.args.task.form c.args.start.now c.lines-2.result.now (IsUnopened c.args.task.explains) _ _
-    c.tell_reasons.result
-    (unopened_explains c.args.task.explains c.lines-2.result.now
+    long_ends (every_of c.args.task) c.args.start.now c.in_ok-rest.ensures.ok.more
+    c.lines-2.result.now c.in_ok-rest.rest
+    c.args.task.form (g.L.Read.remaining c.args.list.now) (g.L.Read.remaining c.put_rest.new.list) _ _ _
+    c.tell_reasons.result c.in_ok-rest.ensures.ok.read c.show.ensures
     (λ e. rw c.lines-2.ensures (c.long_lines-lines.ensures.quiet e))
-    (rw c.lines-2.ensures c.long_lines-lines.ensures.lines))
-    c.tell_reasons.ensures.told)
+    (λ e. rw c.lines-2.ensures (c.long_lines-lines.ensures.unread e))
+    (rw c.lines-2.ensures c.long_lines-lines.ensures.lines) c.tell_reasons.ensures.told
 
 pub returns-in_err-finish_file-clause-told : goal.returns-in_err-finish_file-clause-told
 returns-in_err-finish_file-clause-told g c =
-    tells_kept _ _ _ _
-    (kept_tells _ _ _ _ c.show.ensures
-    (form_tells c.args.task.form c.args.start.now c.lines-2.result.now (IsUnopened c.args.task.explains) _ _
-    c.tell_reasons.result
-    (unopened_explains c.args.task.explains c.lines-2.result.now
+    ended_kept (every_of c.args.task) c.args.start.now (g.L.Read.remaining c.args.list.now)
+    (g.L.Read.remaining c.put_rest.new.list) _ _ _
+    (long_ends (every_of c.args.task) c.args.start.now c.in_ok-rest.ensures.ok.more
+    c.lines-2.result.now c.in_ok-rest.rest
+    c.args.task.form (g.L.Read.remaining c.args.list.now) (g.L.Read.remaining c.put_rest.new.list) _ _ _
+    c.tell_reasons.result c.in_ok-rest.ensures.ok.read c.show.ensures
     (λ e. rw c.lines-2.ensures (c.long_lines-lines.ensures.quiet e))
-    (rw c.lines-2.ensures c.long_lines-lines.ensures.lines))
-    c.tell_reasons.ensures.told))
+    (λ e. rw c.lines-2.ensures (c.long_lines-lines.ensures.unread e))
+    (rw c.lines-2.ensures c.long_lines-lines.ensures.lines) c.tell_reasons.ensures.told)
     c.finish_file.ensures.told
 
 pub returns-clause-told : goal.returns-clause-told
 returns-clause-told g c =
-    tells_kept _ _ _ _
-    (kept_tells _ _ _ _ c.show.ensures
-    (form_tells c.args.task.form c.args.start.now c.lines-2.result.now (IsUnopened c.args.task.explains) _ _
-    c.tell_reasons.result
-    (unopened_explains c.args.task.explains c.lines-2.result.now
+    ended_kept (every_of c.args.task) c.args.start.now (g.L.Read.remaining c.args.list.now)
+    (g.L.Read.remaining c.put_rest.new.list) _ _ _
+    (long_ends (every_of c.args.task) c.args.start.now c.in_ok-rest.ensures.ok.more
+    c.lines-2.result.now c.in_ok-rest.rest
+    c.args.task.form (g.L.Read.remaining c.args.list.now) (g.L.Read.remaining c.put_rest.new.list) _ _ _
+    c.tell_reasons.result c.in_ok-rest.ensures.ok.read c.show.ensures
     (λ e. rw c.lines-2.ensures (c.long_lines-lines.ensures.quiet e))
-    (rw c.lines-2.ensures c.long_lines-lines.ensures.lines))
-    c.tell_reasons.ensures.told))
+    (λ e. rw c.lines-2.ensures (c.long_lines-lines.ensures.unread e))
+    (rw c.lines-2.ensures c.long_lines-lines.ensures.lines) c.tell_reasons.ensures.told)
     c.finish_file.ensures.told

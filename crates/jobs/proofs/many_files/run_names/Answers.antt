@@ -1,6 +1,6 @@
 use Rattle.std.proofs.Common.{Ok, refl, sym, subst}
 use Rattle.std.proofs.KnownBytes.{Appends-nil, Keeps-refl}
-use Rattle.jobs.specs.Asides.{none_told}
+use Rattle.jobs.specs.Asides.{TellsWords, no_list}
 use Rattle.jobs.specs.Due.{whole}
 use Rattle.jobs.specs.Every.{every_of}
 use Rattle.jobs.specs.Files.{no_files}
@@ -9,6 +9,7 @@ use Rattle.jobs.specs.Jobs.{files_end}
 use Rattle.jobs.specs.Lines.{first_names}
 use Rattle.jobs.specs.Names.{none_listed}
 use Rattle.jobs.proofs.EachWritten.{listed_otherwise}
+use Rattle.jobs.proofs.FilesTold.{list_otherwise}
 use Rattle.jobs.proofs.Holding.{holds_more}
 use Rattle.jobs.proofs.many_files.run_names.Goals as goal
 
@@ -33,4 +34,17 @@ returns-in-None-clause-holds g c =
     (whole (files_end (first_names refl none_listed no_files)) (Appends-nil _))
 
 pub returns-in-None-clause-told : goal.returns-in-None-clause-told
-returns-in-None-clause-told g c = none_told (Keeps-refl _)
+returns-in-None-clause-told g c = rw c.in-EndedByZero.is (no_list (Keeps-refl _))
+
+pub returns-in-Words-clause-told : goal.returns-in-Words-clause-told
+returns-in-Words-clause-told g c =
+    rw c.in-Words.is
+    (subst (λ words. TellsWords (g.P.Opener.gives c.args.opener.now) (every_of c.args.task) words
+    (g.A.Aside.told c.args.aside.now) (g.A.Aside.told c.run_words.new.aside))
+    c.as_slice.ensures.value c.run_words.ensures.told)
+
+pub returns-in-Some-clause-told : goal.returns-in-Some-clause-told
+returns-in-Some-clause-told g c =
+    rw c.in-EndedByZero.is
+    (list_otherwise (g.P.Opener.gives c.args.opener.now) (every_of c.args.task) _ _ _ _
+    (λ bytes is. rw is (rw (sym c.deref.ensures) c.in-Some.ensures)) c.run_list.ensures.told)

@@ -1,4 +1,4 @@
-use Rattle.jobs.specs.Asides.{TellsName, none_told, tells_name}
+use Rattle.jobs.specs.Asides.{TellsName, none_told, tells_word}
 use Rattle.jobs.specs.Every.{every_of}
 use Rattle.jobs.proofs.EachWritten.{unnamed_cut, unnamed_written, word_cut, word_written}
 use Rattle.jobs.proofs.Told.{tells_more}
@@ -27,7 +27,7 @@ returns-in-Err-clause-err g c =
 pub returns-in-Ok-clause-told : goal.returns-in-Ok-clause-told
 returns-in-Ok-clause-told g c =
     tells_more (TellsName (g.P.Opener.gives c.args.opener.now) (every_of c.args.task) c.as_bytes.result.now) _ _ _
-    (λ text tells. tells_name c.as_bytes.result.now tells) c.run_name.ensures.told
+    (λ text tells. tells_word (rw c.as_bytes.ensures c.in-Ok.ensures.ok) tells) c.run_name.ensures.told
 
 pub returns-in-Err-clause-told : goal.returns-in-Err-clause-told
 returns-in-Err-clause-told g c = none_told c.put_failed.ensures.told

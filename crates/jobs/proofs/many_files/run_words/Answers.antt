@@ -1,19 +1,18 @@
-use Rattle.std.proofs.Common.{◌≡◌, ◌∙◌, [], ◌∷◌, ◌++◌, ◌+◌, None, take, drop, take-append-drop, refl, sym, ap, subst, arith}
+use Rattle.std.proofs.Common.{◌≡◌, ◌∙◌, [], ◌∷◌, ◌++◌, ◌+◌, None, string_bytes, take, drop, take-append-drop, refl, sym, ap, subst, arith}
 use Rattle.std.proofs.KnownBytes.{Keeps-refl}
 use Rattle.std.proofs.lemmas.List.{take_all, take_more}
 use Rattle.std.proofs.lemmas.Result.{err_from_is_err_and}
-use Rattle.jobs.specs.Asides.{none_told}
+use Rattle.jobs.specs.Asides.{Tells, TellsEach, TellsWord, no_file_told, one_file_told}
 use Rattle.jobs.specs.Every.{every_of}
 use Rattle.jobs.specs.Lines.{StopsWords, WritesWords, first_words, word_line}
 use Rattle.jobs.proofs.EachWritten.{all_hold, cut_hold, none_written, one_written}
-use Rattle.jobs.proofs.Told.{tells_join}
 use Rattle.jobs.proofs.many_files.run_words.Goals as goal
 
 pub loop-word-init : goal.loop-word-init
 loop-word-init g c = record {
   ready = c.store_for-kept.ensures;
   written = none_written (word_line (g.P.Opener.gives c.args.opener.now) (every_of c.args.task)) _ _ refl;
-  told = none_told (Keeps-refl _);
+  told = no_file_told (Keeps-refl _);
 }
 
 pub loop-word-preserved : goal.loop-word-preserved
@@ -24,6 +23,9 @@ loop-word-preserved g c =
     ≡ take (c.loop-word.word-index + 1) c.args.words.now =
     ap (λ word. take c.loop-word.word-index c.args.words.now ++ word ∷ []) c.word-item.is
     ∙ sym (take_more c.args.words.now c.loop-word.word-index c.word-item.result (omega arith)) in
+    let told : Tells (TellsWord gives every (string_bytes c.word-item.result)) (g.A.Aside.told c.loop-word.aside)
+    (g.A.Aside.told c.run_word.new.aside) =
+    rw (sym c.deref.ensures) c.run_word.ensures.told in
     record {
       ready = c.run_word.ensures.ready;
       written = rw c.greater-greatest.ensures
@@ -32,7 +34,11 @@ loop-word-preserved g c =
           (λ first are. ap (λ words. words ++ c.word-item.result ∷ []) are ∙ one_more)
           c.loop-word.invariant.written
           (rw (sym c.deref.ensures) c.in_ok-status.ensures.ok));
-      told = tells_join _ _ _ _ c.loop-word.invariant.told c.run_word.ensures.told;
+      told = subst
+          (λ first.
+          TellsEach (λ word. TellsWord gives every (string_bytes word)) (g.A.Aside.told c.args.aside.now) first
+          (g.A.Aside.told c.run_word.new.aside)) one_more
+          (one_file_told {file = c.word-item.result} c.loop-word.invariant.told told);
     }
 
 pub returns-in_err-status-clause-holds : goal.returns-in_err-status-clause-holds
@@ -68,4 +74,32 @@ returns-clause-holds g c =
     c.loop-word.invariant.written
 
 pub returns-in_err-status-clause-told : goal.returns-in_err-status-clause-told
-returns-in_err-status-clause-told g c = tells_join _ _ _ _ c.loop-word.invariant.told c.run_word.ensures.told
+returns-in_err-status-clause-told g c =
+    let gives = g.P.Opener.gives c.args.opener.now in
+    let every = every_of c.args.task in
+    let index = c.loop-word.word-index in
+    let words = c.args.words.now in
+    let one_more : take index words ++ c.word-item.result ∷ [] ≡ take (index + 1) words =
+    ap (λ word. take index words ++ word ∷ []) c.word-item.is
+    ∙ sym (take_more words index c.word-item.result (omega arith)) in
+    let told : Tells (TellsWord gives every (string_bytes c.word-item.result)) (g.A.Aside.told c.loop-word.aside)
+    (g.A.Aside.told c.run_word.new.aside) =
+    rw (sym c.deref.ensures) c.run_word.ensures.told in
+    record {
+      first = take (index + 1) words;
+      rest = drop (index + 1) words;
+      are = take-append-drop (index + 1) words;
+      tells = subst
+          (λ first.
+          TellsEach (λ word. TellsWord gives every (string_bytes word)) (g.A.Aside.told c.args.aside.now) first
+          (g.A.Aside.told c.run_word.new.aside)) one_more
+          (one_file_told {file = c.word-item.result} c.loop-word.invariant.told told);
+    }
+
+pub returns-clause-told : goal.returns-clause-told
+returns-clause-told g c = record {
+  first = take c.loop-word.word-index c.args.words.now;
+  rest = drop c.loop-word.word-index c.args.words.now;
+  are = take-append-drop c.loop-word.word-index c.args.words.now;
+  tells = c.loop-word.invariant.told;
+}

@@ -1,6 +1,6 @@
-use Rattle.std.proofs.Common.{◌≡◌, take}
+use Rattle.std.proofs.Common.{◌≡◌, string_bytes, take}
 use Rattle.std.specs.Prelude.{IfSome}
-use Rattle.jobs.specs.Asides.{Tells, TellsFile}
+use Rattle.jobs.specs.Asides.{TellsEach, TellsWord}
 use Rattle.jobs.specs.Every.{IsReadyFor, every_of}
 use Rattle.jobs.specs.Files.{AppendsFiles}
 use Rattle.jobs.specs.Lines.{word_line}
@@ -12,6 +12,6 @@ invariant-loop-word g l = record {
   written : AppendsFiles (word_line (g.P.Opener.gives l.opener) (every_of l.task))
       (λ first. first ≡ take l.word-index l.words) (g.O.Write.contents l.initial.out) (g.O.Write.contents l.out)
       l.greatest;
-  told : Tells (TellsFile (g.P.Opener.gives l.opener) (every_of l.task)) (g.A.Aside.told l.initial.aside)
-      (g.A.Aside.told l.aside);
+  told : TellsEach (λ word. TellsWord (g.P.Opener.gives l.opener) (every_of l.task) (string_bytes word))
+      (g.A.Aside.told l.initial.aside) (take l.word-index l.words) (g.A.Aside.told l.aside);
 }

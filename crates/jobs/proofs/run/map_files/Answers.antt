@@ -1,7 +1,8 @@
 use Rattle.std.proofs.KnownBytes.{Keeps-refl}
-use Rattle.jobs.specs.Asides.{none_told}
 use Rattle.jobs.specs.Jobs.{each_due, file_due, task_due}
 use Rattle.jobs.specs.Tasks.{IsOverFiles}
+use Rattle.jobs.specs.Aims.{of_mapping}
+use Rattle.jobs.proofs.FilesTold.{none_over}
 use Rattle.jobs.proofs.Holding.{holds_more}
 use Rattle.jobs.proofs.run.map_files.Goals as goal
 
@@ -18,7 +19,9 @@ returns-in-Do-clause-holds g c =
     holds_more _ _ _ _ _ (λ lines end due. task_due _ _ c.in-Do.ensures due) c.do_in_file.ensures
 
 pub returns-in-Map-clause-told : goal.returns-in-Map-clause-told
-returns-in-Map-clause-told g c = none_told (Keeps-refl _)
+returns-in-Map-clause-told g c =
+    none_over (g.P.Opener.gives c.args.opener.now) c.args.why.now.asked (of_mapping c.args.mapping)
+    c.args.pickle.now.bytes.items c.args.over.now _ _ (Keeps-refl _)
 
 pub returns-in-MapEach-clause-told : goal.returns-in-MapEach-clause-told
 returns-in-MapEach-clause-told g c =
@@ -26,4 +29,6 @@ returns-in-MapEach-clause-told g c =
     rw files.over_is c.map_each-ending.ensures.told
 
 pub returns-in-Do-clause-told : goal.returns-in-Do-clause-told
-returns-in-Do-clause-told g c = none_told (Keeps-refl _)
+returns-in-Do-clause-told g c =
+    none_over (g.P.Opener.gives c.args.opener.now) c.args.why.now.asked (of_mapping c.args.mapping)
+    c.args.pickle.now.bytes.items c.args.over.now _ _ (Keeps-refl _)

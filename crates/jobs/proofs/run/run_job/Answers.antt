@@ -1,7 +1,6 @@
 use Rattle.jobs.proofs.Asked.{question_holds}
 use Rattle.std.proofs.KnownBytes.{Keeps-refl}
-use Rattle.jobs.specs.Asides.{none_told}
-use Rattle.jobs.proofs.Requested.{question_explains}
+use Rattle.jobs.proofs.Requested.{question_explains, question_tells}
 use Rattle.jobs.proofs.run.run_job.Goals as goal
 
 pub returns-in-Some-clause-holds : goal.returns-in-Some-clause-holds
@@ -17,4 +16,6 @@ returns-in-Some-clause-says g c =
     c.in-Some.word.now c.in-Some.question c.answer_about.result c.in-Some.ensures.some c.answer_about.ensures.says
 
 pub returns-in-Some-clause-told : goal.returns-in-Some-clause-told
-returns-in-Some-clause-told g c = none_told (Keeps-refl _)
+returns-in-Some-clause-told g c =
+    question_tells (g.P.Opener.gives c.args.opener.now) c.args.why.now.asked c.args.asked.now.job
+    c.args.asked.now.answer c.in-Some.word.now c.in-Some.question _ _ c.in-Some.ensures.some (Keeps-refl _)

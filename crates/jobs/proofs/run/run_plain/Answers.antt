@@ -1,7 +1,6 @@
 use Rattle.std.proofs.Common.{rules}
 use Rattle.jobs.proofs.Asked.{only_formats}
 use Rattle.std.proofs.KnownBytes.{Keeps-refl}
-use Rattle.jobs.specs.Asides.{none_told}
 use Rattle.jobs.proofs.run.run_plain.Goals as goal
 
 pub returns-in-Map-clause-holds : goal.returns-in-Map-clause-holds
@@ -23,13 +22,13 @@ pub returns-in-Map-clause-says : goal.returns-in-Map-clause-says
 returns-in-Map-clause-says g c = rw c.in-Map.is (rw c.deref-in-Map.ensures at c.map_plain.ensures.says)
 
 pub returns-in-Map-clause-told : goal.returns-in-Map-clause-told
-returns-in-Map-clause-told g c = none_told (Keeps-refl _)
+returns-in-Map-clause-told g c = rw c.in-Map.is (Keeps-refl _)
 
 pub returns-in-Dump-clause-says : goal.returns-in-Dump-clause-says
 returns-in-Dump-clause-says g c = rw c.in-Dump.is tt
 
 pub returns-in-Dump-clause-told : goal.returns-in-Dump-clause-told
-returns-in-Dump-clause-told g c = none_told (Keeps-refl _)
+returns-in-Dump-clause-told g c = rw c.in-Dump.is (Keeps-refl _)
 
 pub returns-in-Identify-clause-says : goal.returns-in-Identify-clause-says
 returns-in-Identify-clause-says g c = rw c.in-Identify.is tt
@@ -44,4 +43,7 @@ returns-in_default-clause-says g c =
     rw is tt
 
 pub returns-in_default-clause-told : goal.returns-in_default-clause-told
-returns-in_default-clause-told g c = none_told (Keeps-refl _)
+returns-in_default-clause-told g c =
+    let is = only_formats c.args.asked.now.job c.requires.over c.in_default.not-Map c.requires.plain
+    c.in_default.not-Dump c.in_default.not-Identify in
+    rw is (Keeps-refl _)

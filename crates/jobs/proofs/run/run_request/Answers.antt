@@ -8,10 +8,9 @@ use Rattle.jobs.specs.Due.{End, Holds, of_pickle, unread}
 use Rattle.jobs.specs.Jobs.{DueIfAny, DueMapping, DueSubject}
 use Rattle.jobs.proofs.Chosen.{settled_request, usage_holds}
 use Rattle.jobs.proofs.Holding.{holds_more, no_text}
-use Rattle.jobs.specs.Asides.{none_told}
+use Rattle.jobs.specs.Asides.{no_request}
 use Rattle.jobs.proofs.Explained.{fault_explains, usage_explains, word_explains}
 use Rattle.jobs.proofs.Requested.{request_tells}
-use Rattle.jobs.proofs.Told.{tells_more}
 use Rattle.jobs.proofs.run.run_request.Goals as goal
 
 pub returns-in_default-clause-holds : goal.returns-in_default-clause-holds
@@ -70,7 +69,7 @@ returns-in_default-clause-says g c =
     rw none tt
 
 pub returns-in_default-clause-told : goal.returns-in_default-clause-told
-returns-in_default-clause-told g c = none_told (Keeps-refl _)
+returns-in_default-clause-told g c = no_request (Keeps-refl _)
 
 pub returns-in_err-pickle-clause-says : goal.returns-in_err-pickle-clause-says
 returns-in_err-pickle-clause-says g c =
@@ -80,7 +79,7 @@ returns-in_err-pickle-clause-says g c =
     rw (p.1, p.2, some) (fault_explains _ _ _ _)
 
 pub returns-in_err-pickle-clause-told : goal.returns-in_err-pickle-clause-told
-returns-in_err-pickle-clause-told g c = none_told (Keeps-refl _)
+returns-in_err-pickle-clause-told g c = no_request (Keeps-refl _)
 
 pub returns-clause-says : goal.returns-clause-says
 returns-clause-says g c =
@@ -89,7 +88,7 @@ returns-clause-says g c =
     rw some (usage_explains _ _ _ c.refuse.result c.refuse.ensures)
 
 pub returns-clause-told : goal.returns-clause-told
-returns-clause-told g c = none_told (Keeps-refl _)
+returns-clause-told g c = no_request (Keeps-refl _)
 
 pub returns-in-Ok-clause-says : goal.returns-in-Ok-clause-says
 returns-in-Ok-clause-says g c =
@@ -108,7 +107,5 @@ returns-in-Ok-clause-told g c =
     let said : chosen request.subject bytes ≡ Some found = rw (sym c.deref.ensures.value) c.in-Ok.ensures.ok in
     let settled : c.settle_terms.new.terms ≡ settled_terms request.form found.whole request.terms =
     c.settle_terms.ensures in
-    tells_more _ _ _ _
-    (λ text tells. request_tells (g.P.Opener.gives c.args.opener.now) c.args.why.now.asked request bytes
-    c.in-Some.word.now text found c.settle_terms.new.terms some c.in_ok-pickle.ensures.ok said settled tells)
-    c.run_settled.ensures.told
+    request_tells (g.P.Opener.gives c.args.opener.now) c.args.why.now.asked request bytes c.in-Some.word.now found
+    c.settle_terms.new.terms _ _ some c.in_ok-pickle.ensures.ok said settled c.run_settled.ensures.told

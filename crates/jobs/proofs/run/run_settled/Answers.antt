@@ -4,9 +4,8 @@ use Rattle.jobs.specs.Aims.{of_mapping, of_type}
 use Rattle.jobs.specs.Chosen.{ChosenType, chosen, chosen_type, first_order}
 use Rattle.jobs.specs.Jobs.{DueMapping}
 use Rattle.jobs.proofs.Chosen.{any_holds, usage_holds}
-use Rattle.jobs.specs.Asides.{none_told, tells_settled, TellsOver}
+use Rattle.jobs.specs.Asides.{not_settled, tells_settled}
 use Rattle.jobs.proofs.Explained.{usage_explains}
-use Rattle.jobs.proofs.Told.{tells_more}
 use Rattle.jobs.proofs.run.run_settled.Goals as goal
 
 pub returns-in-Ok-clause-holds : goal.returns-in-Ok-clause-holds
@@ -40,7 +39,7 @@ pub returns-in-Err-clause-says : goal.returns-in-Err-clause-says
 returns-in-Err-clause-says g c = usage_explains _ _ _ c.refuse.result c.refuse.ensures
 
 pub returns-in-Err-clause-told : goal.returns-in-Err-clause-told
-returns-in-Err-clause-told g c = none_told (Keeps-refl _)
+returns-in-Err-clause-told g c = not_settled (Keeps-refl _)
 
 pub returns-in-Ok-clause-told : goal.returns-in-Ok-clause-told
 returns-in-Ok-clause-told g c =
@@ -52,7 +51,4 @@ returns-in-Ok-clause-told g c =
     ∙ ap (λ order. of_type request c.in-Ok.chosen.name.now order request.terms) c.first_order-order.ensures in
     let said : chosen request.subject c.args.pickle.now.bytes.items ≡ Some (chosen_type c.in-Ok.chosen) =
     rw (sym c.deref.ensures.value) c.in-Ok.ensures.ok in
-    tells_more
-    (TellsOver (g.P.Opener.gives c.args.opener.now) c.args.why.now.asked (of_mapping c.of_type-mapping.result)
-    c.args.pickle.now.bytes.items request.over) _ _ _
-    (λ text tells. tells_settled said (rw (sym mapped) tells)) c.map_over.ensures.told
+    tells_settled said (rw (sym mapped) c.map_over.ensures.told)
