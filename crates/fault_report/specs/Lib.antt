@@ -7,3 +7,4 @@ pub mod Why
 pub mod Nodes
 pub mod Watched
 pub mod Watching
+pub mod Impossible

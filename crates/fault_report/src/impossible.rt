@@ -1,4 +1,6 @@
 //! The first requested part that no value of the type has.
+ghost use Rattle.std.specs.Prelude.{IfOk};
+ghost use Rattle.fault_report.specs.Impossible.{TellsImpossible};
 
 use crate::absent::{name_of, say_pattern_step};
 use crate::members::{name_in, say_names};
@@ -39,7 +41,9 @@ pub fn impossible_text(
     table: &Table,
     id: TypeId,
     terms: &Terms,
-) -> Result<Text, AllocError> {
+) -> Result<Text, AllocError>
+    ensures { IfOk result (λ text. TellsImpossible text.bytes.items) }
+{
     let search = Search {
         alloc,
         table,
@@ -84,7 +88,9 @@ impl Search<'_> {
     }
 
     /// The line on rows that it can't have, or on the first of their columns.
-    fn rows_text(&self, rows: &Rows) -> Result<Text, AllocError> {
+    fn rows_text(&self, rows: &Rows) -> Result<Text, AllocError>
+        ensures { IfOk result (λ text. TellsImpossible text.bytes.items) }
+    {
         let row = self.by_pattern(self.part()?, rows.pattern.steps.as_slice())?;
         if row.is_lost() {
             return row.say(self.alloc);
@@ -204,7 +210,9 @@ impl Reach {
     }
 
     /// The line on steps that lead nowhere.
-    fn say(self, alloc: Global) -> Result<Text, AllocError> {
+    fn say(self, alloc: Global) -> Result<Text, AllocError>
+        ensures { IfOk result (λ text. TellsImpossible text.bytes.items) }
+    {
         Text::new(alloc)
             .say(b"  no value of the type has ")?
             .say(self.path.as_slice())?

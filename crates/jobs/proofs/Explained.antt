@@ -1,10 +1,11 @@
 -- Why a pickle is refused.
 use Rattle.std.proofs.Common.{◌≡◌, ◌∙◌, ◌⊎◌, inl, inr, Bool, true, ℕ, List, [], Option, Some, Result, Ok, Err, IfOk, Vec, string_bytes, ap, refl, sym, subst}
+use Rattle.std.specs.declared.alloc.AllocError.{AllocError}
 use Rattle.std.specs.declared.alloc.Global.{Global}
 use Rattle.jobs.specs.Due.{End, Holds, early, part, whole}
 use Rattle.jobs.specs.Gives.{Gives}
 use Rattle.jobs.specs.Jobs.{DueCheck, DueReport, DueTypes, answer_due, failure_due, refusal_due, report_due, types_due, unreported}
-use Rattle.jobs.specs.Reasons.{Explains, ExplainsWord, IsExplained, Says, SaysRefusal, says_place, says_types}
+use Rattle.jobs.specs.Reasons.{Explains, ExplainsWord, IsExplained, IsMade, Says, SaysRefusal, said, says_place, says_types, unsaid}
 use Rattle.jobs.specs.declared.ending.Ending.{Ending}
 use Rattle.jobs.specs.declared.ending.Ending.TheVariants.{Run, Silent}
 use Rattle.jobs.specs.declared.fault.FileFault.{FileFault}
@@ -19,6 +20,13 @@ use Rattle.run_parts.specs.declared.outcome.Outcome.{Outcome}
 use Rattle.run_parts.specs.declared.outcome.Outcome.TheVariants.{Failed, NoSuchType, Refused}
 use Rattle.run_parts.specs.declared.status.Status.{Status}
 use Rattle.run_parts.specs.declared.status.Status.TheVariants as status
+
+-- reasons that were made of a right text say it, or memory lacks for them
+pub made_says : (Right : List ℕ → Type 0) (text : Result (Vec ℕ Global) AllocError) (reasons : Reasons)
+    → IsMade text reasons → IfOk text (λ made. Right made.items) → Says Right reasons
+made_says Right (Ok made) reasons is right =
+    said (subst (λ (text : Vec ℕ Global). Right text.items) (sym is.0) right) is.1
+made_says Right (Err fault) reasons lost right = unsaid lost
 
 -- the lines of a refusal, if there was memory for them
 pub place_said : {E : Type 0} (pickle : NamedPickle) (refusal : Refusal) (bytes path : List ℕ)

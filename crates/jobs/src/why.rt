@@ -1,6 +1,7 @@
 //! The reasons of a job, which are printed after its line.
 ghost use Rattle.std.specs.Prelude.{◌≡◌, [], true, false, IfNone, IfOk, IfSome};
 ghost use Rattle.bit_space.specs.SpaceView.{Keeps};
+ghost use Rattle.fault_report.specs.Impossible.{TellsImpossible};
 ghost use Rattle.fault_report.specs.Why.{TellsWhy, run_of};
 ghost use Rattle.jobs.specs.Reasons.{AreLost, Explains, Gains, IsExplained, Says, IsMade, SaysNotes, SaysRefusal, lines_of, untold_line};
 ghost use Rattle.poke_batch.specs.TypeRuns.{run_type};
@@ -191,16 +192,26 @@ pub fn explain_parts(
     id: TypeId,
     terms: &Terms,
 )
+    ensures says { why.old.asked ≡ true → outcome ≡ Outcome.ImpossiblePart → Says TellsImpossible why.new.reasons.now }
     ensures otherwise { Gains why.old.asked (outcome ≡ Outcome.ImpossiblePart) why.old.reasons.now why.new.reasons.now }
     ensures asked { why.new.asked ≡ why.old.asked }
 {
     if !why.asked || outcome != Outcome::ImpossiblePart {
         return;
     }
-    *why.reasons = match impossible_text(alloc, table, id, terms) {
-        Ok(text) => Reasons::made(alloc, Ok(text.into_bytes())),
-        Err(AllocError) => Reasons::made(alloc, Err(AllocError)),
-    };
+    *why.reasons = Reasons::made(alloc, impossible_line(alloc, table, id, terms));
+}
+
+// The line on the first requested part that no value of a type has.
+fn impossible_line(
+    alloc: Global,
+    table: &Table,
+    id: TypeId,
+    terms: &Terms,
+) -> Result<Vec<u8>, AllocError>
+    ensures { IfOk result (λ text. TellsImpossible text.items) }
+{
+    Ok(impossible_text(alloc, table, id, terms)?.into_bytes())
 }
 
 /// Writes what an accepted pickle says and can't mean. If an allocation fails, the reasons say that memory lacks.
