@@ -1,6 +1,7 @@
 -- Starts that a screen rules out.
-use Rattle.std.proofs.Common.{◌≡◌, ℕ, ◌+◌, ◌-◌, ◌*◌, ◌/◌, ◌%◌, ◌<◌, ◌≤◌, min, List, [], ◌∷◌, Option, Some, None, IfSome, true, false, length, get_or, drop, sym, ap, ◌∙◌, subst, arith}
+use Rattle.std.proofs.Common.{◌≡◌, ℕ, ◌+◌, ◌-◌, ◌*◌, ◌/◌, ◌%◌, ◌<◌, ◌≤◌, min, List, [], ◌∷◌, Option, Some, None, IfSome, true, false, length, get_or, drop, inl, inr, sym, ap, ◌∙◌, subst, arith}
 use Rattle.std.proofs.Math.Nat.{add-mul, mul_left_comm}
+use Rattle.std.proofs.lemmas.Bool.{cases_lt}
 use Rattle.std.proofs.lemmas.Grind.{div_ceil_times}
 use Rattle.std.proofs.lemmas.Nat.{mul-le}
 use Rattle.std.proofs.lemmas.List.{get_or-drop, get_or-take, get_or_default}
@@ -24,7 +25,7 @@ use Rattle.first_numbers.specs.Held.{AreNear, HoldsLayout, IsSoundFirst, number_
 use Rattle.first_numbers.specs.Layouts.{layout}
 use Rattle.first_numbers.specs.Reads.{IsMissed}
 use Rattle.first_numbers.specs.Runs.{AllFail, judged, none_fail, one_fails}
-use Rattle.first_numbers.specs.Screens.{AreMissed, AreMisses, FailsWith, IsClear, IsCovered, IsMiss, IsScreen, IsSieve, MissesIn, PassesOver, place_of}
+use Rattle.first_numbers.specs.Screens.{AreMissed, AreMisses, FailsWith, IsClear, IsCovered, IsMiss, IsScreen, IsSieve, MissesIn, PassesOver, ScreensIn, place_of, unread}
 use Rattle.first_numbers.proofs.Bytes.{number_with, place_inside}
 
 -- the screen of one number
@@ -114,13 +115,12 @@ pub missed_since : {held : HeldFirst} {first now : SpaceView} {order : Order} {f
     AreMissed held first order from to steps → AreMissed held now order from to steps
 missed_since keeps h i from to = missed_still keeps (h i from to)
 
-passes_since : {first now : SpaceView} (l : HeldLayout) (screen : Option Screen) (order : Order) (from to : ℕ) →
-    Keeps first now → PassesOver l screen first order from to → PassesOver l screen now order from to
-passes_since (held.Number x) screen order from to keeps h = tt
-passes_since (held.Fixed width steps) screen order from to keeps h = tt
-passes_since (held.Tests f) None order from to keeps h = tt
-passes_since (held.Tests f) (Some screen) order from to keeps h = (h.0, missed_since keeps h.1)
-passes_since held.Loose screen order from to keeps h = tt
+passes_since : {first now : SpaceView} (l : HeldLayout) (screen : Option Screen) (order : Order) (clear : Clear) →
+    Keeps first now → PassesOver l screen first order clear → PassesOver l screen now order clear
+passes_since (held.Number x) screen order clear keeps h = tt
+passes_since (held.Fixed width steps) screen order clear keeps h = tt
+passes_since (held.Tests f) screen order clear keeps h = (h.0, missed_since keeps h.1)
+passes_since held.Loose screen order clear keeps h = tt
 
 -- what is known of the starts of a type is still known after other reads
 pub sieve_since : {first now : SpaceView} (type : PokeType) (order : Order) (sieve : Sieve) → Keeps first now →
@@ -129,7 +129,8 @@ sieve_since type order sieve keeps h = record {
   sound = h.sound;
   holds = h.holds;
   is_order = h.is_order;
-  passes = passes_since sieve.layout sieve.screen order sieve.clear.from sieve.clear.to keeps h.passes;
+  second = h.second;
+  passes = passes_since sieve.layout sieve.screen order sieve.clear keeps h.passes;
 }
 
 -- and what is missed now was missed before
@@ -150,12 +151,12 @@ missed_before {held} {first} {now} {order} {start} {allowed} {steps} keeps h = r
 abbrev pub Moves : Screen → SpaceView → (before after : Clear) → Type 0
 Moves screen space before after =
     (held : HeldFirst) (order : Order) → IsScreen held order screen →
-    AreMissed held space order before.from before.to screen.steps →
-    AreMissed held space order after.from after.to screen.steps
+    AreMissed held space order before.from before.to before.steps →
+    AreMissed held space order after.from after.to after.steps
 
 passes_moved : (l : HeldLayout) (screen : Screen) (order : Order) (before now : SpaceView) (from to : Clear) →
-    Keeps before now → Moves screen before from to → PassesOver l (Some screen) before order from.from from.to →
-    PassesOver l (Some screen) now order to.from to.to
+    Keeps before now → Moves screen before from to → PassesOver l (Some screen) before order from →
+    PassesOver l (Some screen) now order to
 passes_moved (held.Number x) screen order before now from to keeps moves h = tt
 passes_moved (held.Fixed width steps) screen order before now from to keeps moves h = tt
 passes_moved (held.Tests first) screen order before now from to keeps moves h =
@@ -166,38 +167,98 @@ pub sieve_moved : (type : PokeType) (order : Order) (before now : SpaceView) (si
     (clear : Clear) → Keeps before now → sieve.screen ≡ Some screen → Moves screen before sieve.clear clear →
     IsSieve type before order sieve →
     IsSieve type now order
-    (record { layout = sieve.layout; order = sieve.order; screen = sieve.screen; clear = clear })
+    (record {
+      layout = sieve.layout;
+      order = sieve.order;
+      screen = sieve.screen;
+      second = sieve.second;
+      clear = clear;
+    })
 sieve_moved type order before now sieve screen clear keeps is moves h = record {
   sound = h.sound;
   holds = h.holds;
   is_order = h.is_order;
-  passes = subst (λ s. PassesOver sieve.layout s now order clear.from clear.to) (sym is)
+  second = h.second;
+  passes = subst (λ s. PassesOver sieve.layout s now order clear) (sym is)
       (passes_moved sieve.layout screen order before now sieve.clear clear keeps moves
-      (subst (λ s. PassesOver sieve.layout s before order sieve.clear.from sieve.clear.to) is h.passes));
+      (subst (λ s. PassesOver sieve.layout s before order sieve.clear) is h.passes));
 }
 
 -- a start was read
-abbrev pub Covers : Screen → SpaceView → Clear → (start : ℕ) → Type 0
-Covers screen space clear start =
+abbrev pub Covers : Screen → SpaceView → Clear → (start steps : ℕ) → Type 0
+Covers screen space clear start steps =
     (held : HeldFirst) (order : Order) → IsScreen held order screen →
-    AreMissed held space order clear.from clear.to screen.steps →
-    IsMissed held space order start screen.steps screen.steps
+    AreMissed held space order clear.from clear.to clear.steps →
+    IsMissed held space order start steps steps
 
-layout_covered : (l : HeldLayout) (screen : Screen) (order : Order) (space : SpaceView) (clear : Clear) (start : ℕ) →
-    Covers screen space clear start → PassesOver l (Some screen) space order clear.from clear.to →
-    IsCovered l (Some screen) space order start
-layout_covered (held.Number x) screen order space clear start covers h = tt
-layout_covered (held.Fixed width steps) screen order space clear start covers h = tt
-layout_covered (held.Tests first) screen order space clear start covers h = covers first order h.0 h.1
-layout_covered held.Loose screen order space clear start covers h = tt
+layout_covered : (l : HeldLayout) (screen : Screen) (order : Order) (space : SpaceView) (clear : Clear)
+    (start steps : ℕ) → Covers screen space clear start steps → PassesOver l (Some screen) space order clear →
+    IsCovered l space order start steps
+layout_covered (held.Number x) screen order space clear start steps covers h = tt
+layout_covered (held.Fixed width taken) screen order space clear start steps covers h = tt
+layout_covered (held.Tests first) screen order space clear start steps covers h = covers first order h.0 h.1
+layout_covered held.Loose screen order space clear start steps covers h = tt
 
 pub sieve_covers : (type : PokeType) (order : Order) (space : SpaceView) (sieve : Sieve) (screen : Screen)
-    (start : ℕ) → sieve.screen ≡ Some screen → Covers screen space sieve.clear start → IsSieve type space order sieve →
-    IsCovered sieve.layout sieve.screen space order start
-sieve_covers type order space sieve screen start is covers h =
-    subst (λ s. IsCovered sieve.layout s space order start) (sym is)
-    (layout_covered sieve.layout screen order space sieve.clear start covers
-    (subst (λ s. PassesOver sieve.layout s space order sieve.clear.from sieve.clear.to) is h.passes))
+    (start steps : ℕ) → sieve.screen ≡ Some screen → Covers screen space sieve.clear start steps →
+    IsSieve type space order sieve → IsCovered sieve.layout space order start steps
+sieve_covers type order space sieve screen start steps is covers h =
+    layout_covered sieve.layout screen order space sieve.clear start steps covers
+    (subst (λ s. PassesOver sieve.layout s space order sieve.clear) is h.passes)
+
+-- ---- starts whose first numbers were read
+
+-- one run after another
+pub missed_on : {held : HeldFirst} {space : SpaceView} {order : Order} {from mid to steps : ℕ} →
+    AreMissed held space order from mid steps → AreMissed held space order mid to steps →
+    AreMissed held space order from to steps
+missed_on {held} {space} {order} {from} {mid} {to} {steps} before after i le lt =
+    elim (cases_lt i mid) [ inl less ↦ before i le less | inr more ↦ after i more lt ]
+
+-- one start
+pub one_missed : (held : HeldFirst) (space : SpaceView) (order : Order) (at steps : ℕ) →
+    IsMissed held space order (8 * at) steps steps → AreMissed held space order at (at + 1) steps
+one_missed held space order at steps h i le lt =
+    subst (λ (k : ℕ). IsMissed held space order (8 * k) steps steps) (omega (arith, le, lt)) h
+
+-- what was missed in a space that was read since
+pub missed_then : {held : HeldFirst} {first now : SpaceView} {order : Order} {from to steps : ℕ} → Keeps first now →
+    AreMissed held now order from to steps → AreMissed held first order from to steps
+missed_then keeps h i le lt = missed_before keeps (h i le lt)
+
+run_passes : (l : HeldLayout) (first : HeldFirst) (screen second : Option Screen) (order : Order)
+    (before now : SpaceView) (from to : Clear) → l ≡ held.Tests first → Keeps before now →
+    (IfSome screen (IsScreen first order) → IfSome second (IsScreen first order) →
+    AreMissed first before order to.from to.to to.steps) →
+    ScreensIn l second order → PassesOver l screen before order from → PassesOver l screen now order to
+run_passes l first screen second order before now from to is keeps missed also h =
+    subst (λ (l : HeldLayout). PassesOver l screen now order to) (sym is)
+    (let known = (subst (λ (l : HeldLayout). PassesOver l screen before order from) is h).0 in
+    (known, missed_since keeps (missed known (subst (λ (l : HeldLayout). ScreensIn l second order) is also))))
+
+-- a run of starts was read
+pub sieve_read : (type : PokeType) (order : Order) (before now : SpaceView) (sieve : Sieve) (first : HeldFirst)
+    (clear : Clear) → sieve.layout ≡ held.Tests first → Keeps before now →
+    (IfSome sieve.screen (IsScreen first sieve.order) → IfSome sieve.second (IsScreen first sieve.order) →
+    AreMissed first before sieve.order clear.from clear.to clear.steps) → IsSieve type before order sieve →
+    IsSieve type now order
+    (record {
+      layout = sieve.layout;
+      order = sieve.order;
+      screen = sieve.screen;
+      second = sieve.second;
+      clear = clear;
+    })
+sieve_read type order before now sieve first clear is keeps missed h = record {
+  sound = h.sound;
+  holds = h.holds;
+  is_order = h.is_order;
+  second = h.second;
+  passes = run_passes sieve.layout first sieve.screen sieve.second order before now sieve.clear clear is keeps
+      (subst (λ (order : Order). IfSome sieve.screen (IsScreen first order) →
+      IfSome sieve.second (IsScreen first order) → AreMissed first before order clear.from clear.to clear.steps)
+      h.is_order missed) h.second h.passes;
+}
 
 -- the fault of a layout is that of the type
 layout_misses : (l : HeldLayout) (type : PokeType) (order : Order) (space : SpaceView) (start allowed : ℕ)
@@ -234,25 +295,23 @@ found_before l order before now start allowed None keeps h = tt
 
 -- no start is known before the file is read
 pub screen_passes : (first : HeldFirst) (order : Order) (screen : Option Screen) (space : SpaceView) →
-    IfSome screen (IsScreen first order) → PassesOver (held.Tests first) screen space order 0 0
-screen_passes first order (Some screen) space h = (h, none_missed first space order 0 0 screen.steps (omega arith))
-screen_passes first order None space h = tt
+    IfSome screen (IsScreen first order) → PassesOver (held.Tests first) screen space order unread
+screen_passes first order screen space h = (h, none_missed first space order 0 0 0 (omega arith))
 
 -- ---- starts that are known
 
 -- a start among those that were read is ruled out
 pub clear_covered : (l : HeldLayout) (screen : Option Screen) (order : Order) (space : SpaceView) (clear : Clear)
-    (start : ℕ) → IsClear clear start → PassesOver l screen space order clear.from clear.to →
-    IsCovered l screen space order start
+    (start : ℕ) → IsClear clear start → PassesOver l screen space order clear →
+    IsCovered l space order start clear.steps
 clear_covered (held.Number x) screen order space clear start is h = tt
 clear_covered (held.Fixed width steps) screen order space clear start is h = tt
-clear_covered (held.Tests first) None order space clear start is h = tt
-clear_covered (held.Tests first) (Some screen) order space clear start is h =
-    subst (λ bit. IsMissed first space order bit screen.steps screen.steps) (sym is.is_at) (h.1 is.at is.from is.to)
+clear_covered (held.Tests first) screen order space clear start is h =
+    subst (λ bit. IsMissed first space order bit clear.steps clear.steps) (sym is.is_at) (h.1 is.at is.from is.to)
 clear_covered held.Loose screen order space clear start is h = tt
 
 -- a fault that was found after other reads
-miss_before : {first now : SpaceView} {type : PokeType} {order : Order} {start allowed : ℕ} {miss : Miss} →
+pub miss_before : {first now : SpaceView} {type : PokeType} {order : Order} {start allowed : ℕ} {miss : Miss} →
     Keeps first now → IsMiss type now order start allowed miss → IsMiss type first order start allowed miss
 miss_before keeps h =
     record { held = h.held; holds = h.holds; distance = h.distance; missed = missed_before keeps h.missed }
@@ -277,7 +336,7 @@ allowed_too few h = record {
 pub stretch_misses : (type : PokeType) (order : Order) (before now : SpaceView) (sieve : Sieve)
     (start step allowed : ℕ) (stretch : Stretch) → Keeps before now → IsSieve type now order sieve →
     ((k : ℕ) → k < stretch.count → IsClear sieve.clear (start + k * step)) →
-    ((space : SpaceView) (order : Order) (start : ℕ) → IsCovered sieve.layout sieve.screen space order start →
+    ((space : SpaceView) (order : Order) (start : ℕ) → IsCovered sieve.layout space order start sieve.clear.steps →
     MissesIn sieve.layout space order start allowed stretch.miss) →
     AreMisses type before order start step allowed stretch
 stretch_misses type order before now sieve start step allowed stretch keeps h clear misses k few =

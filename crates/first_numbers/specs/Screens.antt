@@ -1,5 +1,5 @@
 -- Starts that one byte rules out: whatever number has this byte, the constraint over it fails.
-use Rattle.std.specs.Prelude.{◌≡◌, ◌+◌, ◌-◌, ◌*◌, ◌/◌, ◌%◌, ◌^◌, ◌<◌, ◌≤◌, ℕ, List, Option, Some, None, Ok, true, false, pos, slice_index_or}
+use Rattle.std.specs.Prelude.{◌≡◌, ◌+◌, ◌-◌, ◌*◌, ◌/◌, ◌%◌, ◌^◌, ◌<◌, ◌≤◌, ℕ, List, Option, Some, None, IfSome, Ok, true, false, pos, slice_index_or}
 use Rattle.bit_space.specs.SpaceView.{IsWhole, SpaceView}
 use Rattle.bit_space.specs.declared.order.Order.{Order}
 use Rattle.bit_space.specs.declared.order.Order.TheVariants.{Big, Little}
@@ -71,11 +71,20 @@ abbrev pub AreMissed : HeldFirst → SpaceView → Order → (from to steps : �
 AreMissed held space order from to steps =
     (at : ℕ) → from ≤ at → at < to → IsMissed held space order (8 * at) steps steps
 
--- the same of the first numbers of a layout, as a screen of them shows
-abbrev pub PassesOver : HeldLayout → Option Screen → SpaceView → Order → (from to : ℕ) → Type 0
-PassesOver (held.Tests first) (Some screen) space order from to =
-    IsScreen first order screen × AreMissed first space order from to screen.steps
-PassesOver l screen space order from to = Unit {0}
+-- a screen is one of the first numbers of a layout
+abbrev pub ScreensIn : HeldLayout → Option Screen → Order → Type 0
+ScreensIn (held.Tests first) screen order = IfSome screen (IsScreen first order)
+ScreensIn l screen order = Unit {0}
+
+-- no start is known
+abbrev pub unread : Clear
+unread = record { from = 0; to = 0; steps = 0; is_open = false }
+
+-- the same of the first numbers of a layout, beside a screen of them
+abbrev pub PassesOver : HeldLayout → Option Screen → SpaceView → Order → Clear → Type 0
+PassesOver (held.Tests first) screen space order clear =
+    IfSome screen (IsScreen first order) × AreMissed first space order clear.from clear.to clear.steps
+PassesOver l screen space order clear = Unit {0}
 
 -- a start is at one of the bytes that are surely missed
 pub record IsClear (clear : Clear) (start : ℕ) : Type 0 where
@@ -84,11 +93,10 @@ pub record IsClear (clear : Clear) (start : ℕ) : Type 0 where
   pub from : clear.from ≤ at
   pub to : at < clear.to
 
--- a screen rules a start out
-abbrev pub IsCovered : HeldLayout → Option Screen → SpaceView → Order → (start : ℕ) → Type 0
-IsCovered (held.Tests first) (Some screen) space order start =
-    IsMissed first space order start screen.steps screen.steps
-IsCovered l screen space order start = Unit {0}
+-- the first numbers of a layout fail at a start, in so many steps
+abbrev pub IsCovered : HeldLayout → SpaceView → Order → (start steps : ℕ) → Type 0
+IsCovered (held.Tests first) space order start steps = IsMissed first space order start steps steps
+IsCovered l space order start steps = Unit {0}
 
 -- the first numbers of a layout fail at a start, with this fault
 abbrev pub MissesIn : HeldLayout → SpaceView → Order → (start allowed : ℕ) → Miss → Type 0
@@ -101,7 +109,8 @@ pub record IsSieve (type : PokeType) (space : SpaceView) (order : Order) (sieve 
   pub sound : IsSoundLayout sieve.layout
   pub holds : HoldsLayout sieve.layout (layout type)
   pub is_order : sieve.order ≡ order
-  pub passes : PassesOver sieve.layout sieve.screen space order sieve.clear.from sieve.clear.to
+  pub second : ScreensIn sieve.layout sieve.second order
+  pub passes : PassesOver sieve.layout sieve.screen space order sieve.clear
 
 -- the type has a Constraint fault at a start, so many bits from it, after so many steps
 pub record IsMiss (type : PokeType) (space : SpaceView) (order : Order) (start allowed : ℕ) (miss : Miss) : Type 0 where

@@ -39,15 +39,26 @@ impl Screen {
         ensures { IfSome result (IsScreen first.now order) }
     {
         match first.numbers.as_slice() {
-            [x] => number_screen(first, x, order),
+            [x] => number_screen(first, x, order, false),
             _ => None,
         }
     }
 
-    /// How many starts, one at each byte from the byte `at` on, are surely missed: up to 512, as one read shows. None
-    /// if the read fails.
+    /// Another screen of the same kind, by the byte that decides most starts after that of the first.
+    pub fn second_of(first: &First<'_>, order: Order) -> Option<Screen>
+        requires { IsSoundFirst first.now }
+        ensures { IfSome result (IsScreen first.now order) }
+    {
+        match first.numbers.as_slice() {
+            [x] => number_screen(first, x, order, true),
+            _ => None,
+        }
+    }
+
+    /// How many starts, one at each byte from the byte `at` on, are surely missed: at most so many, and up to 512, as one
+    /// read shows. None if the read fails.
     #[inline(never)]
-    pub fn missed_run<S: Space>(&self, at: u64, space: &mut S) -> u64
+    pub fn missed_run<S: Space>(&self, at: u64, most: u64, space: &mut S) -> u64
         ensures missed { (held : First) (order : Order) → IsScreen held order self.now →
             AreMissed held (S.view space.old) order at (at + result) self.now.steps }
         ensures end { at + result < 2 ^ 64 }
@@ -57,7 +68,7 @@ impl Screen {
         if self.place >= self.need || self.need > bytes || at > bytes - self.need {
             return 0;
         }
-        let count = (bytes - self.need - at + 1).min(RUN) as usize;
+        let count = (bytes - self.need - at + 1).min(most).min(RUN) as usize;
         let mut page = [0u8; RUN as usize];
         self.missed_in(at, &mut page[..count], space)
     }
@@ -91,8 +102,13 @@ impl Screen {
     }
 }
 
-// The screen of a type with only this first number.
-fn number_screen(first: &First<'_>, x: &FirstNumber<'_>, order: Order) -> Option<Screen>
+// The screen of a type with only this first number: by the best byte, or by the second.
+fn number_screen(
+    first: &First<'_>,
+    x: &FirstNumber<'_>,
+    order: Order,
+    is_second: bool,
+) -> Option<Screen>
     requires sound { IsSoundFirst first.now }
     requires alone { first.now.numbers.items ≡ x.now ∷ [] }
     ensures { IfSome result (IsScreen first.now order) }
@@ -102,7 +118,7 @@ fn number_screen(first: &First<'_>, x: &FirstNumber<'_>, order: Order) -> Option
         return None;
     }
     let count = u32::from(number.width / 8);
-    let index = best_index(x, count);
+    let index = chosen_index(x, count, is_second);
     let tests = some_steps(x, index)?;
     Some(Screen {
         place: x.place / 8 + place_of(ordered(x.order, order), count, index),
@@ -123,8 +139,24 @@ fn place_of(order: Order, count: u32, index: u32) -> u64
     }
 }
 
-// The byte of a number that is to be looked at: one that few values have, and rather none that is common.
-fn best_index(x: &FirstNumber<'_>, count: u32) -> u32
+// The best byte of a number to be looked at, or the second.
+fn chosen_index(x: &FirstNumber<'_>, count: u32, is_second: bool) -> u32
+    requires over { is_over_own x.now.own (term_of x.now.constraint.now) ≡ true }
+    requires count { 0 < count × (count ≤ 8) }
+    requires most { x.now.numeral.number.width ≤ 64 }
+    ensures { result < count }
+{
+    let best = best_index(x, count, count);
+    if is_second {
+        best_index(x, count, best)
+    } else {
+        best
+    }
+}
+
+// The byte of a number that is to be looked at: one that few values have, and rather none that is common, nor the byte
+// `other`.
+fn best_index(x: &FirstNumber<'_>, count: u32, other: u32) -> u32
     requires over { is_over_own x.now.own (term_of x.now.constraint.now) ≡ true }
     requires count { 0 < count × (count ≤ 8) }
     requires most { x.now.numeral.number.width ≤ 64 }
@@ -135,7 +167,7 @@ fn best_index(x: &FirstNumber<'_>, count: u32) -> u32
     let mut index = 0;
     while index < count {
         let weight = weight_of(x, index);
-        if weight < least {
+        if weight < least && index != other {
             best = index;
             least = weight;
         }

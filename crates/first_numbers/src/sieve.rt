@@ -1,18 +1,19 @@
 //! Starts at which a type has no value, as its first numbers show.
 
-ghost use Rattle.std.specs.Prelude.{◌≡◌, ◌+◌, ◌*◌, ◌<◌, ◌≤◌, ℕ, true, IfOk, IfSome};
+ghost use Rattle.std.specs.Prelude.{◌≡◌, ◌+◌, ◌*◌, ◌^◌, ◌<◌, ◌≤◌, ℕ, true, IfOk, IfSome};
 ghost use Rattle.bit_space.specs.SpaceView.{Keeps, SpaceView};
 ghost use Rattle.pickle_types.specs.TypeTable.{IsInTable, type_named};
 ghost use Rattle.pickle_types.specs.Types.{PokeType};
-ghost use Rattle.first_numbers.specs.Held.{HoldsLayout, IsSoundLayout};
+ghost use Rattle.first_numbers.specs.Held.{HoldsLayout, IsSoundFirst, IsSoundLayout};
 ghost use Rattle.first_numbers.specs.Layouts.{layout as layout_of};
 ghost use Rattle.first_numbers.specs.Reads.{IsMissed};
-ghost use Rattle.first_numbers.specs.Screens.{AreMissed, AreMisses, IsClear, IsCovered, IsMiss, IsScreen, IsSieve, MissesIn, PassesOver};
+ghost use Rattle.first_numbers.specs.Screens.{AreMissed, AreMisses, IsClear, IsCovered, IsMiss, IsScreen, IsSieve, MissesIn, PassesOver, ScreensIn, unread};
 ghost use Rattle.first_numbers.specs.declared.number.First.{First};
 ghost use Rattle.bit_space.specs.declared.order.Order.{Order};
 
 use crate::layouts::Layout;
 use crate::nodes::type_layout;
+use crate::number::First;
 use crate::screen::{RUN, Screen};
 use bit_space::{Order, Space};
 use pickle_types::table::{Table, TypeId};
@@ -26,6 +27,8 @@ pub struct Sieve<'a> {
     pub order: Order,
     /// What one byte says of a start, if the first numbers are of that kind.
     pub screen: Option<Screen>,
+    /// The same of another byte.
+    pub second: Option<Screen>,
     pub clear: Clear,
 }
 
@@ -34,7 +37,9 @@ pub struct Sieve<'a> {
 pub struct Clear {
     pub from: u64,
     pub to: u64,
-    /// Whether the screen was looked for at the byte `to` and says nothing of it.
+    /// The steps up to the fault at each of them.
+    pub steps: u64,
+    /// Whether the byte `to` was looked at, and isn't surely one of them.
     pub is_open: bool,
 }
 
@@ -70,11 +75,13 @@ impl<'a> Sieve<'a> {
         let layout = type_layout(alloc, table, id)?;
         Ok(Sieve {
             screen: layout_screen(&layout, order),
+            second: second_screen(&layout, order),
             layout,
             order,
             clear: Clear {
                 from: 0,
                 to: 0,
+                steps: 0,
                 is_open: false,
             },
         })
@@ -92,7 +99,7 @@ impl<'a> Sieve<'a> {
         ensures keeps { Keeps (S.view space.old) (S.view space.new) }
     {
         if self.is_covered(start, space) {
-            return covered_miss(&self.layout, &self.screen, allowed);
+            return covered_miss(&self.layout, self.clear, allowed);
         }
         read_miss(&self.layout, self.order, start, allowed, space)
     }
@@ -117,11 +124,57 @@ impl<'a> Sieve<'a> {
         if !self.is_covered(start, space) {
             return None;
         }
-        let miss = covered_miss(&self.layout, &self.screen, allowed)?;
+        let miss = covered_miss(&self.layout, self.clear, allowed)?;
         Some(Stretch {
             count: self.clear.count_from(start, step),
             miss,
         })
+    }
+
+    /// The starts from one on, each so many bits after the one before, at which all first numbers fail in the same steps.
+    /// They are read if that isn't known, up to 512 at once. `None` says nothing.
+    #[inline(always)]
+    pub fn failing_stretch<S: Space>(
+        &mut self,
+        start: u64,
+        step: u64,
+        allowed: u64,
+        space: &mut S,
+    ) -> Option<Stretch>
+        requires sound { IsSoundLayout self.old.layout }
+        requires step { 0 < step }
+        ensures after { (type : PokeType) (order : Order) → IsSieve type (S.view space.old) order self.old →
+            IsSieve type (S.view space.new) order self.new }
+        ensures missed { (type : PokeType) (order : Order) → IsSieve type (S.view space.old) order self.old →
+            IfSome result (AreMisses type (S.view space.old) order start step allowed) }
+        ensures keeps { Keeps (S.view space.old) (S.view space.new) }
+    {
+        self.read_run(start, space);
+        let miss = covered_miss(&self.layout, self.clear, allowed)?;
+        Some(Stretch {
+            count: self.clear.count_from(start, step),
+            miss,
+        })
+    }
+
+    // Reads the starts from one on at which all first numbers fail, if it is at a byte and nothing is known of it.
+    #[inline(never)]
+    fn read_run<S: Space>(&mut self, start: u64, space: &mut S)
+        requires sound { IsSoundLayout self.old.layout }
+        ensures after { (type : PokeType) (order : Order) → IsSieve type (S.view space.old) order self.old →
+            IsSieve type (S.view space.new) order self.new }
+        ensures keeps { Keeps (S.view space.old) (S.view space.new) }
+    {
+        if self.clear.has(start) {
+            return;
+        }
+        let at = start / 8;
+        if start % 8 != 0 || (self.clear.is_open && at == self.clear.to) {
+            return;
+        }
+        if let Layout::Tests(first) = &self.layout {
+            self.clear = failing_run(first, self.order, &self.screen, &self.second, at, space);
+        }
     }
 
     /// The fault of the type at a start, if the screen showed it before, and it takes no more steps than are allowed.
@@ -133,7 +186,7 @@ impl<'a> Sieve<'a> {
             IfSome result (IsMiss type space order start allowed) }
     {
         if self.clear.has(start) {
-            covered_miss(&self.layout, &self.screen, allowed)
+            covered_miss(&self.layout, self.clear, allowed)
         } else {
             None
         }
@@ -145,7 +198,7 @@ impl<'a> Sieve<'a> {
         ensures after { (type : PokeType) (order : Order) → IsSieve type (S.view space.old) order self.old →
             IsSieve type (S.view space.new) order self.new }
         ensures covered { (type : PokeType) (order : Order) → IsSieve type (S.view space.old) order self.old →
-            result ≡ true → IsCovered self.new.layout self.new.screen (S.view space.old) order start }
+            result ≡ true → IsCovered self.new.layout (S.view space.old) order start self.new.clear.steps }
         ensures same { (self.new.layout ≡ self.old.layout) × (self.new.order ≡ self.old.order) }
         ensures keeps { Keeps (S.view space.old) (S.view space.new) }
     {
@@ -184,11 +237,11 @@ impl Clear {
     #[inline(always)]
     fn covers<S: Space>(&mut self, screen: &Screen, start: u64, space: &mut S) -> bool
         ensures after { (held : First) (order : Order) → IsScreen held order screen.now →
-            AreMissed held (S.view space.old) order self.old.from self.old.to screen.now.steps →
-            AreMissed held (S.view space.old) order self.new.from self.new.to screen.now.steps }
+            AreMissed held (S.view space.old) order self.old.from self.old.to self.old.steps →
+            AreMissed held (S.view space.old) order self.new.from self.new.to self.new.steps }
         ensures covers { (held : First) (order : Order) → IsScreen held order screen.now →
-            AreMissed held (S.view space.old) order self.old.from self.old.to screen.now.steps →
-            result ≡ true → IsMissed held (S.view space.old) order start screen.now.steps screen.now.steps }
+            AreMissed held (S.view space.old) order self.old.from self.old.to self.old.steps →
+            result ≡ true → IsMissed held (S.view space.old) order start self.new.steps self.new.steps }
         ensures keeps { Keeps (S.view space.old) (S.view space.new) }
     {
         if self.has(start) {
@@ -201,30 +254,165 @@ impl Clear {
         if self.is_open && at == self.to {
             return false;
         }
-        let run = screen.missed_run(at, space);
+        let run = screen.missed_run(at, RUN, space);
         *self = Clear {
             from: at,
             to: at + run,
+            steps: screen.steps,
             is_open: run < RUN,
         };
         at < self.to
     }
 }
 
-// The fault at a start that the screen of a type rules out.
+// The fault at a start that is surely missed.
 #[inline(always)]
-fn covered_miss(layout: &Layout<'_>, screen: &Option<Screen>, allowed: u64) -> Option<Miss>
+fn covered_miss(layout: &Layout<'_>, clear: Clear, allowed: u64) -> Option<Miss>
     ensures few { IfSome result (λ miss. miss.steps ≤ allowed) }
     ensures missed { (space : SpaceView) (order : Order) (start : ℕ) →
-        IsCovered layout.now screen.now space order start →
+        IsCovered layout.now space order start clear.steps →
         IfSome result (MissesIn layout.now space order start allowed) }
 {
-    match (layout, screen) {
-        (Layout::Tests(first), Some(screen)) if screen.steps <= allowed => Some(Miss {
+    match layout {
+        Layout::Tests(first) if clear.steps <= allowed => Some(Miss {
             distance: first.fault,
-            steps: screen.steps,
+            steps: clear.steps,
         }),
         _ => None,
+    }
+}
+
+// The starts at bytes from one on at which all first numbers fail in the same steps, up to the next multiple of 512.
+fn failing_run<S: Space>(
+    first: &First<'_>,
+    order: Order,
+    screen: &Option<Screen>,
+    second: &Option<Screen>,
+    at: u64,
+    space: &mut S,
+) -> Clear
+    requires sound { IsSoundFirst first.now }
+    requires near { 8 * at < 2 ^ 64 }
+    ensures missed { IfSome screen.now (IsScreen first.now order) → IfSome second.now (IsScreen first.now order) →
+        AreMissed first.now (S.view space.old) order result.from result.to result.steps }
+    ensures keeps { Keeps (S.view space.old) (S.view space.new) }
+{
+    let end = at - at % RUN + RUN;
+    let steps = likely_steps(first, order, screen, at, space);
+    let mut to = at;
+    while to < end {
+        let more = failing_count(first, order, screen, second, steps, to, end - to, space);
+        if more == 0 {
+            return Clear {
+                from: at,
+                to,
+                steps,
+                is_open: true,
+            };
+        }
+        to += more;
+    }
+    Clear {
+        from: at,
+        to,
+        steps,
+        is_open: false,
+    }
+}
+
+// The steps in which the first numbers of a type are likely to fail from a byte on.
+fn likely_steps<S: Space>(
+    first: &First<'_>,
+    order: Order,
+    screen: &Option<Screen>,
+    at: u64,
+    space: &mut S,
+) -> u64
+    requires sound { IsSoundFirst first.now }
+    requires near { 8 * at < 2 ^ 64 }
+    ensures keeps { Keeps (S.view space.old) (S.view space.new) }
+{
+    match screen {
+        Some(screen) => screen.steps,
+        None => first
+            .missed_steps(order, 8 * at, u64::MAX, space)
+            .unwrap_or(0),
+    }
+}
+
+// How many starts, one at each byte from one on, are surely missed in so many steps. At most so many are looked at. 0
+// says nothing.
+fn failing_count<S: Space>(
+    first: &First<'_>,
+    order: Order,
+    screen: &Option<Screen>,
+    second: &Option<Screen>,
+    steps: u64,
+    at: u64,
+    most: u64,
+    space: &mut S,
+) -> u64
+    requires sound { IsSoundFirst first.now }
+    requires near { 8 * at < 2 ^ 64 }
+    ensures missed { IfSome screen.now (IsScreen first.now order) → IfSome second.now (IsScreen first.now order) →
+        AreMissed first.now (S.view space.old) order at (at + result) steps }
+    ensures end { at + result < 2 ^ 64 }
+    ensures keeps { Keeps (S.view space.old) (S.view space.new) }
+{
+    let count = screened_count(screen, steps, at, most, space);
+    if count > 0 {
+        return count;
+    }
+    let other = screened_count(second, steps, at, 1, space);
+    if other > 0 {
+        return other;
+    }
+    one_failing(first, order, steps, at, space)
+}
+
+// How many of them a screen rules out, if there is one.
+fn screened_count<S: Space>(
+    screen: &Option<Screen>,
+    steps: u64,
+    at: u64,
+    most: u64,
+    space: &mut S,
+) -> u64
+    ensures missed { (held : First) (order : Order) → IfSome screen.now (IsScreen held order) →
+        AreMissed held (S.view space.old) order at (at + result) steps }
+    ensures end { at + result < 2 ^ 64 }
+    ensures keeps { Keeps (S.view space.old) (S.view space.new) }
+{
+    match screen {
+        Some(screen) => ruled_count(screen, steps, at, most, space),
+        None => 0,
+    }
+}
+
+// How many of them a screen rules out in these steps.
+fn ruled_count<S: Space>(screen: &Screen, steps: u64, at: u64, most: u64, space: &mut S) -> u64
+    ensures missed { (held : First) (order : Order) → IsScreen held order screen.now →
+        AreMissed held (S.view space.old) order at (at + result) steps }
+    ensures end { at + result < 2 ^ 64 }
+    ensures keeps { Keeps (S.view space.old) (S.view space.new) }
+{
+    if screen.steps == steps {
+        return screen.missed_run(at, most, space);
+    }
+    0
+}
+
+// 1 if the first numbers at a byte are read and fail in so many steps.
+fn one_failing<S: Space>(first: &First<'_>, order: Order, steps: u64, at: u64, space: &mut S) -> u64
+    requires sound { IsSoundFirst first.now }
+    requires near { 8 * at < 2 ^ 64 }
+    ensures missed { AreMissed first.now (S.view space.old) order at (at + result) steps }
+    ensures few { result ≤ 1 }
+    ensures keeps { Keeps (S.view space.old) (S.view space.new) }
+{
+    match first.missed_steps(order, 8 * at, steps, space) {
+        Some(taken) if taken == steps => 1,
+        _ => 0,
     }
 }
 
@@ -256,10 +444,21 @@ fn read_miss<S: Space>(
 // The screen of a type.
 fn layout_screen(layout: &Layout<'_>, order: Order) -> Option<Screen>
     requires sound { IsSoundLayout layout.now }
-    ensures { (space : SpaceView) → PassesOver layout.now result space order 0 0 }
+    ensures { (space : SpaceView) → PassesOver layout.now result space order unread }
 {
     match layout {
         Layout::Tests(first) => Screen::of(first, order),
+        Layout::Number(_) | Layout::Fixed { .. } | Layout::Loose => None,
+    }
+}
+
+// The second screen of a type.
+fn second_screen(layout: &Layout<'_>, order: Order) -> Option<Screen>
+    requires sound { IsSoundLayout layout.now }
+    ensures { ScreensIn layout.now result order }
+{
+    match layout {
+        Layout::Tests(first) => Screen::second_of(first, order),
         Layout::Number(_) | Layout::Fixed { .. } | Layout::Loose => None,
     }
 }

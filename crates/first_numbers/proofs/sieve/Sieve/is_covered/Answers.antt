@@ -8,5 +8,5 @@ returns-in-Some-clause-after g c = λ type order h.
 
 pub returns-in-Some-clause-covered : goal.returns-in-Some-clause-covered
 returns-in-Some-clause-covered g c = λ type order h told.
-    sieve_covers type order (g.S.Space.view c.args.space.now) c.args.self.now c.in-Some.screen c.args.start c.in-Some.is
-    (λ held order is before. c.covers.ensures.covers held order is before told) h
+    sieve_covers type order (g.S.Space.view c.args.space.now) c.args.self.now c.in-Some.screen c.args.start _
+    c.in-Some.is (λ held order is before. c.covers.ensures.covers held order is before told) h
