@@ -6,3 +6,4 @@ pub mod Trials
 pub mod Missed
 pub mod Passed
 pub mod Sieves
+pub mod Together

@@ -5,5 +5,6 @@ pub mod Round
 pub mod Rounds
 pub mod Sought
 pub mod Starts
+pub mod Stretches
 pub mod Trial
 pub mod Written

@@ -9,6 +9,7 @@ mod round;
 pub mod search;
 mod skips;
 pub mod sought;
+mod stretches;
 mod trial;
 pub mod types;
 pub mod values;

@@ -8,9 +8,10 @@ ghost use Rattle.searches.specs.Rounds.{WritesTypes, first_places};
 
 use crate::found::Names;
 use crate::hunt::Hunt;
-use crate::round::{Stock, try_round};
+use crate::round::Stock;
 use crate::search::{Reach, Search};
 use crate::sought::Sought;
+use crate::stretches::advance;
 use crate::values::Searched;
 use bit_space::{Memory, Space};
 use command_line::ask::Ask;
@@ -80,7 +81,7 @@ fn search_all<S: Space, O: Write>(hunt: &Hunt<'_>, space: &mut S, out: &mut O) -
         return Searched { outcome, reach };
     };
     while hunt.search.goes_on(reach, bits) {
-        match try_round(hunt, reach, &mut stock, space, out) {
+        match advance(hunt, reach, &mut stock, space, out) {
             Ok(next) => reach = next,
             Err(outcome) => return Searched { outcome, reach },
         }

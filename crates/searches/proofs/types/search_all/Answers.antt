@@ -3,9 +3,10 @@ use Rattle.std.proofs.Common.{◌∙◌, ◌*◌, length, refl, sym, ap, subst, 
 use Rattle.bit_space.proofs.Failures.{keeps_all}
 use Rattle.records.proofs.Nexts.{view_kept}
 use Rattle.searches.specs.Rounds.{WritesTypes, no_memory, past_end, writes_all}
-use Rattle.searches.proofs.Hunts.{first_length, hunt_done, hunt_ends, none_hunted, one_hunted, round_moves}
+use Rattle.searches.proofs.Hunts.{first_length, hunt_done, hunt_ends, none_hunted}
 use Rattle.searches.proofs.Reached.{still_on}
 use Rattle.searches.proofs.Stocks.{new_serves}
+use Rattle.searches.proofs.Together.{advance_hunted, advance_moves}
 use Rattle.searches.proofs.types.search_all.Goals as goal
 
 pub returns-then-reach-bits-clause-writes : goal.returns-then-reach-bits-clause-writes
@@ -42,25 +43,26 @@ loop-stock-init g c = record {
 pub loop-stock-smaller : goal.loop-stock-smaller
 loop-stock-smaller g c =
     let so_far = c.loop-stock.invariant in
-    let next = c.in-Ok-try_round.ensures.ok (g.S.Space.view c.args.space.now) so_far.keeps in
+    let next = c.in-Ok-advance.ensures.ok (g.S.Space.view c.args.space.now) so_far.keeps in
     let inside = still_on c.args.hunt.now.search c.loop-stock.reach (8 * c.len-bits.result)
     (sym c.goes_on.ensures ∙ c.loop-stock-test.true) in
-    let moves = (round_moves c.args.hunt.now (g.S.Space.view c.args.space.now) c.loop-stock.reach
-    c.in-Ok-try_round.next _ _ _ _ c.requires.step next).0 in
+    let moves = (advance_moves c.args.hunt.now (g.S.Space.view c.args.space.now) c.loop-stock.reach
+    c.in-Ok-advance.next _ _ _ _ c.requires.step next).0 in
     omega (arith, inside, moves)
 
 pub loop-stock-preserved : goal.loop-stock-preserved
 loop-stock-preserved g c =
     let first = g.S.Space.view c.args.space.now in
     let so_far = c.loop-stock.invariant in
-    let next = c.in-Ok-try_round.ensures.ok first so_far.keeps in
-    let ends = (round_moves c.args.hunt.now first c.loop-stock.reach c.in-Ok-try_round.next _ _ _ _ c.requires.step
+    let next = c.in-Ok-advance.ensures.ok first so_far.keeps in
+    let ends = (advance_moves c.args.hunt.now first c.loop-stock.reach c.in-Ok-advance.next _ _ _ _ c.requires.step
     next).1 in
     record {
-      keeps = keeps_all so_far.keeps c.try_round.ensures.keeps;
-      ready = c.try_round.ensures.ready;
+      keeps = keeps_all so_far.keeps c.advance.ensures.keeps;
+      ready = c.advance.ensures.ready;
       inside = omega (arith, ends, c.len-bits.ensures);
-      hunted = one_hunted c.args.hunt.now first c.loop-stock.reach c.in-Ok-try_round.next _ _ _ _ _ so_far.hunted next;
+      hunted = advance_hunted c.args.hunt.now first c.loop-stock.reach c.in-Ok-advance.next _ _ _ _ _ so_far.hunted
+          next;
     }
 
 pub returns-in-Err-clause-writes : goal.returns-in-Err-clause-writes
