@@ -27,8 +27,8 @@ const SEMICOLON: &str = "leave out this `;`";
 /// How a comment is written.
 const COMMENTS: &str = "comments are `/* .. */`, or `//` up to the end of the line";
 
-/// Where a declaration begins.
-static DECLARATIONS: [Pattern; 23] = [
+/// Where a declaration begins: other files, and types without `type`.
+static TYPE_STARTS: [Pattern; 9] = [
     Pattern {
         tokens: [b"", b"", b"load", b"", b"", b""],
         help: LOAD,
@@ -65,6 +65,10 @@ static DECLARATIONS: [Pattern; 23] = [
         tokens: [b"", b"", b"{", b"", b"", b""],
         help: "write `type NAME = struct { .. };`",
     },
+];
+
+/// The same: declarations as in C, and signs that begin nothing.
+static TYPEDEFS: [Pattern; 6] = [
     Pattern {
         tokens: [b"", b"", b"typedef", b"struct", b"", b""],
         help: "write `type NAME = struct { .. };`",
@@ -89,6 +93,10 @@ static DECLARATIONS: [Pattern; 23] = [
         tokens: [b"", b"", b";", b"", b"", b""],
         help: SEMICOLON,
     },
+];
+
+/// The same: lines of C's preprocessor.
+static DIRECTIVES: [Pattern; 8] = [
     Pattern {
         tokens: [b"", b"", b"#", b"define", b"", b""],
         help: "there is no `#define`: leave out this line, and write the number where `$5` is used",
@@ -123,8 +131,8 @@ static DECLARATIONS: [Pattern; 23] = [
     },
 ];
 
-/// Patterns for the first word of a declaration or field, instead of the refused token.
-static OPENINGS: [Pattern; 36] = [
+/// Patterns for the first word of a declaration or field, instead of the refused token: words of GNU poke.
+static POKE_OPENINGS: [Pattern; 8] = [
     Pattern {
         tokens: [b"", b"", b"var", b"NAME", b"=", b""],
         help: "variables are left out: write the value where `$0` is used",
@@ -157,6 +165,10 @@ static OPENINGS: [Pattern; 36] = [
         tokens: [b"", b"", b"immutable", b"", b"", b""],
         help: "`immutable` is left out: there is nothing like it",
     },
+];
+
+/// The same: words of C before a type, and conditions.
+static C_OPENINGS: [Pattern; 5] = [
     Pattern {
         tokens: [b"", b"", b"const", b"", b"", b""],
         help: "there are no constants: write the number where it is used",
@@ -177,6 +189,10 @@ static OPENINGS: [Pattern; 36] = [
         tokens: [b"", b"", b"if", b"", b"", b""],
         help: "a condition comes after its field: `TYPE NAME if CONDITION;`",
     },
+];
+
+/// The same: integer types of C.
+static C_INTEGERS: [Pattern; 13] = [
     Pattern {
         tokens: [b"", b"", b"unsigned", b"char", b"", b""],
         help: "write `uint<8>`",
@@ -229,6 +245,10 @@ static OPENINGS: [Pattern; 36] = [
         tokens: [b"", b"", b"short", b"int", b"NAME", b""],
         help: "write `int<16>`",
     },
+];
+
+/// The same: statements.
+static STATEMENTS: [Pattern; 10] = [
     Pattern {
         tokens: [b"", b"", b"for", b"", b"", b""],
         help: STATEMENT,
@@ -271,8 +291,8 @@ static OPENINGS: [Pattern; 36] = [
     },
 ];
 
-/// Tokens in a row, wherever they are.
-static ANYWHERE: [Pattern; 74] = [
+/// Tokens in a row, wherever they are: byte orders, products in types, and reserved words as names.
+static ORDERS: [Pattern; 9] = [
     Pattern {
         tokens: [b"ORDER", b"endian", b"INTEGER", b"", b"", b""],
         help: "leave out `endian`: write `$1 $9`",
@@ -309,6 +329,10 @@ static ANYWHERE: [Pattern; 74] = [
         tokens: [b"TYPE", b"if", b";", b"", b"", b""],
         help: "`if` is a word of the language: choose another name for this field",
     },
+];
+
+/// The same: operators that are words.
+static OPERATOR_WORDS: [Pattern; 10] = [
     Pattern {
         tokens: [b"APART", b"NAME", b"in", b"[", b"", b","],
         help: "`in` is left out: write `($2 == $5 || $2 == $7)`, and so on",
@@ -349,6 +373,10 @@ static ANYWHERE: [Pattern; 74] = [
         tokens: [b"", b"not", b"", b"", b"", b""],
         help: "write `!(..)` for `not`",
     },
+];
+
+/// The same: statements, and operators that are left out.
+static OPERATORS: [Pattern; 12] = [
     Pattern {
         tokens: [b"", b"", b"else", b"", b"", b""],
         help: STATEMENT,
@@ -397,6 +425,10 @@ static ANYWHERE: [Pattern; 74] = [
         tokens: [b"", b"sizeof", b"(", b"", b"", b""],
         help: "`sizeof` is left out: for a field write `NAME'size`, for a type its number of bits, as in `64#b`",
     },
+];
+
+/// The same: words before a type.
+static TYPE_WORDS: [Pattern; 10] = [
     Pattern {
         tokens: [b"", b"type", b"=", b"", b"", b""],
         help: "write `type NAME = TYPE;`",
@@ -437,6 +469,10 @@ static ANYWHERE: [Pattern; 74] = [
         tokens: [b"", b"union", b"(", b"", b"", b""],
         help: "write `union { .. }`, with braces",
     },
+];
+
+/// The same: structs and unions with a name.
+static TYPE_NAMES: [Pattern; 6] = [
     Pattern {
         tokens: [b"struct", b"NAME", b"[", b"", b"", b""],
         help: "write `struct { .. }`, or for one integer that is cut into fields `struct uint<32> { .. }`",
@@ -461,6 +497,10 @@ static ANYWHERE: [Pattern; 74] = [
         tokens: [b"", b"union", b"INTEGER", b"", b"", b""],
         help: "a union is no integer: write `union { .. }`",
     },
+];
+
+/// The same: widths, bounds and fractions.
+static WIDTHS: [Pattern; 9] = [
     Pattern {
         tokens: [b"", b"INTEGER", b"NAME", b">", b"", b""],
         help: "a width is a number, as in `uint<8>`; a number of elements may be a field, as in `byte[$3]`",
@@ -497,6 +537,10 @@ static ANYWHERE: [Pattern; 74] = [
         tokens: [b"NUMBER", b".", b"NUMBER", b"", b"", b""],
         help: "there are no fractions: write whole numbers",
     },
+];
+
+/// The same: types after their names.
+static TYPES_LAST: [Pattern; 9] = [
     Pattern {
         tokens: [b"OPEN", b"NAME", b"INTEGER", b"NUMBER", b">", b";"],
         help: "the type comes before the name: write `$9 $2;`",
@@ -533,6 +577,10 @@ static ANYWHERE: [Pattern; 74] = [
         tokens: [b"OPEN", b"NAME", b"=", b"", b"", b""],
         help: "computed fields are left out: write the expression where `$2` is used",
     },
+];
+
+/// The same: two suffixes, and units.
+static UNIT_NAMES: [Pattern; 9] = [
     Pattern {
         tokens: [b"", b"]", b"[", b"", b"", b""],
         help: "a type has one array suffix: declare the inner array, as `type Row = byte[4];`, and write `Row[2]`",
@@ -691,8 +739,8 @@ static OPERANDS: [Pattern; 9] = [
     },
 ];
 
-/// Patterns for a refused token after a type or a name, or where one belongs.
-static FORMS: [Pattern; 27] = [
+/// Patterns for a refused token after a type or a name, or where one belongs: values, constraints and bounds.
+static FORMS: [Pattern; 10] = [
     Pattern {
         tokens: [b"", b"", b"#", b"", b"", b""],
         help: COMMENTS,
@@ -733,6 +781,10 @@ static FORMS: [Pattern; 27] = [
         tokens: [b"", b"", b"[", b"", b"", b""],
         help: "the bound comes after the type: `byte[4] b`",
     },
+];
+
+/// The same: braces, and signs between fields.
+static BRACES: [Pattern; 7] = [
     Pattern {
         tokens: [b"", b";", b";", b"", b"", b""],
         help: SEMICOLON,
@@ -761,6 +813,10 @@ static FORMS: [Pattern; 27] = [
         tokens: [b"", b"", b",", b"", b"", b""],
         help: "write each declaration and each field separately, with a `;`",
     },
+];
+
+/// The same: `<`, pointers, calls and names.
+static SIGNS: [Pattern; 10] = [
     Pattern {
         tokens: [b"", b"int", b"<", b"", b"", b""],
         help: NO_BLANK,
@@ -812,17 +868,52 @@ const NO_BLANK: &str = "write `int<`, `uint<` and `offset<` without a blank befo
 /// What to write instead of the token that is refused.
 pub fn advice(around: Around<'_, '_>, expected: Expected) -> Option<&'static str> {
     let help = if expected.declaration {
-        around.find(DECLARATIONS.as_slice())
+        of_declaration(around)
     } else {
         None
     };
     let help = help.or(of_opening(around));
-    match help.or(around.find(ANYWHERE.as_slice())) {
+    match help.or(of_tokens(around)) {
         Some(help) => Some(help),
         None if expected.value => around.find(VALUES.as_slice()),
         None if expected.operator => behind_operand(around),
         None => behind_form(around, expected),
     }
+}
+
+/// The advice for where a declaration begins.
+fn of_declaration(around: Around<'_, '_>) -> Option<&'static str> {
+    around.find_in(&[
+        TYPE_STARTS.as_slice(),
+        TYPEDEFS.as_slice(),
+        DIRECTIVES.as_slice(),
+    ])
+}
+
+/// The advice for tokens in a row, wherever they are.
+fn of_tokens(around: Around<'_, '_>) -> Option<&'static str> {
+    match of_expression(around) {
+        Some(help) => Some(help),
+        None => of_type(around),
+    }
+}
+
+fn of_expression(around: Around<'_, '_>) -> Option<&'static str> {
+    around.find_in(&[
+        ORDERS.as_slice(),
+        OPERATOR_WORDS.as_slice(),
+        OPERATORS.as_slice(),
+    ])
+}
+
+fn of_type(around: Around<'_, '_>) -> Option<&'static str> {
+    around.find_in(&[
+        TYPE_WORDS.as_slice(),
+        TYPE_NAMES.as_slice(),
+        WIDTHS.as_slice(),
+        TYPES_LAST.as_slice(),
+        UNIT_NAMES.as_slice(),
+    ])
 }
 
 /// The advice for the first word of a declaration or field, if it isn't the name of a declared type.
@@ -835,7 +926,12 @@ fn of_opening(around: Around<'_, '_>) -> Option<&'static str> {
         token: around.first,
         first: around.first,
     };
-    first.find(OPENINGS.as_slice())
+    first.find_in(&[
+        POKE_OPENINGS.as_slice(),
+        C_OPENINGS.as_slice(),
+        C_INTEGERS.as_slice(),
+        STATEMENTS.as_slice(),
+    ])
 }
 
 /// The advice for a token after an operand.
@@ -859,7 +955,7 @@ fn behind_form(around: Around<'_, '_>, expected: Expected) -> Option<&'static st
         ),
         b"type" if expected.name => Some(TYPE_INSIDE),
         _ if expected.form || expected.name || !is_reserved(around.token_text()) => {
-            around.find(FORMS.as_slice())
+            around.find_in(&[FORMS.as_slice(), BRACES.as_slice(), SIGNS.as_slice()])
         }
         _ => None,
     }

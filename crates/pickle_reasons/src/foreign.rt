@@ -9,7 +9,8 @@ struct Foreign {
     help: &'static str,
 }
 
-static FOREIGN: [Foreign; 27] = [
+/// Types that are no integers of 8, 16, 32 or 64 bits.
+static OTHERS: [Foreign; 7] = [
     Foreign {
         names: b"any void",
         help: "it is left out, and there is nothing like it: write `byte[n]` for bytes of any meaning",
@@ -22,6 +23,26 @@ static FOREIGN: [Foreign; 27] = [
         names: b"bool boolean",
         help: "write an integer, as `byte` or `uint<1>`",
     },
+    Foreign {
+        names: b"str strz stringz String CString cstring",
+        help: "write `string` for bytes up to a 0, or `char[n]`",
+    },
+    Foreign {
+        names: b"off64 uoff64",
+        help: "write `offset<int<64>,b>`",
+    },
+    Foreign {
+        names: b"bits",
+        help: "write `uint<N>` with the number of bits",
+    },
+    Foreign {
+        names: b"u24",
+        help: "write `uint<24>`",
+    },
+];
+
+/// Integers of 8 and 16 bits.
+static SHORT_INTEGERS: [Foreign; 8] = [
     Foreign {
         names: b"uint8_t u8 u1 BYTE UBYTE uchar __u8 Int8ub Int8ul",
         help: "write `uint<8>` or `byte`",
@@ -51,6 +72,14 @@ static FOREIGN: [Foreign; 27] = [
         help: "write `big int<16>`",
     },
     Foreign {
+        names: b"int8_t i8 s8 s1 Int8sb Int8sl",
+        help: "write `int<8>`",
+    },
+];
+
+/// Integers of 32 bits.
+static WORDS: [Foreign; 6] = [
+    Foreign {
         names: b"uint32_t u32 u4 DWORD dword ULONG __u32 unsigned",
         help: "write `uint<32>`",
     },
@@ -74,6 +103,10 @@ static FOREIGN: [Foreign; 27] = [
         names: b"int32_be int32be i32be s4be Int32sb",
         help: "write `big int<32>`",
     },
+];
+
+/// Integers of 64 bits.
+static LONG_INTEGERS: [Foreign; 6] = [
     Foreign {
         names: b"uint64_t u64 QWORD qword ULONGLONG __u64 size_t usize",
         help: "write `uint<64>`",
@@ -98,31 +131,26 @@ static FOREIGN: [Foreign; 27] = [
         names: b"int64_be int64be i64be s8be Int64sb",
         help: "write `big int<64>`",
     },
-    Foreign {
-        names: b"int8_t i8 s8 s1 Int8sb Int8sl",
-        help: "write `int<8>`",
-    },
-    Foreign {
-        names: b"str strz stringz String CString cstring",
-        help: "write `string` for bytes up to a 0, or `char[n]`",
-    },
-    Foreign {
-        names: b"off64 uoff64",
-        help: "write `offset<int<64>,b>`",
-    },
-    Foreign {
-        names: b"bits",
-        help: "write `uint<N>` with the number of bits",
-    },
-    Foreign {
-        names: b"u24",
-        help: "write `uint<24>`",
-    },
 ];
 
 /// What to write instead of a type that isn't predeclared.
 pub fn of_foreign(word: &[u8]) -> Option<&'static str> {
-    for row in FOREIGN.as_slice() {
+    for table in [
+        OTHERS.as_slice(),
+        SHORT_INTEGERS.as_slice(),
+        WORDS.as_slice(),
+        LONG_INTEGERS.as_slice(),
+    ] {
+        if let Some(help) = help_of(table, word) {
+            return Some(help);
+        }
+    }
+    None
+}
+
+/// What a table says to write instead of a type.
+fn help_of(table: &[Foreign], word: &[u8]) -> Option<&'static str> {
+    for row in table {
         if has_word(row.names, word) {
             return Some(row.help);
         }

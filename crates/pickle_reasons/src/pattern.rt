@@ -39,6 +39,17 @@ impl<'a, 't> Around<'a, 't> {
         self.script.text(self.first)
     }
 
+    /// The sentence of the first pattern that fits, in tables one after the other. The time to prove a table grows with
+    /// the square of its length, so the tables are short.
+    pub fn find_in(self, tables: &[&[Pattern]]) -> Option<&'static str> {
+        for table in tables {
+            if let Some(help) = self.find(table) {
+                return Some(help);
+            }
+        }
+        None
+    }
+
     /// The sentence of the first pattern that fits.
     pub fn find(self, patterns: &[Pattern]) -> Option<&'static str> {
         for pattern in patterns {
