@@ -169,20 +169,18 @@ fn with_values<'a>(arg: Arg<'a>, row: &Argument) -> Arg<'a>
     }
 }
 
-// Required, though it or an argument before it may be left out.
+// Required, though it or an argument before it may be left out, and with values that may begin with `-`.
 fn required<'a>(arg: Arg<'a>, row: &Argument) -> Arg<'a> {
-    match row.kind {
-        Kind::Omissible => arg.required(true),
-        _ => arg,
-    }
+    arg.required(is_required(row))
+        .allow_hyphen_values(matches!(row.accepts, Accepts::Place))
+}
+
+fn is_required(row: &Argument) -> bool {
+    matches!(row.kind, Kind::Positional | Kind::Omissible)
 }
 
 // With what it excludes and requires.
 fn with_tie<'a>(arg: Arg<'a>, row: &Argument) -> Result<Arg<'a>, AllocError> {
-    let arg = match row.accepts {
-        Accepts::Place => arg.allow_hyphen_values(true),
-        _ => arg,
-    };
     match row.tie {
         Tie::Apart(other) => arg.conflicts_with(other),
         Tie::Needs(other) => arg.requires_arg(other),
