@@ -9,7 +9,7 @@ const GOOD: &str =
     "// a: A.\n// main: A\n// Identified by: A\ntype A = struct { byte a : a == 1; };\n";
 
 /// The name of a pickle that comes after a good one, the pickle, and what is wrong.
-const ROWS: [(&str, &str, &str); 12] = [
+static ROWS: [(&str, &str, &str); 12] = [
     ("b", GOOD, "None"),
     ("b", "type A = int;", "None"),
     ("a", GOOD, "Some((1, Order))"),
@@ -70,10 +70,10 @@ fn wrong<'a>(alloc: Global, name: &'a [u8], pickle: &'a [u8]) -> Option<(usize, 
 #[test]
 fn formats_are_named(rt: HostRuntime) -> Result<(), Fail> {
     let alloc = rt.alloc();
-    for (name, pickle, told) in ROWS {
+    for (name, pickle, told) in ROWS.as_slice() {
         let wrong = wrong(alloc, name.as_bytes(), pickle.as_bytes());
         let found = format!(in alloc; "{wrong:?}")?;
-        same_text(found.as_str(), told, pickle)?;
+        same_text(found.as_str(), *told, *pickle)?;
     }
     Ok(())
 }

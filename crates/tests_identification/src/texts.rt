@@ -91,7 +91,7 @@ fn told_of(alloc: Global, row: &str) -> Result<String, Fail> {
 
 /// The bytes of a file in hexadecimal digits, whether the first or all of its formats are printed, and in which form.
 /// Then the outcome and the text.
-const ROWS: [(&str, &str); 9] = [
+static ROWS: [(&str, &str); 9] = [
     ("0102 first text", "Done crate\tCrate\tlittle\n"),
     (
         "0102 all text",
@@ -122,9 +122,9 @@ const ROWS: [(&str, &str); 9] = [
 #[test]
 fn formats_are_printed(rt: HostRuntime) -> Result<(), Fail> {
     let alloc = rt.alloc();
-    for (row, told) in ROWS {
-        let found = told_of(alloc, row)?;
-        same_text(found.as_str(), told, row)?;
+    for (row, told) in ROWS.as_slice() {
+        let found = told_of(alloc, *row)?;
+        same_text(found.as_str(), *told, *row)?;
     }
     Ok(())
 }

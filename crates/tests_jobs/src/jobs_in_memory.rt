@@ -10,7 +10,7 @@ use std::test::Fail;
 use tests_kit::rows::{holds, same_bytes};
 
 /// A command line, what its job writes to the writer, and the line of its ending or of its fault, in a block each.
-const ROWS: [(&str, &str, &str); 18] = [
+static ROWS: [(&str, &str, &str); 18] = [
     ("map p.pk P a.bin", "P {a=1UB,b=515UH}\n", ""),
     ("map p.pk P b.bin", "", "fault End at 8#b\n"),
     ("map --limit 2 p.pk P a.bin", "", "fault Limit at 0#b\n"),
@@ -52,7 +52,7 @@ const ROWS: [(&str, &str, &str); 18] = [
 ];
 
 /// A command line about formats. The same three parts, and the usage error, if there is one.
-const FORMAT_ROWS: [(&str, &str, &str, &str); 9] = [
+static FORMAT_ROWS: [(&str, &str, &str, &str); 9] = [
     (
         "identify word.bin pair.bin a.bin none",
         "word.bin\t0\tword\tWord\tbig\npair.bin\t0\tpair\tPair\tlittle\na.bin\t1\tfault Unidentified\n\
@@ -105,7 +105,7 @@ const FORMAT_ROWS: [(&str, &str, &str, &str); 9] = [
 
 /// A command line whose type, options or end the head of the pickle or a window says. The same three parts, and the usage
 /// error, if there is one.
-const HEAD_ROWS: [(&str, &str, &str, &str); 36] = [
+static HEAD_ROWS: [(&str, &str, &str, &str); 36] = [
     ("map +little a.bin", "513UH\n", "", ""),
     ("map +little - a.bin", "513UH\n", "", ""),
     ("map +little L a.bin", "258UH\n", "", ""),
@@ -222,7 +222,7 @@ const HEAD_ROWS: [(&str, &str, &str, &str); 36] = [
 ];
 
 /// A command line with a pickle or a type that is refused, and how the lines begin that say why.
-const REFUSED_ROWS: [(&str, &str); 9] = [
+static REFUSED_ROWS: [(&str, &str); 9] = [
     ("check --why wrong.pk", "  wrong.pk:1:29: "),
     ("types --why wrong.pk", "  wrong.pk:1:29: "),
     ("bound --why wrong.pk P 24", "  wrong.pk:1:29: "),
@@ -299,8 +299,8 @@ fn expect_written(
 
 #[test]
 fn jobs_write_their_answers(rt: HostRuntime) -> Result<(), Fail> {
-    for (words, out, line) in ROWS {
-        expect_written(rt.alloc(), words, out, line, "")?;
+    for (words, out, line) in ROWS.as_slice() {
+        expect_written(rt.alloc(), *words, *out, *line, "")?;
     }
     Ok(())
 }
@@ -308,8 +308,8 @@ fn jobs_write_their_answers(rt: HostRuntime) -> Result<(), Fail> {
 // The head of a pickle says the type and the options that aren't given, and a window where a file ends.
 #[test]
 fn heads_and_windows_apply(rt: HostRuntime) -> Result<(), Fail> {
-    for (words, out, line, usage) in HEAD_ROWS {
-        expect_written(rt.alloc(), words, out, line, usage)?;
+    for (words, out, line, usage) in HEAD_ROWS.as_slice() {
+        expect_written(rt.alloc(), *words, *out, *line, *usage)?;
     }
     Ok(())
 }
@@ -317,8 +317,8 @@ fn heads_and_windows_apply(rt: HostRuntime) -> Result<(), Fail> {
 // The formats of files, and the list of formats, are those of the installed pickles.
 #[test]
 fn formats_are_installed(rt: HostRuntime) -> Result<(), Fail> {
-    for (words, out, line, usage) in FORMAT_ROWS {
-        expect_written(rt.alloc(), words, out, line, usage)?;
+    for (words, out, line, usage) in FORMAT_ROWS.as_slice() {
+        expect_written(rt.alloc(), *words, *out, *line, *usage)?;
     }
     Ok(())
 }
@@ -326,10 +326,10 @@ fn formats_are_installed(rt: HostRuntime) -> Result<(), Fail> {
 // Every command says why it refuses a pickle or a type, if that is requested.
 #[test]
 fn refusals_have_reasons(rt: HostRuntime) -> Result<(), Fail> {
-    for (words, start) in REFUSED_ROWS {
-        let written = written_by(rt.alloc(), words)?;
-        holds(written.out.is_empty(), words)?;
-        holds(written.reasons.starts_with(start.as_bytes()), words)?;
+    for (words, start) in REFUSED_ROWS.as_slice() {
+        let written = written_by(rt.alloc(), *words)?;
+        holds(written.out.is_empty(), *words)?;
+        holds(written.reasons.starts_with(start.as_bytes()), *words)?;
     }
     Ok(())
 }

@@ -10,7 +10,7 @@ use std::alloc::{AllocError, Global};
 use tests_kit::streams::OneByOne;
 
 /// The files, with their bytes.
-const FILES: [(&str, &[u8]); 12] = [
+static FILES: [(&str, &[u8]); 12] = [
     (
         "p.pk",
         b"type P = struct { uint<8> a; uint<16> b; }; type Q = uint<8>[];",
@@ -150,9 +150,9 @@ fn push(
 
 // The bytes of the file with a name.
 fn bytes_of(name: &str) -> Option<&'static [u8]> {
-    for (other, bytes) in FILES {
-        if other == name {
-            return Some(bytes);
+    for (other, bytes) in FILES.as_slice() {
+        if *other == name {
+            return Some(*bytes);
         }
     }
     None

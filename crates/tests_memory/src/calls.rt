@@ -14,7 +14,7 @@ use std::fs::File;
 use std::rt::Files;
 
 /// The names of the calls.
-pub const CALLS: [&str; 30] = [
+pub static CALLS: [&str; 30] = [
     "lex",
     "parse",
     "build",

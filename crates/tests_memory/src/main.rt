@@ -38,7 +38,7 @@ fn read_name(line: &[u8]) -> Option<&[u8]> {
 }
 
 fn tell_each(rt: &HostRuntime) -> ExitCode {
-    for name in CALLS {
+    for name in CALLS.as_slice() {
         let ended = run_call(rt, name.as_bytes());
         let mut line: ArrayVec<u8, 80> = ArrayVec::new();
         let told = put(&mut line, name.as_bytes())
