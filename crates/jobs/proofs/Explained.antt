@@ -5,7 +5,7 @@ use Rattle.std.specs.declared.alloc.Global.{Global}
 use Rattle.jobs.specs.Due.{End, Holds, early, part, whole}
 use Rattle.jobs.specs.Gives.{Gives}
 use Rattle.jobs.specs.Jobs.{DueCheck, DueReport, DueTypes, answer_due, failure_due, refusal_due, report_due, types_due, unreported}
-use Rattle.jobs.specs.Reasons.{Explains, ExplainsWord, IsExplained, IsMade, Says, SaysRefusal, said, says_place, says_types, unsaid}
+use Rattle.jobs.specs.Reasons.{Explains, ExplainsWord, Gains, IsExplained, IsMade, KeepsOthers, Says, SaysRefusal, said, says_place, says_types, unsaid}
 use Rattle.jobs.specs.declared.ending.Ending.{Ending}
 use Rattle.jobs.specs.declared.ending.Ending.TheVariants.{Run, Silent}
 use Rattle.jobs.specs.declared.fault.FileFault.{FileFault}
@@ -45,13 +45,13 @@ types_said pickle (Ok text) h = says_types h
 types_said pickle (Err e) h = tt
 
 -- the outcome of a job's ending, if it has one
-abbrev outcome_or : Outcome → End → Outcome
+abbrev pub outcome_or : Outcome → End → Outcome
 outcome_or other (Ok (Run ended)) = ended
 outcome_or other (Ok (Silent status)) = other
 outcome_or other (Err fault) = other
 
 -- whether it has one
-abbrev has_outcome : End → Type 0
+abbrev pub has_outcome : End → Type 0
 has_outcome (Ok (Run ended)) = Unit {0}
 has_outcome (Ok (Silent status)) = ⊥
 has_outcome (Err fault) = ⊥
@@ -68,6 +68,13 @@ run_explains pickle why reasons end outcome is says ended same asked explained =
       says = subst (λ refusal. Says (SaysRefusal pickle refusal) reasons) one
           (says asked (subst IsExplained (sym one) explained));
     }
+
+-- reasons of another ending stay as they are
+pub others_kept : (end : End) (outcome : Outcome) (reasons reasons' : Reasons) → end ≡ Ok (Run outcome)
+    → Gains true (IsExplained outcome) reasons reasons' → KeepsOthers end reasons reasons'
+others_kept end outcome reasons reasons' is (inl same) ended other unexplained = same
+others_kept end outcome reasons reasons' is (inr gained) ended other unexplained =
+    absurd (unexplained (subst IsExplained (ap (outcome_or outcome) (sym is ∙ other)) gained.1))
 
 module _ (IsPickle : NamedPickle → Type 0) (why : Bool) (reasons : Reasons) where
   -- nothing is due of another ending

@@ -9,9 +9,9 @@ use Rattle.command_line.specs.Starts.{start_bit}
 use Rattle.jobs.specs.Every.{AppendsFile, CutsFile, run_text, runs_of}
 use Rattle.jobs.specs.FaultNames.{failure_of}
 use Rattle.jobs.specs.Mapped.{Mapped}
-use Rattle.jobs.specs.Files.{Every, IsFormed, MapsFrom, maps_from, maps_over, identifies_from, RunsFile, no_text, unopened, no_cache, opened, WritesRun, AppendsRun, CutsRun}
+use Rattle.jobs.specs.Files.{Every, IsFormed, MapsFrom, maps_from, maps_over, identifies_from, RunsFile, no_text, unopened, opened, WritesRun, AppendsRun, CutsRun}
 use Rattle.jobs.specs.Gives.{Gives}
-use Rattle.jobs.specs.Opened.{FailsNamed, not_text, not_opened, no_pages}
+use Rattle.jobs.specs.Opened.{FailsNamed, not_text, not_opened}
 use Rattle.jobs.specs.declared.fault.FileFault.{FileFault}
 use Rattle.jobs.specs.declared.file_run.FileForm.{FileForm}
 use Rattle.jobs.specs.declared.file_run.Work.{Work}
@@ -198,7 +198,6 @@ pub fails_run : (gives : Gives) (every : Every) (name : List ℕ) (fault : FileF
     FailsNamed gives name every.spool fault → RunsFile gives every name (outcome.Failed (failure_of fault)) []
 fails_run gives every name fault (not_text bad) = no_text bad
 fails_run gives every name fault (not_opened h) = unopened h
-fails_run gives every name fault no_pages = no_cache
 
 -- a run over what is seen of a file that was opened, of which a read may fail
 opened_run : (gives : Gives) (every : Every) (name line : List ℕ) (file sight : SpaceView) (start : ℕ)

@@ -17,6 +17,7 @@ mod Readable
 mod Listed
 mod Explained
 mod Told
+mod FileReasons
 mod FilesTold
 pub mod Unasked
 pub mod Recorded

@@ -33,7 +33,7 @@ ends_keep IsRight _ out mid out' (cuts text right h) keeps = cuts text right (pa
 ends_keep IsRight ended out mid out' (reports right keeps) more = reports right (Keeps-trans out mid out' keeps more)
 
 -- it doesn't end with a fault if it wrote its text
-abbrev unless_fault : Status → Type 0
+abbrev pub unless_fault : Status → Type 0
 unless_fault Fault = ⊥
 unless_fault Done = Unit {0}
 unless_fault Refused = Unit {0}

@@ -74,14 +74,16 @@ unopened_explains true lines quiet line some = record { asked = refl; line = lin
 unopened_explains false lines quiet line some = absurd (some (quiet refl))
 
 -- lines on a mapping, if reasons are requested and it has a value or a fault
-pub mapped_explains : (mapped : Mapped) (why is : Bool) (start : ℕ) (file : SpaceView) (ended : Outcome)
+pub mapped_explains : (mapped : Mapped) (why is : Bool) (start : ℕ) (file after : SpaceView) (ended : Outcome)
     (reasons : Reasons) → (why ≡ false → lines_of reasons ≡ []) → (is ≡ false → lines_of reasons ≡ [])
-    → (why ≡ true → is ≡ true → SaysFrom mapped start file ended reasons) → lines_of reasons ≢ []
+    → (why ≡ true → is ≡ true → SaysFrom mapped start file after ended reasons) → lines_of reasons ≢ []
     → ExplainsFrom mapped why start file (lines_of reasons)
-mapped_explains mapped true true start file ended reasons quiet unmapped says some =
-    explains_from refl (says refl refl)
-mapped_explains mapped true false start file ended reasons quiet unmapped says some = absurd (some (unmapped refl))
-mapped_explains mapped false is start file ended reasons quiet unmapped says some = absurd (some (quiet refl))
+mapped_explains mapped true true start file after ended reasons quiet unmapped says some =
+    explains_from {after = after} refl (says refl refl)
+mapped_explains mapped true false start file after ended reasons quiet unmapped says some =
+    absurd (some (unmapped refl))
+mapped_explains mapped false is start file after ended reasons quiet unmapped says some =
+    absurd (some (quiet refl))
 
 -- a text on the run of a file that was opened
 pub opened_tells : (gives : Gives) (every : Every) (name text : List ℕ) (file sight : SpaceView) (start : ℕ)

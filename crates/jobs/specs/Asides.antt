@@ -63,17 +63,17 @@ TellsInForm (Line faults) name lines told told' result = TellsLines name lines t
 TellsInForm Object name lines told told' result = Keeps told told'
 
 -- the reasons of a mapping that ended with a value or a fault are told of a file that has a line
-pub record TellsReasons (mapped : Mapped) (start : ℕ) (file : SpaceView) (ended : Outcome) (name : List ℕ)
+pub record TellsReasons (mapped : Mapped) (start : ℕ) (file after : SpaceView) (ended : Outcome) (name : List ℕ)
     (told told' : Option (List ℕ)) : Type 0 where
   pub reasons : Reasons
-  pub says : SaysFrom mapped start file ended reasons
+  pub says : SaysFrom mapped start file after ended reasons
   pub tells : TellsSome name (lines_of reasons) told told'
 
-abbrev pub TellsOutcome : FileForm → Mapped → (start : ℕ) → (file : SpaceView) → (ended : Outcome) → (name : List ℕ) →
-    (told told' : Option (List ℕ)) → Type 0
-TellsOutcome (Line faults) mapped start file ended name told told' =
-    is_mapped (outcome_status ended) ≡ true → TellsReasons mapped start file ended name told told'
-TellsOutcome Object mapped start file ended name told told' = Unit {0}
+abbrev pub TellsOutcome : FileForm → Mapped → (start : ℕ) → (file after : SpaceView) → (ended : Outcome) →
+    (name : List ℕ) → (told told' : Option (List ℕ)) → Type 0
+TellsOutcome (Line faults) mapped start file after ended name told told' =
+    is_mapped (outcome_status ended) ≡ true → TellsReasons mapped start file after ended name told told'
+TellsOutcome Object mapped start file after ended name told told' = Unit {0}
 
 -- a text is told, which is right; or none
 pub data Tells (IsRight : (text : List ℕ) → Type 0) (told told' : Option (List ℕ)) : Type 0 where

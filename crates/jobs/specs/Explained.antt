@@ -29,22 +29,23 @@ pub data IsOpeningLine (lines : List ℕ) : Type 0 where
 abbrev pub SaysRun : (file after : SpaceView) → TypeRun → Outcome → Reasons → Type 0
 SaysRun file after run ended = Says (TellsWhy (run_of file after run.ask.now run.terms.now ended) (run_type run))
 
--- the reasons of a mapping over what is seen of a file from a bit on, which ended so
-pub record SaysFrom (mapped : Mapped) (start : ℕ) (file : SpaceView) (ended : Outcome) (reasons : Reasons) :
+-- the reasons of a mapping over what is seen of a file from a bit on, which ended so; the file's view is so after they
+-- were found
+pub record SaysFrom (mapped : Mapped) (start : ℕ) (file after : SpaceView) (ended : Outcome) (reasons : Reasons) :
     Type 0 where
   pub ask : Ask
   pub type : PokeType
   pub read : SpaceView
-  pub after : SpaceView
   pub at : IsAskAt mapped.aim start file.len ask
   pub asked : IsAsked mapped.pickle ask.name.now type
   pub keeps : Keeps file read
+  pub found : Keeps read after
   pub says : Says (TellsWhy (run_of read after ask mapped.terms ended) type) reasons
 
 -- lines that explain how it ended, if reasons are requested
 pub data ExplainsFrom (mapped : Mapped) (why : Bool) (start : ℕ) (file : SpaceView) : (lines : List ℕ) → Type 0 where
-  explains_from : {ended : Outcome} {reasons : Reasons} → why ≡ true → SaysFrom mapped start file ended reasons
-      → ExplainsFrom mapped why start file (lines_of reasons)
+  explains_from : {after : SpaceView} {ended : Outcome} {reasons : Reasons} → why ≡ true
+      → SaysFrom mapped start file after ended reasons → ExplainsFrom mapped why start file (lines_of reasons)
 
 -- the line on a format of which an attempt took too many steps
 abbrev pub unfinished_line : (name : List ℕ) → List ℕ

@@ -10,6 +10,7 @@ pub mod Reasons
 pub mod Installed
 pub mod Formats
 pub mod Spaces
+pub mod FileReasons
 pub mod Growth
 pub mod PlaceNames
 pub mod Tasks

@@ -9,11 +9,10 @@ use Rattle.jobs.specs.declared.opener.GivenName.TheVariants as given
 use Rattle.jobs.specs.declared.opener.Lengthless.{Lengthless}
 use Rattle.jobs.specs.declared.opener.Lengthless.TheVariants.{Reads, NeedsSpool}
 
--- the name isn't text, an opener says why, or memory for its pages lacks
+-- the name isn't text, or an opener says why
 pub data FailsNamed (gives : Gives) (name : List ℕ) (spool : Option ℕ) : FileFault → Type 0 where
   not_text : ¬ (IsUtf8 name) → FailsNamed gives name spool (file.Space NotOpened)
   not_opened : {fault : FileFault} → gives.is_unopened name spool fault → FailsNamed gives name spool fault
-  no_pages : FailsNamed gives name spool file.Memory
 
 -- what a mapping does with a file that has no length, by its option `--spool`
 abbrev pub lengthless_with : (spool : Option ℕ) → Lengthless

@@ -70,6 +70,11 @@ abbrev pub Explains : (IsPickle : NamedPickle → Type 0) → (why : Bool) → R
 Explains IsPickle why reasons end =
     (ended : Outcome) → end ≡ Ok (Run ended) → why ≡ true → IsExplained ended → SaysOf IsPickle ended reasons
 
+-- the reasons of a job that ended otherwise stay as they are
+abbrev pub KeepsOthers : End → (reasons reasons' : Reasons) → Type 0
+KeepsOthers end reasons reasons' =
+    (ended : Outcome) → end ≡ Ok (Run ended) → (IsExplained ended → ⊥) → reasons' ≡ reasons
+
 -- the argument of a job that names its pickle, if there is one
 abbrev pub word_of : Job → Option (List ℕ)
 word_of (job.Map at order limit mode pickle name file) = Some (string_bytes pickle)

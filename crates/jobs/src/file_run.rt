@@ -449,7 +449,7 @@ fn map_space<S: Space, A: Aside, O: Write>(
         (S.view space.old))) (A.told aside.old) (A.told aside.new) }
     ensures outcome { task.entry.explains ≡ true →
         OnOk result (TellsOutcome task.entry.form (mapped_of typed.entry) start
-        (S.view space.old) kept.new.outcome name.now (A.told aside.old) (A.told aside.new)) }
+        (S.view space.old) (S.view space.new) kept.new.outcome name.now (A.told aside.old) (A.told aside.new)) }
     ensures keeps { SpaceKeeps (S.view space.old) (S.view space.new) }
 {
     let ask = &typed.mapping.ask_at(start, space.len());

@@ -14,6 +14,7 @@ pub mod fault;
 pub mod file_run;
 mod formats;
 mod growth;
+mod hint;
 mod hunted;
 pub mod identified;
 pub mod identify;

@@ -1,21 +1,31 @@
 //! Mappings of a type of a pickle over a file.
-ghost use Rattle.std.specs.Prelude.{◌≡◌, IsTrue};
+ghost use Rattle.std.specs.Prelude.{◌≡◌, ℕ, List, IsTrue, [], None, true};
 ghost use Rattle.bit_space.specs.SpaceView.{Keeps};
+ghost use Rattle.fault_report.specs.Impossible.{TellsImpossible};
+ghost use Rattle.fault_report.specs.Why.{TellsWhy, run_of};
 ghost use Rattle.jobs.specs.Aims.{of_mapping};
 ghost use Rattle.jobs.specs.Due.{Holds};
 ghost use Rattle.jobs.specs.Endings.{is_mapped};
+ghost use Rattle.jobs.specs.FileReasons.{AddsLine, ExplainsFile, ExplainsSpace, SaysMet};
 ghost use Rattle.jobs.specs.Given.{AddsMet, MapsSpace};
 ghost use Rattle.jobs.specs.Jobs.{DueFile};
+ghost use Rattle.jobs.specs.Reasons.{Says};
 ghost use Rattle.jobs.specs.Spaces.{MayShow, is_within};
+ghost use Rattle.poke_batch.specs.Runs.{IsAsked};
+ghost use Rattle.poke_batch.specs.RunsUnder.{MapsRequested};
+ghost use Rattle.poke_batch.specs.TypeRuns.{run_type};
+ghost use Rattle.run_parts.specs.Outcomes.{EndsAs, outcome_status};
+ghost use Rattle.run_parts.specs.declared.outcome.Outcome.TheVariants as outcomes;
 
 use crate::ending::Ending;
 use crate::fault::FileFault;
+use crate::hint::{Hint, add_hint, tell_arguments};
 use crate::opener::{NamedPickle, Opener};
 use crate::settings::Mapping;
 use crate::why::{Reasons, Why, explain_parts, reasons_of};
-use bit_space::{Order, Paged, Space};
+use bit_space::{Paged, Space};
 use command_line::start::Start;
-use pickle_heads::head_of;
+use fault_report::Explained;
 use poke_batch::ask::Ask;
 use poke_batch::outcome::{Failure, Outcome};
 use poke_batch::resolve::{refuse_parts, resolve};
@@ -24,14 +34,8 @@ use poke_batch::terms::Terms;
 use poke_batch::type_run::TypeRun;
 use poke_batch::write::{WriteFault, put};
 use spool::Window;
-use std::alloc::Global;
+use std::alloc::{AllocError, Global};
 use std::io::Write;
-
-/// The reason why what was met before a fault isn't shown.
-const TOO_LONG: &[u8] = b"  what was read before isn't shown: it is longer than --max-output\n";
-
-/// How the name of a pickle's file ends.
-const PICKLE_ENDING: &str = ".pk";
 
 /// Maps a type of a pickle that was read over the file at a path.
 #[inline(never)]
@@ -44,8 +48,10 @@ pub fn map_file<P: Opener, O: Write>(
     out: &mut O,
     why: &mut Why<'_>,
 ) -> Result<Ending, FileFault>
-    ensures { let due = DueFile (P.gives opener.now) why.old.asked (of_mapping mapping.entry) path.now in
+    ensures holds { let due = DueFile (P.gives opener.now) why.old.asked (of_mapping mapping.entry) path.now in
         Holds (due pickle.now.bytes.items) (O.contents out.old) (O.contents out.new) result }
+    ensures opened { ExplainsFile (P.gives opener.now) (of_mapping mapping.entry) path.now pickle.now.bytes.items
+        why.old.asked result why.new.reasons.now }
 {
     let bytes = opener.open(path, mapping.spool, mapping.progress)?;
     let Some(start) = mapping.start.bit_in(&bytes) else {
@@ -56,9 +62,7 @@ pub fn map_file<P: Opener, O: Write>(
     let mut space = Paged::new(alloc, window)?;
     let ask = &mapping.ask_at(start, space.len());
     let outcome = map_space(alloc, pickle, ask, mapping.terms, &mut space, out, why);
-    if outcome.status() == Status::Fault {
-        tell_arguments(path, ask.order, pickle, why);
-    }
+    tell_arguments(outcome, path, mapping.order, pickle, why);
     Ok(Ending::Run(outcome))
 }
 
@@ -75,16 +79,15 @@ pub fn map_space<S: Space, O: Write>(
 ) -> Outcome
     ensures maps { MapsSpace pickle.now.bytes.items ask.now terms.now (S.view space.old) (S.view space.new)
         why.old.asked (O.contents out.old) (O.contents out.new) result }
+    ensures explains { ExplainsSpace pickle.now.bytes.items ask.now terms.now (S.view space.old) (S.view space.new)
+        why.old.asked result why.new.reasons.now }
+    ensures asked { why.new.asked ≡ why.old.asked }
     ensures keeps { Keeps (S.view space.old) (S.view space.new) }
 {
     let (table, id) = match resolve(alloc, &pickle.bytes, ask.name) {
         Ok(found) => found,
         Err(outcome) => return outcome,
     };
-    if let Some(outcome) = refuse_parts(alloc, &table, id, terms) {
-        explain_parts(alloc, why, outcome, &table, id, terms);
-        return outcome;
-    }
     let run = TypeRun {
         alloc,
         table: &table,
@@ -92,11 +95,24 @@ pub fn map_space<S: Space, O: Write>(
         ask,
         terms,
     };
-    let outcome = run.map_new(space, out);
+    let outcome = map_requested(&run, space, out);
     if !why.asked {
         return outcome;
     }
     explain_run(&run, pickle, outcome, space, out, why)
+}
+
+// Maps the type of a run, if its values can have what is requested of them.
+fn map_requested<S: Space, O: Write>(run: &TypeRun<'_>, space: &mut S, out: &mut O) -> Outcome
+    ensures ends { (pickle : List ℕ) → IsAsked pickle run.now.ask.now.name.now (run_type run.now)
+        → EndsAs (MapsRequested pickle run.now.ask.now run.now.terms.now (S.view space.old) (S.view space.new)) result
+        (O.contents out.old) (O.contents out.new) }
+    ensures keeps { Keeps (S.view space.old) (S.view space.new) }
+{
+    match refuse_parts(run.alloc, run.table, run.id, run.terms) {
+        Some(outcome) => outcome,
+        None => run.map_new(space, out),
+    }
 }
 
 // Explains how a run ended, and returns its outcome. Of a value that is shown to the eye, what was met before its fault is
@@ -110,23 +126,58 @@ fn explain_run<S: Space, O: Write>(
     why: &mut Why<'_>,
 ) -> Outcome
     ensures met { AddsMet run.now.terms.now outcome (O.contents out.old) (O.contents out.new) result }
+    ensures says { let ended = run_of (S.view space.old) (S.view space.new) run.now.ask.now run.now.terms.now result in
+        is_mapped (outcome_status result) ≡ true →
+        SaysMet (TellsWhy ended (run_type run.now)) run.now.terms.now why.new.reasons.now }
+    ensures impossible { why.old.asked ≡ true → result ≡ outcomes.ImpossiblePart →
+        Says TellsImpossible why.new.reasons.now }
+    ensures asked { why.new.asked ≡ why.old.asked }
     ensures keeps { Keeps (S.view space.old) (S.view space.new) }
 {
     if !is_mapped(outcome.status()) {
+        explain_parts(run.alloc, why, outcome, run.table, run.id, run.terms);
         return outcome;
     }
-    let Ok(reasons) = reasons_of(run, pickle, outcome, space) else {
-        why.reasons.lose();
-        return outcome;
-    };
-    let ended = show_met(run.terms, outcome, reasons.met.as_slice(), out);
-    if ended == outcome {
-        *why.reasons = Reasons::made(run.alloc, Ok(reasons.text));
-        if !is_within(run.terms.most_output, &reasons.met) {
-            tell(&mut why.reasons.text, TOO_LONG);
+    match reasons_of(run, pickle, outcome, space) {
+        Ok(found) => show_found(run, outcome, found, out, why.reasons),
+        Err(AllocError) => {
+            why.reasons.lose();
+            outcome
         }
     }
-    ended
+}
+
+// Shows what was met before a fault, and makes what was found of it the reasons. If the output fails there are none.
+fn show_found<O: Write>(
+    run: &TypeRun<'_>,
+    outcome: Outcome,
+    found: Explained,
+    out: &mut O,
+    reasons: &mut Reasons,
+) -> Outcome
+    requires met { run.now.terms.now.look ≡ None → found.met.items ≡ [] }
+    ensures met { AddsMet run.now.terms.now outcome (O.contents out.old) (O.contents out.new) result }
+    ensures says { is_mapped (outcome_status result) ≡ true →
+        (result ≡ outcome) × SaysMet (λ text. text ≡ found.text.items) run.now.terms.now reasons.new }
+{
+    let ended = show_met(run.terms, outcome, found.met.as_slice(), out);
+    match ended {
+        Outcome::Failed(_) => ended,
+        _ => {
+            say_found(run.alloc, run.terms, found, reasons);
+            ended
+        }
+    }
+}
+
+// Makes what was found the reasons of a run. They say so if what was met before the fault is too long to be shown.
+fn say_found(alloc: Global, terms: &Terms, found: Explained, reasons: &mut Reasons)
+    requires met { terms.now.look ≡ None → found.met.items ≡ [] }
+    ensures { SaysMet (λ text. text ≡ found.text.items) terms.now reasons.new }
+{
+    let shown = is_within(terms.most_output, found.met.as_slice());
+    *reasons = Reasons::made(alloc, Ok(found.text));
+    add_hint(reasons, !shown, Hint::TooLong);
 }
 
 // Shows what was met before the fault of a value that is shown to the eye.
@@ -158,31 +209,14 @@ fn is_within(most: Option<u64>, text: &[u8]) -> bool
     }
 }
 
-/// Adds what the arguments of a mapping with a fault may have wrong, if reasons are requested.
-pub fn tell_arguments(path: &str, order: Order, pickle: &NamedPickle, why: &mut Why<'_>) {
-    if !why.asked {
-        return;
-    }
-    if path.ends_with(PICKLE_ENDING) {
-        tell(
-            &mut why.reasons.text,
-            b"  FILE ends in .pk: are PICKLE and FILE swapped?\n",
-        );
-    }
-    let head = head_of(b"", &pickle.bytes);
-    if order == Order::Big && head.options.order == Some(Order::Little) {
-        tell(
-            &mut why.reasons.text,
-            b"  the pickle's head says: --endian little\n",
-        );
-    }
-}
-
 /// Adds a line to the reasons. If an allocation fails it is left out.
-pub fn tell(text: &mut Vec<u8>, line: &[u8]) {
-    let told = text.len();
-    if text.extend_from_slice(line).is_err() {
-        text.truncate(told);
+pub fn tell(text: &mut Vec<u8>, line: &[u8])
+    ensures { AddsLine line.now text.old.items text.new.items }
+{
+    match text.extend_from_slice(line) {
+        Ok(()) => {}
+        // (the line is left out)
+        Err(AllocError) => {}
     }
 }
 

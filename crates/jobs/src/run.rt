@@ -4,6 +4,7 @@ ghost use Rattle.command_line.specs.Subjects.{pickle_of};
 ghost use Rattle.jobs.specs.Aims.{of_mapping};
 ghost use Rattle.jobs.specs.Asides.{TellsJob, TellsOver, TellsRequest, TellsSettled};
 ghost use Rattle.jobs.specs.Due.{DueOver, Holds};
+ghost use Rattle.jobs.specs.FileReasons.{ExplainsFile, ExplainsJob, ExplainsNamed, ExplainsOver, ExplainsRequest, ExplainsSettled};
 ghost use Rattle.jobs.specs.Given.{DueSettled, IsOverFiles};
 ghost use Rattle.jobs.specs.Jobs.{DueFile, DueMapping, DueRequest, DueUnnamed, HoldsJob};
 ghost use Rattle.jobs.specs.Reasons.{Explains, ExplainsWord, word_of};
@@ -49,6 +50,7 @@ pub fn run_job<P: Opener, O: Write, A: Aside>(
     ensures holds { HoldsJob (P.gives opener.now) why.old.asked asked.old.job asked.old.answer
         (O.contents out.old) (O.contents out.new) result }
     ensures says { ExplainsWord (P.gives opener.now) (word_of asked.old.job) why.old.asked why.new.reasons.now result }
+    ensures opened { ExplainsJob (P.gives opener.now) asked.old.job why.old.asked result why.new.reasons.now }
     ensures told { TellsJob (P.gives opener.now) why.old.asked asked.old.job asked.old.answer
         (A.told aside.old) (A.told aside.new) }
 {
@@ -71,6 +73,7 @@ fn run_over_files<P: Opener, O: Write, A: Aside>(
     ensures holds { HoldsJob (P.gives opener.now) why.old.asked asked.old.job asked.old.answer
         (O.contents out.old) (O.contents out.new) result }
     ensures says { ExplainsWord (P.gives opener.now) (word_of asked.old.job) why.old.asked why.new.reasons.now result }
+    ensures opened { ExplainsJob (P.gives opener.now) asked.old.job why.old.asked result why.new.reasons.now }
     ensures told { TellsJob (P.gives opener.now) why.old.asked asked.old.job asked.old.answer
         (A.told aside.old) (A.told aside.new) }
 {
@@ -94,6 +97,7 @@ fn run_plain<P: Opener, O: Write, A: Aside>(
     ensures holds { HoldsJob (P.gives opener.now) why.old.asked asked.now.job asked.now.answer
         (O.contents out.old) (O.contents out.new) result }
     ensures says { ExplainsWord (P.gives opener.now) (word_of asked.now.job) why.old.asked why.new.reasons.now result }
+    ensures opened { ExplainsJob (P.gives opener.now) asked.now.job why.old.asked result why.new.reasons.now }
     ensures told { TellsJob (P.gives opener.now) why.old.asked asked.now.job asked.now.answer
         (A.told aside.old) (A.told aside.new) }
 {
@@ -147,6 +151,9 @@ fn map_plain<P: Opener, O: Write>(
     ensures holds { let due = DueFile (P.gives opener.now) why.old.asked (of_mapping mapping.entry) path.now in
         Holds (DueOver (P.gives opener.now) word.now due) (O.contents out.old) (O.contents out.new) result }
     ensures says { ExplainsWord (P.gives opener.now) (Some word.now) why.old.asked why.new.reasons.now result }
+    ensures opened { let Explains = ExplainsFile (P.gives opener.now) (of_mapping mapping.entry) path.now in
+        ExplainsNamed (P.gives opener.now) word.now
+        (λ pickle. Explains pickle why.old.asked result why.new.reasons.now) result }
 {
     let pickle = opener.read_pickle(word)?;
     let asked = why.asked;
@@ -168,6 +175,7 @@ fn run_request<P: Opener, O: Write, A: Aside>(
         (O.contents out.old) (O.contents out.new) result }
     ensures says { ExplainsWord (P.gives opener.now) (pickle_of request.old.subject) why.old.asked why.new.reasons.now
         result }
+    ensures opened { ExplainsRequest (P.gives opener.now) request.old why.old.asked result why.new.reasons.now }
     ensures told { TellsRequest (P.gives opener.now) why.old.asked request.old
         (A.told aside.old) (A.told aside.new) }
 {
@@ -222,6 +230,8 @@ fn run_settled<P: Opener, O: Write, A: Aside>(
     ensures holds { let due = DueSettled (P.gives opener.now) why.old.asked request.now in
         Holds (due pickle.now.bytes.items) (O.contents out.old) (O.contents out.new) result }
     ensures says { Explains (λ source. source ≡ pickle.now) why.old.asked why.new.reasons.now result }
+    ensures opened { ExplainsSettled (P.gives opener.now) request.now pickle.now.bytes.items
+        why.old.asked result why.new.reasons.now }
     ensures told { TellsSettled (P.gives opener.now) why.old.asked request.now pickle.now.bytes.items
         (A.told aside.old) (A.told aside.new) }
 {
@@ -258,6 +268,8 @@ fn map_over<P: Opener, O: Write, A: Aside>(
     ensures holds { let due = DueMapping (P.gives opener.now) why.old.asked (of_mapping mapping.entry) over.now in
         Holds (due pickle.now.bytes.items) (O.contents out.old) (O.contents out.new) result }
     ensures says { Explains (λ source. source ≡ pickle.now) why.old.asked why.new.reasons.now result }
+    ensures opened { ExplainsOver (P.gives opener.now) (of_mapping mapping.entry) over.now pickle.now.bytes.items
+        why.old.asked result why.new.reasons.now }
     ensures told { TellsOver (P.gives opener.now) why.old.asked (of_mapping mapping.entry)
         pickle.now.bytes.items over.now
         (A.told aside.old) (A.told aside.new) }
@@ -282,6 +294,8 @@ fn map_files<P: Opener, O: Write, A: Aside>(
 ) -> Result<Ending, FileFault>
     ensures holds { let due = DueMapping (P.gives opener.now) why.old.asked (of_mapping mapping.entry) over.now in
         Holds (due pickle.now.bytes.items) (O.contents out.old) (O.contents out.new) result }
+    ensures opened { ExplainsOver (P.gives opener.now) (of_mapping mapping.entry) over.now pickle.now.bytes.items
+        why.old.asked result why.new.reasons.now }
     ensures told { TellsOver (P.gives opener.now) why.old.asked (of_mapping mapping.entry)
         pickle.now.bytes.items over.now
         (A.told aside.old) (A.told aside.new) }

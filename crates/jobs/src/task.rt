@@ -12,7 +12,8 @@ ghost use Rattle.jobs.specs.Tasks.{DoesTask, DoesTaskIn, DueTask, IsRunOf, IsWor
 use crate::ending::Ending;
 use crate::fault::FileFault;
 use crate::growth::{bytes_from, grow_limit, places_in};
-use crate::one_file::{tell_arguments, tell_start};
+use crate::hint::tell_arguments;
+use crate::one_file::tell_start;
 use crate::opener::{NamedPickle, Opener};
 use crate::part_copy::copy_part;
 use crate::record_list::list_run;
@@ -26,7 +27,6 @@ use pickle_types::table::{Table, TypeId};
 use poke_batch::ask::Ask;
 use poke_batch::outcome::Outcome;
 use poke_batch::resolve::{refuse_parts, resolve};
-use poke_batch::status::Status;
 use poke_batch::terms::Terms;
 use poke_batch::type_run::TypeRun;
 use spool::Window;
@@ -129,9 +129,7 @@ pub fn do_in_file<P: Opener, O: Write>(
         out,
         why,
     );
-    if outcome.status() == Status::Fault {
-        tell_arguments(path, ask.order, pickle, why);
-    }
+    tell_arguments(outcome, path, ask.order, pickle, why);
     Ok(Ending::Run(outcome))
 }
 

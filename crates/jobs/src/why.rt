@@ -1,9 +1,9 @@
 //! The reasons of a job, which are printed after its line.
-ghost use Rattle.std.specs.Prelude.{◌≡◌, [], true, false, IfNone, IfOk, IfSome};
+ghost use Rattle.std.specs.Prelude.{◌≡◌, [], true, false, IfNone, IfOk, IfSome, None};
 ghost use Rattle.bit_space.specs.SpaceView.{Keeps};
 ghost use Rattle.fault_report.specs.Impossible.{TellsImpossible};
 ghost use Rattle.fault_report.specs.Why.{TellsWhy, run_of};
-ghost use Rattle.jobs.specs.Reasons.{AreLost, Explains, Gains, IsExplained, Says, IsMade, SaysNotes, SaysRefusal, lines_of, untold_line};
+ghost use Rattle.jobs.specs.Reasons.{AreLost, Explains, Gains, IsExplained, IsMade, KeepsOthers, Says, SaysNotes, SaysRefusal, lines_of, untold_line};
 ghost use Rattle.poke_batch.specs.TypeRuns.{run_type};
 
 use crate::ending::Ending;
@@ -135,7 +135,8 @@ pub fn explain_ending(
     pickle: &NamedPickle,
     name: &[u8],
 )
-    ensures { Explains (λ source. source ≡ pickle.now) asked reasons.new ended }
+    ensures says { Explains (λ source. source ≡ pickle.now) asked reasons.new ended }
+    ensures otherwise { KeepsOthers ended reasons.old reasons.new }
 {
     if !asked {
         return;
@@ -255,6 +256,7 @@ pub fn reasons_of<S: Space>(
 ) -> Result<Explained, AllocError>
     ensures why { let ended = run_of (S.view space.old) (S.view space.new) run.now.ask.now run.now.terms.now outcome in
         IfOk result (λ reasons. TellsWhy ended (run_type run.now) reasons.text.items) }
+    ensures met { run.now.terms.now.look ≡ None → IfOk result (λ reasons. reasons.met.items ≡ []) }
     ensures keeps { Keeps (S.view space.old) (S.view space.new) }
 {
     let source = Pickle {

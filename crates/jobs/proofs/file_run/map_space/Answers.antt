@@ -92,16 +92,17 @@ returns-in_err-tell_reasons-in-Line-clause-told g c =
     (ExplainsFrom (mapped_of c.args.typed) c.args.task.explains c.args.start (g.S.Space.view c.args.space.now)) _ _
     c.tell_reasons.result
     (rw c.lines.ensures (mapped_explains (mapped_of c.args.typed) c.args.task.explains
-    (is_mapped (outcome_status c.outcome.result)) c.args.start (g.S.Space.view c.args.space.now) c.outcome.result
+    (is_mapped (outcome_status c.outcome.result)) c.args.start (g.S.Space.view c.args.space.now)
+    (g.S.Space.view c.reason_lines-lines.new.space) c.outcome.result
     c.reason_lines-lines.result c.reason_lines-lines.ensures.quiet c.reason_lines-lines.ensures.unmapped
     (λ why is. record {
       ask = c.ask_at.result;
       type = type_named c.args.typed.table.now c.args.typed.id;
       read = g.S.Space.view c.run_file.new.space;
-      after = g.S.Space.view c.reason_lines-lines.new.space;
       at = asked_over _ _ _ _ _ c.len.ensures c.ask_at.ensures;
       asked = rw c.ask_at.ensures.name c.requires.typed.asked;
       keeps = c.run_file.ensures.keeps;
+      found = c.reason_lines-lines.ensures.keeps;
       says = c.reason_lines-lines.ensures.says why is;
     })))
     c.tell_reasons.ensures.told
@@ -112,16 +113,17 @@ returns-in_ok-tell_reasons-in-Line-clause-told g c =
     (ExplainsFrom (mapped_of c.args.typed) c.args.task.explains c.args.start (g.S.Space.view c.args.space.now)) _ _
     c.tell_reasons.result
     (rw c.lines.ensures (mapped_explains (mapped_of c.args.typed) c.args.task.explains
-    (is_mapped (outcome_status c.outcome.result)) c.args.start (g.S.Space.view c.args.space.now) c.outcome.result
+    (is_mapped (outcome_status c.outcome.result)) c.args.start (g.S.Space.view c.args.space.now)
+    (g.S.Space.view c.reason_lines-lines.new.space) c.outcome.result
     c.reason_lines-lines.result c.reason_lines-lines.ensures.quiet c.reason_lines-lines.ensures.unmapped
     (λ why is. record {
       ask = c.ask_at.result;
       type = type_named c.args.typed.table.now c.args.typed.id;
       read = g.S.Space.view c.run_file.new.space;
-      after = g.S.Space.view c.reason_lines-lines.new.space;
       at = asked_over _ _ _ _ _ c.len.ensures c.ask_at.ensures;
       asked = rw c.ask_at.ensures.name c.requires.typed.asked;
       keeps = c.run_file.ensures.keeps;
+      found = c.reason_lines-lines.ensures.keeps;
       says = c.reason_lines-lines.ensures.says why is;
     })))
     c.tell_reasons.ensures.told
@@ -137,10 +139,10 @@ returns-in_ok-tell_reasons-in-Line-clause-outcome g c why =
         ask = c.ask_at.result;
         type = type_named c.args.typed.table.now c.args.typed.id;
         read = g.S.Space.view c.run_file.new.space;
-        after = g.S.Space.view c.reason_lines-lines.new.space;
         at = asked_over _ _ _ _ _ c.len.ensures c.ask_at.ensures;
         asked = rw c.ask_at.ensures.name c.requires.typed.asked;
         keeps = c.run_file.ensures.keeps;
+        found = c.reason_lines-lines.ensures.keeps;
         says = c.reason_lines-lines.ensures.says why is;
       };
       tells = rw (c.in-Line.is, c.lines.ensures) at c.in_ok-tell_reasons-in-Line.ensures.told;

@@ -4,11 +4,12 @@ use Rattle.jobs.specs.Tasks.{IsOverFiles}
 use Rattle.jobs.specs.Aims.{of_mapping}
 use Rattle.jobs.proofs.FilesTold.{none_over}
 use Rattle.jobs.proofs.Holding.{holds_more}
+use Rattle.jobs.proofs.FileReasons.{file_over, files_over, task_over}
 use Rattle.jobs.proofs.run.map_files.Goals as goal
 
 pub returns-in-Map-clause-holds : goal.returns-in-Map-clause-holds
 returns-in-Map-clause-holds g c =
-    holds_more _ _ _ _ _ (λ lines end due. file_due c.in-Map.ensures due) c.map_file.ensures
+    holds_more _ _ _ _ _ (λ lines end due. file_due c.in-Map.ensures due) c.map_file.ensures.holds
 
 pub returns-in-MapEach-clause-holds : goal.returns-in-MapEach-clause-holds
 returns-in-MapEach-clause-holds g c =
@@ -32,3 +33,13 @@ pub returns-in-Do-clause-told : goal.returns-in-Do-clause-told
 returns-in-Do-clause-told g c =
     none_over (g.P.Opener.gives c.args.opener.now) c.args.why.now.asked (of_mapping c.args.mapping)
     c.args.pickle.now.bytes.items c.args.over.now _ _ (Keeps-refl _)
+
+pub returns-in-Map-clause-opened : goal.returns-in-Map-clause-opened
+returns-in-Map-clause-opened g c =
+    file_over _ _ _ _ c.args.over.now _ _ _ c.in-Map.ensures c.map_file.ensures.opened
+
+pub returns-in-MapEach-clause-opened : goal.returns-in-MapEach-clause-opened
+returns-in-MapEach-clause-opened g c = files_over _ _ _ _ c.args.over.now _ _ _ c.in-MapEach.ensures
+
+pub returns-in-Do-clause-opened : goal.returns-in-Do-clause-opened
+returns-in-Do-clause-opened g c = task_over _ _ _ _ c.args.over.now _ _ _ _ _ c.in-Do.ensures

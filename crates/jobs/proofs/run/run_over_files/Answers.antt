@@ -8,3 +8,6 @@ returns-in-Request-clause-says g c = rw c.in-Request.is c.run_request.ensures.sa
 
 pub returns-in-Request-clause-told : goal.returns-in-Request-clause-told
 returns-in-Request-clause-told g c = rw c.in-Request.is c.run_request.ensures.told
+
+pub returns-in-Request-clause-opened : goal.returns-in-Request-clause-opened
+returns-in-Request-clause-opened g c = rw c.in-Request.is c.run_request.ensures.opened

@@ -47,3 +47,26 @@ returns-in_default-clause-told g c =
     let is = only_formats c.args.asked.now.job c.requires.over c.in_default.not-Map c.requires.plain
     c.in_default.not-Dump c.in_default.not-Identify in
     rw is (Keeps-refl _)
+
+pub returns-in-Map-clause-opened : goal.returns-in-Map-clause-opened
+returns-in-Map-clause-opened g c =
+    rw c.in-Map.is
+    (rw (
+      c.from_bit-mapping.ensures.request,
+      c.none.ensures,
+      c.deref.ensures,
+      c.deref-in-Map.ensures,
+      c.deref-in-Map-2.ensures,
+    ) at c.map_plain.ensures.opened)
+
+pub returns-in-Dump-clause-opened : goal.returns-in-Dump-clause-opened
+returns-in-Dump-clause-opened g c = rw c.in-Dump.is tt
+
+pub returns-in-Identify-clause-opened : goal.returns-in-Identify-clause-opened
+returns-in-Identify-clause-opened g c = rw c.in-Identify.is tt
+
+pub returns-in_default-clause-opened : goal.returns-in_default-clause-opened
+returns-in_default-clause-opened g c =
+    let is = only_formats c.args.asked.now.job c.requires.over c.in_default.not-Map c.requires.plain
+    c.in_default.not-Dump c.in_default.not-Identify in
+    rw is tt

@@ -11,6 +11,8 @@ use Rattle.jobs.proofs.Holding.{holds_more, no_text}
 use Rattle.jobs.specs.Asides.{no_request}
 use Rattle.jobs.proofs.Explained.{fault_explains, usage_explains, word_explains}
 use Rattle.jobs.proofs.Requested.{request_tells}
+use Rattle.jobs.specs.FileReasons.{ExplainsIfAny, ExplainsOver, named_pickle, unread_pickle}
+use Rattle.jobs.proofs.FileReasons.{none_explained}
 use Rattle.jobs.proofs.run.run_request.Goals as goal
 
 pub returns-in_default-clause-holds : goal.returns-in_default-clause-holds
@@ -109,3 +111,40 @@ returns-in-Ok-clause-told g c =
     c.settle_terms.ensures in
     request_tells (g.P.Opener.gives c.args.opener.now) c.args.why.now.asked request bytes c.in-Some.word.now found
     c.settle_terms.new.terms _ _ some c.in_ok-pickle.ensures.ok said settled c.run_settled.ensures.told
+
+pub returns-in_default-clause-opened : goal.returns-in_default-clause-opened
+returns-in_default-clause-opened g c =
+    let none : pickle_of c.args.request.now.subject ≡ None =
+    sym c.pickle.ensures ∙ ap (option_map (λ word. word.now)) c.in_default.is in
+    rw none tt
+
+pub returns-in_err-pickle-clause-opened : goal.returns-in_err-pickle-clause-opened
+returns-in_err-pickle-clause-opened g c =
+    let some : pickle_of c.args.request.now.subject ≡ Some c.in-Some.word.now =
+    sym c.pickle.ensures ∙ ap (option_map (λ word. word.now)) c.in-Some.is in
+    let p = err_from_is_err_and c.from_residual.result c.from_residual.ensures.1 in
+    rw (p.1, p.2, some) (unread_pickle c.in_err-pickle.ensures.err)
+
+pub returns-clause-opened : goal.returns-clause-opened
+returns-clause-opened g c =
+    let some : pickle_of c.args.request.now.subject ≡ Some c.in-Some.word.now =
+    sym c.pickle.ensures ∙ ap (option_map (λ word. word.now)) c.in-Some.is in
+    let request = c.args.request.now in
+    let unsaid : chosen request.subject c.in_ok-pickle.pickle.bytes.items ≡ None =
+    rw (sym c.deref.ensures.value) c.in-Err.ensures.err in
+    rw some (named_pickle c.in_ok-pickle.ensures.ok (none_explained _ _ (ap (option_map (of_chosen request)) unsaid)))
+
+pub returns-in-Ok-clause-opened : goal.returns-in-Ok-clause-opened
+returns-in-Ok-clause-opened g c =
+    let some : pickle_of c.args.request.now.subject ≡ Some c.in-Some.word.now =
+    sym c.pickle.ensures ∙ ap (option_map (λ word. word.now)) c.in-Some.is in
+    let request = c.args.request.now in
+    let bytes = c.in_ok-pickle.pickle.bytes.items in
+    let found = chosen_type c.in-Ok.field-0 in
+    let said : chosen request.subject bytes ≡ Some found = rw (sym c.deref.ensures.value) c.in-Ok.ensures.ok in
+    let settled : c.settle_terms.new.terms ≡ settled_terms request.form found.whole request.terms =
+    c.settle_terms.ensures in
+    rw some (named_pickle c.in_ok-pickle.ensures.ok
+    (subst (ExplainsIfAny (λ requested. ExplainsOver (g.P.Opener.gives c.args.opener.now) requested request.over bytes
+    c.args.why.now.asked c.run_settled.result _))
+    (settled_request request bytes found c.settle_terms.new.terms said settled) c.run_settled.ensures.opened))
