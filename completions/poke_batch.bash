@@ -29,7 +29,8 @@ _poke_batch_takes_value_of() {
 _poke_batch_words_of() {
     case $1/$2 in
         map/--endian | show/--endian | each/--endian | records/--endian | find/--endian) echo 'big little' ;;
-        map/--absent | show/--absent | each/--absent | records/--absent | find/--absent) echo 'fault empty' ;;
+        map/--absent) echo 'fault empty skip' ;;
+        show/--absent | each/--absent | records/--absent | find/--absent) echo 'fault empty' ;;
         map/--mode) echo 'flat tree json lines raw' ;;
         records/--mode | bound/--mode) echo 'flat tree json lines' ;;
         find/--mode | each/--mode) echo 'flat json' ;;

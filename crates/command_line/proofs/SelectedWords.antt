@@ -1,6 +1,6 @@
 -- Laws of the patterns and columns that arguments are.
-use Rattle.std.proofs.Common.{◌≡◌, ◌∙◌, ℕ, ◌+◌, ◌<◌, true, List, [], ◌∷◌, ◌++◌, Option, Some, None, inl, inr, length, map, take, get_or, codes, sym, ap, subst}
-use Rattle.std.specs.Prelude.{slice_get, option_map, option_and_then}
+use Rattle.std.proofs.Common.{◌≡◌, ◌∙◌, ℕ, ◌+◌, ◌<◌, true, List, [], ◌∷◌, ◌++◌, Option, Result, Some, None, IfErr, inl, inr, length, map, take, get_or, codes, sym, ap, subst}
+use Rattle.std.specs.Prelude.{slice_get, option_map, option_and_then, unwrap_or}
 use Rattle.std.specs.Option.{option_map_or}
 use Rattle.std.specs.Borrow.{Bor}
 use Rattle.std.proofs.lemmas.List.{take_more, map-append}
@@ -14,11 +14,13 @@ use Rattle.command_line.specs.declared.selection.Choice.{Choice}
 use Rattle.command_line.specs.declared.selection.Choice.TheVariants as choice
 use Rattle.command_line.specs.declared.selection.Column.{Column}
 use Rattle.command_line.specs.declared.selection.Selection.{Selection}
-use Rattle.command_line.specs.Misread.{AnyWord, MisreadRequest}
+use Rattle.command_line.specs.Misread.{AnyWord, FailsFor, MisreadColumns, MisreadRequest, MisreadTable}
 use Rattle.command_line.specs.Misread.MisreadColumns.{path_wrong}
 use Rattle.command_line.specs.Misread.MisreadRequest.{selection_wrong}
 use Rattle.command_line.specs.Patterns.{parts_of, IsPattern}
-use Rattle.command_line.specs.Selects.{IsNoPath, IsNoPathIfAny, ArePatterns, IsColumn, AreColumns, ArePaths, IsOneAtMost, SelectsAny, Selects, is_one_path, words_in}
+use Rattle.command_line.specs.Selects.{IsNoPath, IsNoPathIfAny, NamesAbsent, ArePatterns, IsColumn, AreColumns, ArePaths, IsOneAtMost, SelectsAny, Selects, is_one_path, words_in}
+use Rattle.command_line.specs.declared.words.WordFault.{WordFault}
+use Rattle.command_line.proofs.Misreads.{fails_more}
 use Rattle.command_line.proofs.PatternTexts.{path_of_exact}
 
 -- one more pattern
@@ -108,4 +110,24 @@ beside_wrong found choice.Parts selection selects wrong =
     absurd (parts_wrong found (first_value found (codes "rows")) selects.absent
     (subst Any wrong.0 selects.selected) (given_wrong (matched_of found (codes "get")) wrong.1))
 beside_wrong found choice.Columns selection selects wrong =
-    selection_wrong (path_wrong (given_wrong (matched_of found (codes "get")) wrong.1))
+    selection_wrong (record {
+      absent = selects.absent;
+      named = selects.absent_named;
+      misread = path_wrong (given_wrong (matched_of found (codes "get")) wrong.1);
+    })
+
+-- the columns are wrong that arguments request
+pub table_wrong : {T : Type 0} (result : Result T WordFault) (found : Found) (given : Absent) (word mode : List ℕ)
+    (words : List (List ℕ)) → NamesAbsent word given → word ≡ unwrap_or (first_value found (codes "absent")) []
+    → mode ≡ unwrap_or (first_value found (codes "mode")) [] → words ≡ words_in found (codes "get")
+    → IfErr result (FailsFor (MisreadColumns mode given words) ⊥) → IfErr result (FailsFor (MisreadTable found) ⊥)
+table_wrong result found given word mode words named is_word is_mode all wrong =
+    fails_more result (MisreadColumns mode given words) (MisreadTable found) ⊥ ⊥
+    (λ wrong. record {
+      absent = given;
+      named = subst (λ (text : List ℕ). NamesAbsent text given) is_word named;
+      misread =
+          subst (λ (text : List ℕ). MisreadColumns text given (words_in found (codes "get"))) is_mode
+          (subst (λ (texts : List (List ℕ)). MisreadColumns mode given texts) all wrong);
+    })
+    (λ never. never) wrong

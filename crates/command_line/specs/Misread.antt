@@ -10,7 +10,9 @@ use Rattle.command_line.specs.declared.words.WordFault.TheVariants.{Usage, Help,
 use Rattle.command_line.specs.Flags.{FlagIn}
 use Rattle.command_line.specs.Found.{is_raw, IsNoBound, IsNoByteExtent, IsNoExtent, IsNoLimitIfAny, IsNoList, IsNoListExtent, IsNoNumberIfAny, IsNoRange, IsNoSearch, IsNoStep, SeeksParts}
 use Rattle.command_line.specs.Patterns.{PatternPart, IsPattern}
-use Rattle.command_line.specs.Selects.{ArePatterns, HasKeys, HasRows, IsNoPath, Selects, column_path, is_one_path, words_in}
+use Rattle.command_line.specs.Selects.{ArePatterns, HasKeys, HasRows, IsNoPath, NamesAbsent, Selects, column_path, is_one_path, words_in}
+use Rattle.command_line.specs.declared.selection.Absent.{Absent}
+use Rattle.command_line.specs.declared.selection.Absent.TheVariants as absent
 use Rattle.command_line.specs.declared.selection.Selection.{Selection}
 use Rattle.command_line.specs.Styles.{IsNoElementsIfAny}
 
@@ -47,22 +49,33 @@ pub data MisreadRows (found : Found) (pattern : List ℕ) (words : List (List �
       → ¬ (HasRows (unwrap_or (first_value found (codes "mode")) []) header) → MisreadRows found pattern words
   keys_wrong : ¬ (HasKeys (unwrap_or (first_value found (codes "mode")) []) words) → MisreadRows found pattern words
 
+-- rows are to be left out
+abbrev pub Skips : Found → Type 0
+Skips found = NamesAbsent (unwrap_or (first_value found (codes "absent")) []) absent.Skip
+
 abbrev pub MisreadParts : Found → (rows : Option (List ℕ)) → (words : List (List ℕ)) → Type 0
-MisreadParts found None words = AnyWord IsNoPattern words
+MisreadParts found None words = Skips found ⊎ AnyWord IsNoPattern words
 MisreadParts found (Some pattern) words = MisreadRows found pattern words
 
-pub data MisreadColumns (mode : List ℕ) (words : List (List ℕ)) : Type 0 where
-  path_wrong : AnyWord IsNoPath words → MisreadColumns mode words
-  column_wrong : AnyWord IsNoColumn words → MisreadColumns mode words
-  lone_wrong : AnyWord IsNoOnePath words → MisreadColumns mode words
-  keys_wrong : ¬ (HasKeys mode words) → MisreadColumns mode words
+pub data MisreadColumns (mode : List ℕ) (given : Absent) (words : List (List ℕ)) : Type 0 where
+  path_wrong : AnyWord IsNoPath words → MisreadColumns mode given words
+  column_wrong : AnyWord IsNoColumn words → MisreadColumns mode given words
+  lone_wrong : AnyWord IsNoOnePath words → MisreadColumns mode given words
+  keys_wrong : ¬ (HasKeys mode words) → MisreadColumns mode given words
+  rows_wrong : given ≡ absent.Skip → words ≡ [] → MisreadColumns mode given words
+
+-- the same where an argument names what an absent part is
+pub record MisreadTable (found : Found) : Type 0 where
+  pub absent : Absent
+  pub named : NamesAbsent (unwrap_or (first_value found (codes "absent")) []) absent
+  pub misread :
+      MisreadColumns (unwrap_or (first_value found (codes "mode")) []) absent (words_in found (codes "get"))
 
 -- the parts that are requested are none, by what a command offers
 abbrev pub MisreadSelection : Found → Choice → Type 0
 MisreadSelection found choice.Parts =
     MisreadParts found (first_value found (codes "rows")) (words_in found (codes "get"))
-MisreadSelection found choice.Columns =
-    MisreadColumns (unwrap_or (first_value found (codes "mode")) []) (words_in found (codes "get"))
+MisreadSelection found choice.Columns = MisreadTable found
 
 -- an option of a mapping is wrong
 pub data MisreadRequest (found : Found) (offered : Choice) : Type 0 where

@@ -25,10 +25,11 @@ use Rattle.command_line.specs.declared.selection.Choice.TheVariants as choice
 abbrev pub words_in : Found → List ℕ → List (List ℕ)
 words_in found name = option_map_or raw_values (matched_of found name) []
 
--- `empty` is an empty column or line, any other text a fault
+-- `empty` is an empty column or line, and `skip` none; any other text is a fault
 abbrev pub NamesAbsent : List ℕ → Absent → Type 0
-NamesAbsent word absent.Fault = word ≢ codes "empty"
+NamesAbsent word absent.Fault = (word ≢ codes "empty") × (word ≢ codes "skip")
 NamesAbsent word absent.Empty = word ≡ codes "empty"
+NamesAbsent word absent.Skip = word ≡ codes "skip"
 
 -- each text is a pattern
 abbrev pub ArePatterns : List (List ℕ) → List Pattern → Type 0
@@ -109,9 +110,9 @@ abbrev pub ArePaths : List (List ℕ) → Type 0
 ArePaths [] = Unit {0}
 ArePaths (word ∷ words) = ((steps : List PathStep) × IsPath word steps) × ArePaths words
 
--- no part or one is requested, whose absence is a fault
+-- no part or one is requested, whose absence is a fault; where there is none, there are no rows to leave out
 abbrev pub IsOneAtMost : List (List ℕ) → Absent → Type 0
-IsOneAtMost [] given = Unit {0}
+IsOneAtMost [] given = given ≢ absent.Skip
 IsOneAtMost (word ∷ []) given = given ≡ absent.Fault
 IsOneAtMost (word ∷ more ∷ words) given = ⊥
 
@@ -119,12 +120,14 @@ IsOneAtMost (word ∷ more ∷ words) given = ⊥
 abbrev pub is_plain : Absent → List Pattern → Bool
 is_plain absent.Fault patterns = is_one_path patterns
 is_plain absent.Empty patterns = false
+is_plain absent.Skip patterns = false
 
--- what `map` prints without rows: the parts to which the patterns lead that the texts are, but for a plain path
+-- what `map` prints without rows: the parts to which the patterns lead that the texts are, but for a plain path. None
+-- is left out
 abbrev pub IsShapeOfParts : List (List ℕ) → Absent → Shape → Type 0
-IsShapeOfParts words absent (shape.Parts patterns) =
-    ArePatterns words patterns.items × (is_plain absent patterns.items ≡ false)
-IsShapeOfParts words absent (shape.Rows rows) = ⊥
+IsShapeOfParts words given (shape.Parts patterns) =
+    ArePatterns words patterns.items × (is_plain given patterns.items ≡ false) × (given ≢ absent.Skip)
+IsShapeOfParts words given (shape.Rows rows) = ⊥
 
 abbrev pub SelectsParts : List (List ℕ) → Absent → Option Selection → Type 0
 SelectsParts words absent None = IsOneAtMost words absent × ArePaths words
@@ -133,7 +136,7 @@ SelectsParts words absent (Some selection) = (selection.absent ≡ absent) × Is
 -- what `each` prints: the columns of the value, or one part whose absence is no fault
 abbrev pub IsLonePath : List (List ℕ) → Absent → List Pattern → Type 0
 IsLonePath [] given patterns = ⊥
-IsLonePath (word ∷ []) given patterns = IsOnePath word patterns × (given ≡ absent.Empty)
+IsLonePath (word ∷ []) given patterns = IsOnePath word patterns × (given ≢ absent.Fault)
 IsLonePath (word ∷ more ∷ words) given patterns = ⊥
 
 -- a row is printed, in place of one part: of many columns, or of one that has a name or is below a header

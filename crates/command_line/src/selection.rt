@@ -48,6 +48,8 @@ pub enum Absent {
     Fault,
     /// An empty column or line, or `null` in JSON.
     Empty,
+    /// Nothing: a row that lacks a part of one of its columns has no line, and neither has a part that isn't there.
+    Skip,
 }
 
 /// Which selections a command offers.

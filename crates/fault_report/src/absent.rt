@@ -62,8 +62,8 @@ fn say_absent(
         left = rest;
     }
     match line {
-        Line::Part => Ok(Text::new(alloc)),
-        Line::Row(columns) => say_columns(alloc, there, part, columns),
+        Line::Part | Line::PartIfThere => Ok(Text::new(alloc)),
+        Line::Row(columns) | Line::WholeRow(columns) => say_columns(alloc, there, part, columns),
     }
 }
 

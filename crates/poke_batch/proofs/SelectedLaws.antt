@@ -1,5 +1,5 @@
 -- Laws of the parts that selections lead to.
-use Rattle.std.proofs.Common.{◌≡◌, ◌∙◌, ◌⊎◌, inl, inr, ℕ, List, [], ◌∷◌, ◌++◌, map, Option, Some, None, codes, refl, sym, ap, subst}
+use Rattle.std.proofs.Common.{◌≡◌, ◌∙◌, ◌⊎◌, inl, inr, ℕ, Bool, true, false, if◌then◌else◌, List, [], ◌∷◌, ◌++◌, map, Option, Some, None, codes, refl, sym, ap, subst}
 use Rattle.std.specs.Prelude.{option_map}
 use Rattle.pickle_types.specs.declared.node.Node.{Node}
 use Rattle.pickle_types.specs.NodeParts.{char_node_of}
@@ -8,12 +8,14 @@ use Rattle.pickle_meaning.specs.Values.{Value}
 use Rattle.text_output.specs.declared.mode.Mode.{Mode}
 use Rattle.text_output.specs.declared.mode.Mode.TheVariants.{Flat, Json}
 use Rattle.text_output.specs.declared.style.Style.{Style}
+use Rattle.value_text.specs.ShowParts.{SightOf}
 use Rattle.command_line.specs.declared.path.Step.{Step}
+use Rattle.command_line.specs.declared.selection.Column.{Column}
 use Rattle.command_line.specs.declared.pattern.PatternStep.TheVariants.{Exact}
 use Rattle.poke_batch.specs.PathParts.{step_to, part_from, place_of, node_there, node_from, node_at}
 use Rattle.poke_batch.proofs.PartsFound.{nowhere}
-use Rattle.poke_batch.specs.RunLaws.{PathsLeadToOnePart, CellsAreParts}
-use Rattle.poke_batch.specs.Selected.{Part, from_step, parts_through, cell_of, text_in}
+use Rattle.poke_batch.specs.RunLaws.{PathsLeadToOnePart, CellsAreParts, PrintedRowsAreWhole}
+use Rattle.poke_batch.specs.Selected.{OfRow, OfWholeRow, Part, cell_of, each_text, from_step, has_columns, is_there, lines_of, parts_through, text_in, there_lines, those}
 use Rattle.poke_batch.proofs.PartTexts.{styled_part}
 
 module _ (nodes : List Node) where
@@ -71,3 +73,31 @@ cells table id ask terms path mapped part mode look all given found =
     ∙ sym (styled_part table id ask terms mapped part look all
     ∙ ap (λ p. text_in None terms.style ask.mode (nodes_of table) (char_node_of table)
     (node_at (nodes_of table) p (Some id.node) mapped) part) given)
+
+-- the rows that lack a part have no lines
+module _ (nodes : List Node) (chars : Option ℕ) (sight : Option SightOf) (style : Style) (mode : Mode)
+    (columns : List Column) where
+  whole_lines : (parts : List (Option Part))
+      → each_text (lines_of nodes chars sight style mode (OfWholeRow columns)) parts
+      ≡ each_text (lines_of nodes chars sight style mode (OfRow columns))
+      (those (is_there nodes (OfRow columns)) parts)
+  whole_lines [] = refl
+  whole_lines (None ∷ parts) = whole_lines parts
+  whole_lines (Some part ∷ parts) = by_test (whole_lines parts) (has_columns nodes columns part)
+    where
+      by_test : each_text (lines_of nodes chars sight style mode (OfWholeRow columns)) parts
+          ≡ each_text (lines_of nodes chars sight style mode (OfRow columns))
+          (those (is_there nodes (OfRow columns)) parts)
+          → (whole : Bool)
+          → (if whole then there_lines nodes chars sight style mode (OfRow columns) part else [])
+          ++ each_text (lines_of nodes chars sight style mode (OfWholeRow columns)) parts
+          ≡ each_text (lines_of nodes chars sight style mode (OfRow columns))
+          (if whole then Some part ∷ those (is_there nodes (OfRow columns)) parts
+          else those (is_there nodes (OfRow columns)) parts)
+      by_test rest true =
+          ap (λ lines. there_lines nodes chars sight style mode (OfRow columns) part ++ lines) rest
+      by_test rest false = rest
+
+pub rows_whole : PrintedRowsAreWhole
+rows_whole nodes chars sight style mode columns part steps =
+    whole_lines nodes chars sight style mode columns (parts_through nodes steps part)

@@ -1,6 +1,6 @@
 -- Laws of the parts that selections lead to, one after the other.
 use Rattle.std.proofs.Common.{◌≡◌, ◌∙◌, ℕ, suc, ◌+◌, ◌-◌, ◌<◌, ◌≤◌, Bool, true, false, List, [], ◌∷◌, ◌++◌, Option, Some, None, refl, sym, ap, arith, append_assoc}
-use Rattle.std.specs.Prelude.{◌&&◌}
+use Rattle.std.specs.Prelude.{◌&&◌, if◌then◌else◌}
 use Rattle.pickle_types.specs.declared.node.Node.{Node}
 use Rattle.pickle_meaning.specs.Values.{members_of, member_at}
 use Rattle.text_output.specs.declared.mode.Mode.{Mode}
@@ -10,8 +10,8 @@ use Rattle.command_line.specs.declared.pattern.PatternStep.{PatternStep}
 use Rattle.command_line.specs.declared.selection.Column.{Column}
 use Rattle.value_text.specs.declared.typed.Typed.{Typed}
 use Rattle.value_text.specs.TypedValue.{nodes_in, char_node_in, types_in, node_in, mapped_in, part_node_in}
-use Rattle.poke_batch.specs.Selected.{Part, LineOf, OfRow, part_in, at_member, at_places, parts_through, each_text, lines_of, pattern_lines, row_text, all_of, is_there, has_pattern}
-use Rattle.poke_batch.specs.TypedLines.{typed_row_cell, typed_lines, typed_pattern, typed_members, has_typed, has_typed_members}
+use Rattle.poke_batch.specs.Selected.{Part, LineOf, OfRow, OfWholeRow, part_in, at_member, at_places, parts_through, each_text, lines_of, pattern_lines, row_text, all_of, is_there, has_pattern}
+use Rattle.poke_batch.specs.TypedLines.{is_whole_row, typed_row_cell, typed_lines, typed_pattern, typed_members, has_typed, has_typed_members}
 
 pub each_append : {A : Type 0} (text : A → List ℕ) (a b : List A) →
     each_text text (a ++ b) ≡ each_text text a ++ each_text text b
@@ -95,6 +95,14 @@ pub row_lines : (sight : Option SightOf) (style : Style) (mode : Mode) (columns 
     row_text mode (typed_row_cell style mode row) columns ≡ typed_lines sight style mode (OfRow columns) row
 row_lines sight style mode columns None = refl
 row_lines sight style mode columns (Some row) = refl
+
+-- and those of a row that has them all
+pub whole_row_lines : (sight : Option SightOf) (style : Style) (mode : Mode) (columns : List Column)
+    (row : Option Typed)
+    → (if is_whole_row row columns then row_text mode (typed_row_cell style mode row) columns else [])
+    ≡ typed_lines sight style mode (OfWholeRow columns) row
+whole_row_lines sight style mode columns None = refl
+whole_row_lines sight style mode columns (Some row) = refl
 
 -- ---- presence
 

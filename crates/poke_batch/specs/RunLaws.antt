@@ -11,10 +11,15 @@ use Rattle.pickle_types.specs.Types.{PokeType}
 use Rattle.pickle_meaning.specs.Fits.{Fits}
 use Rattle.pickle_meaning.specs.Values.{Value, Levels, no_values}
 use Rattle.command_line.specs.declared.ask.Ask.{Ask}
+use Rattle.text_output.specs.declared.mode.Mode.{Mode}
 use Rattle.text_output.specs.declared.mode.Mode.TheVariants as mode
+use Rattle.text_output.specs.declared.style.Style.{Style}
 use Rattle.text_output.specs.Styles.{plain}
 use Rattle.command_line.specs.declared.path.Path.{Path}
+use Rattle.command_line.specs.declared.pattern.PatternStep.{PatternStep}
 use Rattle.command_line.specs.declared.pattern.PatternStep.TheVariants.{Exact}
+use Rattle.command_line.specs.declared.selection.Absent.TheVariants as absent
+use Rattle.command_line.specs.declared.selection.Column.{Column}
 use Rattle.run_parts.specs.declared.status.Status.{Status}
 use Rattle.run_parts.specs.declared.status.Status.TheVariants.{Done}
 use Rattle.command_line.specs.declared.terms.Terms.{Terms}
@@ -25,7 +30,8 @@ use Rattle.value_text.specs.StyledJsonValue.{styled_json_of, json_of}
 use Rattle.poke_batch.specs.PathParts.{part_at, node_at}
 use Rattle.poke_batch.specs.Runs.{IsAsked, HasAnswer, MapsAs}
 use Rattle.poke_batch.specs.RunsUnder.{MapsRequested, part_text}
-use Rattle.poke_batch.specs.Selected.{Part, path_part, parts_through, cell_of}
+use Rattle.poke_batch.specs.Selected.{Part, cell_of, each_text, is_there, lines_of, parts_through, path_part, pattern_lines, row_line, those}
+use Rattle.value_text.specs.ShowParts.{SightOf}
 use Rattle.value_text.specs.SmallParts.{HasSmallParts}
 use Rattle.run_parts.specs.Told.{Says}
 
@@ -112,3 +118,12 @@ CellsAreParts = (table : Table) (id : TypeId) (ask : Ask) (terms : Terms) (path 
     → cell_of (nodes_of table) (char_node_of table) terms.style ask.mode
     (path_part (nodes_of table) path (record { node = Some id.node; value = mapped })) ++ codes "\n"
     ≡ part_text table id ask terms mapped part
+
+-- where rows that lack a part are left out, the lines are those of the rows that have the parts of all columns, in
+-- their order
+abbrev pub PrintedRowsAreWhole : Type 0
+PrintedRowsAreWhole = (nodes : List Node) (chars : Option ℕ) (sight : Option SightOf) (style : Style) (mode : Mode)
+    (columns : List Column) (part : Part) (steps : List PatternStep)
+    → pattern_lines nodes chars sight style mode (row_line absent.Skip columns) part steps
+    ≡ each_text (lines_of nodes chars sight style mode (row_line absent.Fault columns))
+    (those (is_there nodes (row_line absent.Fault columns)) (parts_through nodes steps part))

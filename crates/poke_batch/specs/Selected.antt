@@ -1,5 +1,5 @@
 -- What is printed of the parts of a value that a selection leads to.
-use Rattle.std.specs.Prelude.{ℕ, zero, suc, ◌+◌, ◌-◌, Bool, true, false, ◌&&◌, List, [], ◌∷◌, ◌++◌, Option, Some, None, min, unwrap_or, option_map, is_some, codes, string_bytes}
+use Rattle.std.specs.Prelude.{ℕ, zero, suc, ◌+◌, ◌-◌, Bool, true, false, ◌&&◌, if◌then◌else◌, List, [], ◌∷◌, ◌++◌, Option, Some, None, min, unwrap_or, option_map, is_some, codes, string_bytes}
 use Rattle.pickle_types.specs.declared.node.Node.{Node}
 use Rattle.pickle_meaning.specs.Values.{Label, IntegerLabel, OffsetLabel, TextLabel, ArrayLabel, StructLabel, UnionLabel, Value, label_of, members_of, member_at, member_count}
 use Rattle.text_output.specs.declared.mode.Mode.{Mode}
@@ -34,6 +34,11 @@ use Rattle.poke_batch.specs.PathParts.{is_array, place_of, step_to, part_of, nod
 abbrev pub all_of : {A : Type 0} → (test : A → Bool) → List A → Bool
 all_of test [] = true
 all_of test (one ∷ more) = test one && all_of test more
+
+-- those of a list that meet a test, in their order
+abbrev pub those : {A : Type 0} → (test : A → Bool) → List A → List A
+those test [] = []
+those test (one ∷ more) = if test one then one ∷ those test more else those test more
 
 -- a part of a value, beside the node of its type
 pub record Part : Type 0 where
@@ -122,14 +127,30 @@ module _ (nodes : List Node) where
 
 -- ---- texts
 
--- what is printed of a part: the part itself, or the columns of a row
+-- what is printed of a part: the part itself, or the columns of a row; or nothing of a part that isn't there, or of a
+-- row that lacks a part of a column
 pub data LineOf : Type 0 where
   OfPart : LineOf
+  OfPartIfThere : LineOf
   OfRow : (columns : List Column) → LineOf
+  OfWholeRow : (columns : List Column) → LineOf
 
 abbrev pub line_of : Line → LineOf
 line_of line.Part = OfPart
+line_of line.PartIfThere = OfPartIfThere
 line_of (line.Row columns) = OfRow columns.now
+line_of (line.WholeRow columns) = OfWholeRow columns.now
+
+-- the same by what an absent part is
+abbrev pub part_line : Absent → LineOf
+part_line absent.Fault = OfPart
+part_line absent.Empty = OfPart
+part_line absent.Skip = OfPartIfThere
+
+abbrev pub row_line : Absent → List Column → LineOf
+row_line absent.Fault columns = OfRow columns
+row_line absent.Empty columns = OfRow columns
+row_line absent.Skip columns = OfWholeRow columns
 
 -- the texts of many, one after the other
 abbrev pub each_text : {A : Type 0} → (text : A → List ℕ) → List A → List ℕ
@@ -195,7 +216,13 @@ header_text false columns = []
 -- the lines of a part that isn't there
 abbrev pub absent_lines : Mode → LineOf → List ℕ
 absent_lines mode OfPart = no_cell mode ++ codes "\n"
+absent_lines mode OfPartIfThere = []
 absent_lines mode (OfRow columns) = row_text mode (λ column. no_cell mode) columns
+absent_lines mode (OfWholeRow columns) = []
+
+-- whether a row has the parts of all its columns
+abbrev pub has_columns : List Node → List Column → Part → Bool
+has_columns nodes columns row = all_of (λ column. is_some (path_part nodes column.path row)) columns
 
 -- the cell of a part, if it is there
 abbrev pub cell_of : List Node → (chars : Option ℕ) → Style → Mode → Option Part → List ℕ
@@ -206,8 +233,13 @@ module _ (nodes : List Node) (chars : Option ℕ) (sight : Option SightOf) (styl
   -- the lines of a part that is there: as it is printed alone, or the cells of a row
   abbrev pub there_lines : LineOf → Part → List ℕ
   there_lines OfPart part = text_in sight style mode nodes chars part.node part.value
+  there_lines OfPartIfThere part = text_in sight style mode nodes chars part.node part.value
   there_lines (OfRow columns) part =
       row_text mode (λ column. cell_of nodes chars style mode (path_part nodes column.path part)) columns
+  there_lines (OfWholeRow columns) part =
+      if has_columns nodes columns part
+      then row_text mode (λ column. cell_of nodes chars style mode (path_part nodes column.path part)) columns
+      else []
 
   abbrev pub lines_of : LineOf → Option Part → List ℕ
   lines_of line None = absent_lines mode line
@@ -217,16 +249,16 @@ module _ (nodes : List Node) (chars : Option ℕ) (sight : Option SightOf) (styl
   abbrev pub pattern_lines : LineOf → Part → List PatternStep → List ℕ
   pattern_lines line part steps = each_text (lines_of line) (parts_through nodes steps part)
 
-  -- what is printed of the parts of a part
-  abbrev pub shape_text : Shape → Part → List ℕ
-  shape_text (shape.Parts patterns) part =
-      each_text (λ pattern. pattern_lines OfPart part pattern.steps.items) patterns.items
-  shape_text (shape.Rows rows) part = header_text rows.header rows.columns.items
-      ++ pattern_lines (OfRow rows.columns.items) part rows.pattern.steps.items
+  -- what is printed of the parts of a part, by what an absent one is
+  abbrev pub shape_text : Absent → Shape → Part → List ℕ
+  shape_text given (shape.Parts patterns) part =
+      each_text (λ pattern. pattern_lines (part_line given) part pattern.steps.items) patterns.items
+  shape_text given (shape.Rows rows) part = header_text rows.header rows.columns.items
+      ++ pattern_lines (row_line given rows.columns.items) part rows.pattern.steps.items
 
   abbrev pub selected_text : Option Selection → Part → List ℕ
   selected_text None part = text_in sight style mode nodes chars part.node part.value
-  selected_text (Some selection) part = shape_text selection.shape part
+  selected_text (Some selection) part = shape_text selection.absent selection.shape part
 
 -- what is printed of a part under terms, beside bytes of its file, if they are known
 abbrev pub text_under : List Node → (chars : Option ℕ) → Terms → Option FileBytes → Mode → Part → List ℕ
@@ -250,7 +282,9 @@ module _ (nodes : List Node) where
   abbrev pub is_there : LineOf → Option Part → Bool
   is_there line None = false
   is_there OfPart (Some part) = true
-  is_there (OfRow columns) (Some part) = all_of (λ column. is_some (path_part nodes column.path part)) columns
+  is_there OfPartIfThere (Some part) = true
+  is_there (OfRow columns) (Some part) = has_columns nodes columns part
+  is_there (OfWholeRow columns) (Some part) = has_columns nodes columns part
 
   abbrev pub has_pattern : LineOf → Part → List PatternStep → Bool
   has_pattern line part steps = all_of (is_there line) (parts_through nodes steps part)
@@ -262,6 +296,7 @@ module _ (nodes : List Node) where
   abbrev pub has_parts : Absent → Shape → Part → Bool
   has_parts absent.Fault shape part = has_shape shape part
   has_parts absent.Empty shape part = true
+  has_parts absent.Skip shape part = true
 
   -- whether a part has all parts that are selected, if the absence of one is a fault
   abbrev pub has_selected : Option Selection → Part → Bool

@@ -1,5 +1,5 @@
 -- The lines of parts beside their types.
-use Rattle.std.specs.Prelude.{ℕ, ◌-◌, ◌++◌, Bool, true, false, List, Option, Some, None, option_map}
+use Rattle.std.specs.Prelude.{ℕ, ◌-◌, ◌++◌, Bool, true, false, if◌then◌else◌, List, [], Option, Some, None, option_map}
 use Rattle.text_output.specs.declared.mode.Mode.{Mode}
 use Rattle.text_output.specs.declared.style.Style.{Style}
 use Rattle.value_text.specs.declared.typed.Typed.{Typed}
@@ -12,10 +12,11 @@ use Rattle.command_line.specs.declared.pattern.Pattern.{Pattern}
 use Rattle.command_line.specs.declared.pattern.PatternStep.{PatternStep}
 use Rattle.command_line.specs.declared.selection.Column.{Column}
 use Rattle.command_line.specs.declared.selection.Rows.{Rows}
-use Rattle.command_line.specs.declared.selection.Shape.{Shape}
+use Rattle.command_line.specs.declared.selection.Absent.{Absent}
+use Rattle.command_line.specs.declared.selection.Selection.{Selection}
 use Rattle.poke_batch.specs.declared.line.Format.{Format}
 use Rattle.poke_batch.specs.declared.places.Places.{Places}
-use Rattle.poke_batch.specs.Selected.{LineOf, OfPart, OfRow, line_of, part_in, path_part, no_cell, cell_of, absent_lines, there_lines, lines_of, pattern_lines, each_text, at_places, parts_through, shape_text, column_text, cells_text, row_text, header_text, all_of, is_there, has_pattern}
+use Rattle.poke_batch.specs.Selected.{LineOf, OfPart, OfPartIfThere, has_columns, row_line, line_of, part_in, path_part, no_cell, cell_of, absent_lines, there_lines, lines_of, pattern_lines, each_text, at_places, parts_through, shape_text, column_text, cells_text, row_text, header_text, all_of, is_there, has_pattern}
 
 -- the cell of a part, if it is there
 abbrev pub typed_cell_of : Style → Mode → Option Typed → List ℕ
@@ -31,6 +32,11 @@ typed_path_cell style mode (Some row) path =
 
 abbrev pub typed_row_cell : Style → Mode → Option Typed → Column → List ℕ
 typed_row_cell style mode row column = typed_path_cell style mode row column.path
+
+-- whether a row is there, and has the parts of all its columns
+abbrev pub is_whole_row : Option Typed → List Column → Bool
+is_whole_row None columns = false
+is_whole_row (Some row) columns = has_columns (nodes_in (types_in row)) columns (part_in row)
 
 -- the lines of a part, if it is there
 abbrev pub typed_lines : Option SightOf → Style → Mode → LineOf → Option Typed → List ℕ
@@ -63,9 +69,10 @@ module _ (sight : Option SightOf) (style : Style) (mode : Mode) where
   typed_patterns line part patterns = each_text (λ pattern. typed_pattern line part pattern.steps.items) patterns
 
   -- what is printed of the parts of a part
-  abbrev pub typed_shape : Shape → Typed → List ℕ
-  typed_shape shape part =
-      shape_text (nodes_in (types_in part)) (char_node_in (types_in part)) sight style mode shape (part_in part)
+  abbrev pub typed_selection : Selection → Typed → List ℕ
+  typed_selection selection part =
+      shape_text (nodes_in (types_in part)) (char_node_in (types_in part)) sight style mode selection.absent
+      selection.shape (part_in part)
 
 -- whether a part has all parts to which a pattern leads, from members on, and where the part, or the places, may be
 -- absent
@@ -121,12 +128,12 @@ module _ (format : Format) where
   patterns_in part patterns =
       typed_patterns (lent_sight format.sight) format.style format.mode (line_of format.line) part patterns
 
-  abbrev pub shape_in : Shape → Typed → List ℕ
-  shape_in shape part = typed_shape (lent_sight format.sight) format.style format.mode shape part
+  abbrev pub selection_in : Selection → Typed → List ℕ
+  selection_in selection part = typed_selection (lent_sight format.sight) format.style format.mode selection part
 
-  abbrev pub rows_in : Rows → Typed → List ℕ
-  rows_in rows part = header_text rows.header rows.columns.items
-      ++ typed_pattern (lent_sight format.sight) format.style format.mode (OfRow rows.columns.items) part
+  abbrev pub rows_in : Absent → Rows → Typed → List ℕ
+  rows_in absent rows part = header_text rows.header rows.columns.items
+      ++ typed_pattern (lent_sight format.sight) format.style format.mode (row_line absent rows.columns.items) part
       rows.pattern.steps.items
 
   -- the cells of a row, and its parts
@@ -135,6 +142,10 @@ module _ (format : Format) where
 
   abbrev pub row_in : Option Typed → List Column → List ℕ
   row_in row columns = row_text format.mode (row_cell_in row) columns
+
+  -- the same of a row that has all its columns, and nothing of any other
+  abbrev pub whole_row_in : Option Typed → List Column → List ℕ
+  whole_row_in row columns = if is_whole_row row columns then row_in row columns else []
 
   abbrev pub cells_in : Option Typed → List Column → List ℕ
   cells_in row columns = cells_text format.mode (row_cell_in row) true columns
@@ -148,3 +159,7 @@ module _ (format : Format) where
   -- a part as it is printed alone
   abbrev pub part_lines_in : Option Typed → List ℕ
   part_lines_in part = typed_lines (lent_sight format.sight) format.style format.mode OfPart part
+
+  -- the same, and nothing of a part that isn't there
+  abbrev pub found_lines_in : Option Typed → List ℕ
+  found_lines_in part = typed_lines (lent_sight format.sight) format.style format.mode OfPartIfThere part

@@ -7,7 +7,7 @@ ghost use Rattle.poke_batch.specs.TypedLines.{lent_sight};
 ghost use Rattle.poke_batch.specs.TypeRuns.{lent_bytes};
 ghost use Rattle.text_output.specs.Written.{AppendsPart};
 
-use crate::selected::print_shape;
+use crate::selected::print_selected;
 use command_line::terms::Terms;
 use std::alloc::Global;
 use std::io;
@@ -107,7 +107,7 @@ pub fn print_under<W: Write>(
     let sight = sighted(file, terms.look);
     match &terms.selection {
         None => print_whole(value, mode, terms.style, sight, w),
-        Some(selection) => print_shape(value, &selection.shape, mode, terms.style, sight, w),
+        Some(selection) => print_selected(value, selection, mode, terms.style, sight, w),
     }
 }
 

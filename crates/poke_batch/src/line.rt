@@ -5,9 +5,10 @@ ghost use Rattle.text_output.specs.declared.mode.Mode.{Mode};
 ghost use Rattle.text_output.specs.declared.style.Style.{Style};
 ghost use Rattle.value_text.specs.Puts.{Puts};
 ghost use Rattle.poke_batch.specs.Selected.{OfPart, between, row_start, row_end, key_of, no_cell, name_text, names_text, header_text, absent_lines};
-ghost use Rattle.poke_batch.specs.TypedLines.{typed_cell_of, typed_path_cell, lines_in, part_lines_in, row_in, cells_in, column_in, cell_in};
+ghost use Rattle.poke_batch.specs.TypedLines.{typed_cell_of, typed_path_cell, is_whole_row, lines_in, part_lines_in, found_lines_in, row_in, whole_row_in, cells_in, column_in, cell_in};
 
 use crate::part::part_of;
+use crate::presence::has_cells;
 use command_line::path::Path;
 use command_line::selection::Column;
 use std::io::Write;
@@ -22,8 +23,12 @@ use value_text::typed::Typed;
 pub enum Line<'a> {
     /// The part, as it is printed alone.
     Part,
+    /// The same, but nothing of a part that isn't there.
+    PartIfThere,
     /// The columns of the row that the part is.
     Row(&'a [Column]),
+    /// The same, but nothing of a row that isn't there or lacks a part of a column.
+    WholeRow(&'a [Column]),
 }
 
 /// How parts are printed.
@@ -46,7 +51,9 @@ pub fn put_lines<W: Write>(
 {
     match format.line {
         Line::Part => put_part(printer, format, part),
+        Line::PartIfThere => put_found(printer, format, part),
         Line::Row(columns) => put_row(printer, format, columns, part),
+        Line::WholeRow(columns) => put_whole_row(printer, format, columns, part),
     }
 }
 
@@ -57,6 +64,16 @@ fn put_part<W: Write>(printer: &mut Printer<'_, W>, format: Format<'_>, part: Op
     match part {
         Some(part) => put_there(printer, format, part),
         None => put_absent(printer, format.mode),
+    }
+}
+
+// The same, but nothing of a part that isn't there.
+#[tactic(auto, using(value_text::proofs::Puts::puts))]
+fn put_found<W: Write>(printer: &mut Printer<'_, W>, format: Format<'_>, part: Option<Typed<'_>>)
+    ensures { Puts W.contents printer.old printer.new (found_lines_in format.entry part.entry) }
+{
+    if let Some(part) = part {
+        put_there(printer, format, part);
     }
 }
 
@@ -91,6 +108,31 @@ fn put_row<W: Write>(
     printer.put(row_start(format.mode));
     put_cells(printer, format, columns, row);
     printer.put(row_end(format.mode));
+}
+
+// The same of a row that has all its columns, and nothing of any other.
+#[tactic(auto, using(value_text::proofs::Puts::puts))]
+fn put_whole_row<W: Write>(
+    printer: &mut Printer<'_, W>,
+    format: Format<'_>,
+    columns: &[Column],
+    row: Option<Typed<'_>>,
+)
+    ensures { Puts W.contents printer.old printer.new (whole_row_in format.entry row.entry columns.now) }
+{
+    if is_whole(row, columns) {
+        put_row(printer, format, columns, row);
+    }
+}
+
+// Whether a row is there, and has the parts of all its columns.
+fn is_whole(row: Option<Typed<'_>>, columns: &[Column]) -> bool
+    ensures { result ≡ is_whole_row row.entry columns.now }
+{
+    match row {
+        Some(row) => has_cells(row, columns),
+        None => false,
+    }
 }
 
 fn put_cells<W: Write>(

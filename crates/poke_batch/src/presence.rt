@@ -2,7 +2,7 @@
 
 ghost use Rattle.std.specs.Prelude.{◌≡◌, Some};
 ghost use Rattle.value_text.specs.TypedValue.{nodes_in, types_in};
-ghost use Rattle.poke_batch.specs.Selected.{OfRow, part_in, line_of, is_there, has_shape, has_selected};
+ghost use Rattle.poke_batch.specs.Selected.{part_in, line_of, has_columns, is_there, has_shape, has_selected};
 ghost use Rattle.poke_batch.specs.TypedLines.{has_typed, has_typed_patterns, has_typed_next, has_typed_between, has_typed_places};
 
 use crate::line::Line;
@@ -19,7 +19,7 @@ pub fn has_selected(value: Typed<'_>, selection: &Option<Selection>) -> bool
     match selection {
         Some(selection) => match selection.absent {
             Absent::Fault => has_shape(value, &selection.shape),
-            Absent::Empty => true,
+            Absent::Empty | Absent::Skip => true,
         },
         None => true,
     }
@@ -110,13 +110,14 @@ fn has_columns(line: Line<'_>, part: Typed<'_>) -> bool
     ensures { result ≡ is_there (nodes_in (types_in part.entry)) (line_of line.entry) (Some (part_in part.entry)) }
 {
     match line {
-        Line::Part => true,
-        Line::Row(columns) => has_cells(part, columns),
+        Line::Part | Line::PartIfThere => true,
+        Line::Row(columns) | Line::WholeRow(columns) => has_cells(part, columns),
     }
 }
 
-fn has_cells(row: Typed<'_>, columns: &[Column]) -> bool
-    ensures { result ≡ is_there (nodes_in (types_in row.entry)) (OfRow columns.now) (Some (part_in row.entry)) }
+/// Whether a row has the parts of all its columns.
+pub fn has_cells(row: Typed<'_>, columns: &[Column]) -> bool
+    ensures { result ≡ has_columns (nodes_in (types_in row.entry)) columns.now (part_in row.entry) }
 {
     for column in columns {
         if part_of(row, column.path.steps.as_slice()).is_none() {

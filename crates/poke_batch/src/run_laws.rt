@@ -1,7 +1,7 @@
 //! The laws of what runs write. These functions do nothing: the contract of each is a law.
 
 ghost use Rattle.poke_batch.specs.PathLaws.{PathsLeadToParts, MappedPathsAreClear, MappedMembersAreFew};
-ghost use Rattle.poke_batch.specs.RunLaws.{MappedPartsAreSmall, MappedJsonReadsBack, PartJsonReadsBack, StyledPartJsonReadsBack, PathsLeadToOnePart, CellsAreParts};
+ghost use Rattle.poke_batch.specs.RunLaws.{MappedPartsAreSmall, MappedJsonReadsBack, PartJsonReadsBack, StyledPartJsonReadsBack, PathsLeadToOnePart, CellsAreParts, PrintedRowsAreWhole};
 ghost use Rattle.poke_batch.specs.ObjectLaws.{DoneObjectReads, StoredObjectReadsBack};
 
 /// The numbers of a value that fits a type of an accepted pickle are below 2^64, and the bytes of its texts and names below 256.
@@ -35,6 +35,12 @@ pub fn paths_lead_to_one_part()
 /// feed at its end.
 pub fn cells_are_parts()
     ensures law { CellsAreParts }
+{}
+
+/// Where rows that lack a part are left out, the lines are those of the rows that have the parts of all columns, in their
+/// order.
+pub fn printed_rows_are_whole()
+    ensures law { PrintedRowsAreWhole }
 {}
 
 /// The JSON object of a file whose run is done reads as an object with its name, the exit status 0, its value, and the lines

@@ -1,17 +1,17 @@
 //! Prints the parts of a value that a selection leads to.
 
-ghost use Rattle.std.specs.Prelude.{OnOk, OnErr, true};
+ghost use Rattle.std.specs.Prelude.{◌≡◌, OnOk, OnErr, true};
 ghost use Rattle.std.specs.Io.KnownBytes.{Appends};
 ghost use Rattle.text_output.specs.Written.{AppendsPart};
 ghost use Rattle.value_text.specs.Puts.{Puts};
-ghost use Rattle.poke_batch.specs.Selected.{header_text};
-ghost use Rattle.poke_batch.specs.TypedLines.{lent_sight, typed_shape, shape_in, rows_in, patterns_in, pattern_in, next_in, places_in, members_in};
+ghost use Rattle.poke_batch.specs.Selected.{header_text, line_of, part_line, row_line};
+ghost use Rattle.poke_batch.specs.TypedLines.{lent_sight, typed_selection, selection_in, rows_in, patterns_in, pattern_in, next_in, places_in, members_in};
 
 use crate::line::{Format, Line, put_header, put_lines};
 use crate::part::step_beside;
 use crate::places::{Places, places_of};
 use command_line::pattern::{Pattern, PatternStep};
-use command_line::selection::{Column, Rows, Shape};
+use command_line::selection::{Absent, Column, Rows, Selection, Shape};
 use std::io::Write;
 use text_output::mode::Mode;
 use text_output::style::Style;
@@ -21,20 +21,20 @@ use value_text::print::printer::Printer;
 use value_text::print::show::Sight;
 use value_text::typed::Typed;
 
-/// Prints the parts of a value in a shape, each in a mode and a style or, if it is given how, for the eye. If the writer
+/// Prints the selected parts of a value, each in a mode and a style or, if it is given how, for the eye. If the writer
 /// fails, what it accepted is the first bytes of the text, but not all of them.
-pub fn print_shape<W: Write>(
+pub fn print_selected<W: Write>(
     value: Typed<'_>,
-    shape: &Shape,
+    selection: &Selection,
     mode: Mode,
     style: Style,
     sight: Option<Sight<'_>>,
     w: &mut W,
 ) -> Result<(), WriteFault>
     ensures ok { OnOk result (Appends (W.contents w.old) (W.contents w.new)
-        (typed_shape (lent_sight sight.entry) style mode shape.now value.entry)) }
+        (typed_selection (lent_sight sight.entry) style mode selection.now value.entry)) }
     ensures err { OnErr result (AppendsPart (W.contents w.old) (W.contents w.new)
-        (typed_shape (lent_sight sight.entry) style mode shape.now value.entry)) }
+        (typed_selection (lent_sight sight.entry) style mode selection.now value.entry)) }
 {
     let mut printer = Printer {
         writer: w,
@@ -47,7 +47,7 @@ pub fn print_shape<W: Write>(
         sight,
         line: Line::Part,
     };
-    put_shape(&mut printer, format, shape, value);
+    put_selection(&mut printer, format, selection, value);
     printer.finish()
 }
 
@@ -66,23 +66,43 @@ pub fn print_header<W: Write>(columns: &[Column], w: &mut W) -> Result<(), Write
     printer.finish()
 }
 
-fn put_shape<W: Write>(
+fn put_selection<W: Write>(
     printer: &mut Printer<'_, W>,
     format: Format<'_>,
-    shape: &Shape,
+    selection: &Selection,
     value: Typed<'_>,
 )
-    ensures { Puts W.contents printer.old printer.new (shape_in format.entry shape.now value.entry) }
+    ensures { Puts W.contents printer.old printer.new (selection_in format.entry selection.now value.entry) }
 {
-    match shape {
+    match &selection.shape {
         Shape::Parts(patterns) => {
             let parts = Format {
-                line: Line::Part,
+                line: part_line(selection.absent),
                 ..format
             };
             put_patterns(printer, parts, patterns.as_slice(), value)
         }
-        Shape::Rows(rows) => put_rows(printer, format, rows, value),
+        Shape::Rows(rows) => put_rows(printer, format, selection.absent, rows, value),
+    }
+}
+
+// What is printed of a part, by what an absent one is.
+fn part_line(absent: Absent) -> Line<'static>
+    ensures { line_of result ≡ part_line absent }
+{
+    match absent {
+        Absent::Fault | Absent::Empty => Line::Part,
+        Absent::Skip => Line::PartIfThere,
+    }
+}
+
+// What is printed of a row with columns, by what an absent part is.
+fn row_line(absent: Absent, columns: &[Column]) -> Line<'_>
+    ensures { line_of result ≡ row_line absent columns.now }
+{
+    match absent {
+        Absent::Fault | Absent::Empty => Line::Row(columns),
+        Absent::Skip => Line::WholeRow(columns),
     }
 }
 
@@ -91,16 +111,17 @@ fn put_shape<W: Write>(
 fn put_rows<W: Write>(
     printer: &mut Printer<'_, W>,
     format: Format<'_>,
+    absent: Absent,
     rows: &Rows,
     value: Typed<'_>,
 )
-    ensures { Puts W.contents printer.old printer.new (rows_in format.entry rows.now value.entry) }
+    ensures { Puts W.contents printer.old printer.new (rows_in format.entry absent rows.now value.entry) }
 {
     if rows.header {
         put_header(printer, rows.columns.as_slice());
     }
     let row = Format {
-        line: Line::Row(rows.columns.as_slice()),
+        line: row_line(absent, rows.columns.as_slice()),
         ..format
     };
     put_each(printer, row, rows.pattern.steps.as_slice(), value);

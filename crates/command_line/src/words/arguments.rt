@@ -360,9 +360,21 @@ const MAPPING: &[Argument] = &[
         help: "With --rows, print the names of the columns first [default: no]",
         ..FLAG
     },
+    // What a part that isn't there is: `fault NoSuchPart`, or with `empty` an empty column or line, in JSON `null`. With
+    // `skip` a row that lacks one of its columns [is left out](#many-parts-and-tables).
+    Argument {
+        of: &["map"],
+        name: "absent",
+        value: "WHAT",
+        accepts: Accepts::OneOf(&["fault", "empty", "skip"]),
+        default: Some("fault"),
+        is_rare: true,
+        help: "What a part that isn't there is: a fault, an empty column or line, or no row",
+        ..OPTION
+    },
     // What a part that isn't there is: `fault NoSuchPart`, or with `empty` an empty column or line, in JSON `null`.
     Argument {
-        of: &["map", "show", "each", "records", "find"],
+        of: &["show", "each", "records", "find"],
         name: "absent",
         value: "WHAT",
         accepts: Accepts::OneOf(&["fault", "empty"]),

@@ -32,8 +32,6 @@ Options of map, show, each, records and find:
   --length BYTES   after how many bytes from there FILE ends, as 446 or 0x1be [default: where it does]
   --endian ORDER   the byte order (big or little) [default: big, without TYPE that of the head]
   --slots N        the most slots of each kind, reserved before the mapping [default: any number]
-  --absent WHAT    what a part that isn't there is: a fault, or an empty column or line (fault or empty)
-                   [default: fault]
   --numbers FORM   how numbers are printed (decimal, hex or digits)
                    [default: decimal, in show with hexadecimal after it]
   --chars FORM     how arrays of char are printed (numbers or text) [default: numbers, in show text]
@@ -71,8 +69,14 @@ Options of map, show, each, records, find and identify:
 Options of map:
   --rows PATTERN   print a line for each part that PATTERN leads to, with a column for each --get
   --header         with --rows, print the names of the columns first [default: no]
+  --absent WHAT    what a part that isn't there is: a fault, an empty column or line, or no row (fault, empty or skip)
+                   [default: fault]
   --mode MODE      how the value is printed, or raw for the bytes that it takes (flat, tree, json, lines or raw)
                    [default: flat]
+
+Options of show, each, records and find:
+  --absent WHAT    what a part that isn't there is: a fault, or an empty column or line (fault or empty)
+                   [default: fault]
 
 Options of identify:
   --all            print all formats that fit, those without a signature too [default: the first]

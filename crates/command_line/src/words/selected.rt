@@ -1,10 +1,11 @@
 //! The parts of a value that arguments request.
-ghost use Rattle.std.specs.Prelude.{◌≡◌, ◌≢◌, None, map, codes, IfOk, IfErr, OnOk};
+ghost use Rattle.std.specs.Prelude.{◌≡◌, ◌≢◌, ◌⊎◌, None, true, false, map, codes, IfOk, IfErr, OnOk};
 ghost use Rattle.clap.specs.Matches.{found_of, first_value};
 ghost use Rattle.command_line.specs.Paths.{steps_of, IsPath};
 ghost use Rattle.command_line.specs.Patterns.{parts_of, IsPattern};
 ghost use Rattle.command_line.specs.Misread.{FailsFor, AnyWord, IsNoPattern, IsNoOnePath, IsNoColumn, MisreadSelection, MisreadColumns, MisreadRows};
 ghost use Rattle.command_line.specs.Selects.{IsNoPath, IsNoPathIfAny, PathIfAny, NamesAbsent, ArePatterns, AreColumns, IsOnePath, NamesRows, SelectsParts, IsRowOf, SelectsColumns, Selects, PartBeside, HasKeys, HasRows, IsColumn, are_distinct, begins_path, column_name, column_path, is_among, is_named, is_one_path, is_row};
+ghost use Rattle.command_line.specs.declared.selection.Absent.TheVariants.{Skip};
 ghost use Rattle.command_line.specs.declared.words.WordFault.TheVariants.{Offset};
 
 use crate::path::{Path, PathFault, read_path};
@@ -27,6 +28,10 @@ const NO_PATH: &str = "not a path";
 /// The usage error for two columns of one name in JSON.
 const SAME_NAME: &str =
     "error: two columns have one name, and json has each once: --get <NAME=PATH> names one\n\nFor more information, try '--help'.\n";
+
+/// The usage error for rows to leave out where none are printed.
+const NO_ROWS: &str =
+    "error: --absent skip leaves out rows, which --rows prints\n\nFor more information, try '--help'.\n";
 
 /// The selection that the options request, if they request more than one part at most.
 pub fn selection_of(
@@ -89,12 +94,13 @@ pub fn path_if_any(
     }
 }
 
-// What an absent part is, as an argument names it: the default, a fault, for any other than `empty`.
+// What an absent part is, as an argument names it: the default, a fault, for any other than `empty` and `skip`.
 fn absent_of(word: &str) -> Absent
     ensures { NamesAbsent word.now result }
 {
     match word {
         "empty" => Absent::Empty,
+        "skip" => Absent::Skip,
         _ => Absent::Fault,
     }
 }
@@ -103,8 +109,10 @@ fn absent_of(word: &str) -> Absent
 fn parts_of(alloc: Global, words: &[&str], absent: Absent) -> Result<Option<Selection>, WordFault>
     ensures ok { IfOk result (SelectsParts (map (λ word. word.now) words.now) absent) }
     ensures fault { IfErr result (λ fault. fault ≢ Offset) }
-    ensures misread { IfErr result (FailsFor (AnyWord IsNoPattern (map (λ word. word.now) words.now)) ⊥) }
+    ensures misread { IfErr result
+        (FailsFor ((absent ≡ Skip) ⊎ AnyWord IsNoPattern (map (λ word. word.now) words.now)) ⊥) }
 {
+    check_rows(alloc, false, absent)?;
     if words.is_empty() {
         return Ok(None);
     }
@@ -137,18 +145,32 @@ fn columns_selection(
 ) -> Result<Option<Selection>, WordFault>
     ensures ok { IfOk result (SelectsColumns mode.now header (map (λ word. word.now) words.now) absent) }
     ensures fault { IfErr result (λ fault. fault ≢ Offset) }
-    ensures misread { IfErr result (FailsFor (MisreadColumns mode.now (map (λ word. word.now) words.now)) ⊥) }
+    ensures misread { IfErr result
+        (FailsFor (MisreadColumns mode.now absent (map (λ word. word.now) words.now)) ⊥) }
 {
+    check_rows(alloc, !words.is_empty(), absent)?;
     if is_row(header, words) {
         return Ok(Some(row_of(alloc, mode, words, absent)?));
     }
     match (words, absent) {
-        ([word], Absent::Empty) => Ok(Some(Selection {
+        ([word], Absent::Empty | Absent::Skip) => Ok(Some(Selection {
             shape: Shape::Parts(lone_path(alloc, word)?),
             absent,
         })),
         _ => Ok(None),
     }
+}
+
+// Refuses to leave out rows where none are printed.
+fn check_rows(alloc: Global, has_rows: bool, absent: Absent) -> Result<(), WordFault>
+    ensures ok { OnOk result (absent ≡ Skip → has_rows ≡ true) }
+    ensures fault { IfErr result (λ fault. fault ≢ Offset) }
+    ensures misread { IfErr result (FailsFor ((absent ≡ Skip) × (has_rows ≡ false)) ⊥) }
+{
+    if has_rows || absent != Absent::Skip {
+        return Ok(());
+    }
+    Err(WordFault::Usage(String::from_str(alloc, NO_ROWS)?))
 }
 
 // Whether a row is printed, in place of one part: of many columns, or of one that has a name or is below a header.
@@ -167,7 +189,8 @@ fn row_of(alloc: Global, mode: &str, words: &[&str], absent: Absent) -> Result<S
     ensures ok { IfOk result (IsRowOf (map (λ word. word.now) words.now) absent) }
     ensures keys { IfOk result (λ row. HasKeys mode.now (map (λ word. word.now) words.now)) }
     ensures fault { IfErr result (λ fault. fault ≢ Offset) }
-    ensures misread { IfErr result (FailsFor (MisreadColumns mode.now (map (λ word. word.now) words.now)) ⊥) }
+    ensures misread { IfErr result
+        (FailsFor (MisreadColumns mode.now absent (map (λ word. word.now) words.now)) ⊥) }
 {
     let rows = Rows {
         pattern: Pattern::root(alloc),
