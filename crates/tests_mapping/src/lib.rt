@@ -2,6 +2,8 @@
 #![tactic(auto)]
 
 #[cfg(test)]
+mod csv_cells;
+#[cfg(test)]
 mod devices;
 #[cfg(test)]
 mod displays;

@@ -1,0 +1,10 @@
+pub mod Characters
+pub mod Escapes
+pub mod Quotes
+pub mod Records
+pub mod SourceBytes
+pub mod TextBytes
+pub mod Cells
+pub mod DoubledJson
+pub mod TextLaws
+pub mod CellLaws
