@@ -1,0 +1,3 @@
+pub mod Digits
+pub mod Addresses
+pub mod Times

@@ -1,0 +1,9 @@
+pub mod Blanks
+pub mod Numerals
+pub mod Lexemes
+pub mod Readings
+pub mod Entries
+pub mod Forms
+pub mod Naming
+pub mod Merging
+pub mod Notes
